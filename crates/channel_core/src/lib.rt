@@ -1,0 +1,18 @@
+//! The channel as one owner sees it: its errors, its queue and its state.
+//!
+//! Each call of [`Core`] is one atomic step of a channel.
+#![tactic(auto)]
+
+mod errors;
+mod queue;
+mod state;
+#[cfg(test)]
+mod tests;
+mod waiting;
+
+pub use errors::{
+    CloneError, MakeError, NoMemory, OutOfMemory, RecvError, SendError, TryRecvError, TrySendError,
+};
+pub use event_list::{Bell, Quiet, Ticket};
+pub use queue::Queue;
+pub use state::{Core, Group, Upgrade};

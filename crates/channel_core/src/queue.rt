@@ -1,0 +1,126 @@
+//! The queue of a channel's messages.
+ghost use Rattle.std.specs.Prelude.{◌≡◌, ◌<◌, [], length, slice_get, Some, None, IfOk, IfErr, OnOk, OnErr};
+ghost use Rattle.channel_core.specs.Queue.{contents, push_reply, pushed, force_push_reply, force_pushed, popped, IsWithin};
+
+use crate::errors::{NoMemory, OutOfMemory};
+use circular_buffer::HeapCircularBuffer;
+use std::alloc::Global;
+use std::collections::VecDeque;
+use std::marker::Model;
+
+#[derive(Drop)]
+enum Store<T> {
+    Ring(HeapCircularBuffer<T>),
+    Deque(VecDeque<T, Global>),
+}
+
+/// Messages in order, the oldest first.
+///
+/// A bounded queue has all its memory from the start, so that a push into it never asks for any. An
+/// unbounded one grows as messages come.
+#[derive(Drop)]
+pub struct Queue<T> {
+    store: Store<T>,
+}
+
+impl<T> Model for Queue<T> {
+    ghost use Rattle.channel_core.specs.Queue.{Contents};
+
+    ghost Value = { Contents T };
+
+    ghost use Rattle.channel_core.specs.Store.{contents_of, HasPlaces};
+
+    ghost view = { λ queue. contents_of queue.store };
+
+    ghost invariant = { λ queue. HasPlaces queue.store };
+}
+
+impl<T: Drop> Queue<T> {
+    /// An empty queue that holds at most `cap` messages.
+    pub fn bounded(alloc: Global, cap: usize) -> Result<Queue<T>, OutOfMemory>
+        requires { 0 < cap }
+        ensures { IfOk result (λ queue. queue ≡ contents (Some cap) []) }
+    {
+        match HeapCircularBuffer::with_capacity(alloc, cap) {
+            Ok(ring) => Ok(Queue {
+                store: Store::Ring(ring),
+            }),
+            Err(_) => Err(OutOfMemory),
+        }
+    }
+
+    /// An empty queue without a bound. It takes no memory yet.
+    pub fn unbounded(alloc: Global) -> Queue<T>
+        ensures { result ≡ contents None [] }
+    {
+        Queue {
+            store: Store::Deque(VecDeque::new(alloc)),
+        }
+    }
+
+    /// Puts a message last. A full queue hands it back.
+    pub fn push(&mut self, message: T) -> Result<Result<(), T>, NoMemory<T>>
+        ensures reply { IfOk result (λ reply. reply ≡ push_reply self.old message) }
+        ensures after { OnOk result (self.new ≡ pushed self.old message) }
+        ensures refused { IfErr result (λ error. error.0 ≡ message) }
+        ensures unchanged { OnErr result (self.new ≡ self.old) }
+        ensures unbounded { OnErr result (self.old.capacity ≡ None) }
+    {
+        match &mut self.store {
+            Store::Ring(ring) => Ok(ring.try_push_back(message)),
+            Store::Deque(deque) => match deque.push_back(message) {
+                Ok(()) => Ok(Ok(())),
+                Err(refused) => Err(NoMemory(refused.value)),
+            },
+        }
+    }
+
+    /// Puts a message last, in any case. A full queue gives its oldest message for it.
+    pub fn force_push(&mut self, message: T) -> Result<Option<T>, NoMemory<T>>
+        ensures reply { IfOk result (λ displaced. displaced ≡ force_push_reply self.old) }
+        ensures after { OnOk result (self.new ≡ force_pushed self.old message) }
+        ensures within { IsWithin self.new }
+        ensures refused { IfErr result (λ error. error.0 ≡ message) }
+        ensures unchanged { OnErr result (self.new ≡ self.old) }
+        ensures unbounded { OnErr result (self.old.capacity ≡ None) }
+    {
+        match &mut self.store {
+            Store::Ring(ring) => Ok(ring.push_back(message)),
+            Store::Deque(deque) => match deque.push_back(message) {
+                Ok(()) => Ok(None),
+                Err(refused) => Err(NoMemory(refused.value)),
+            },
+        }
+    }
+
+    /// Takes the oldest message.
+    pub fn pop(&mut self) -> Option<T>
+        ensures message { result ≡ slice_get self.old.messages 0 }
+        ensures after { self.new ≡ popped self.old }
+    {
+        match &mut self.store {
+            Store::Ring(ring) => ring.pop_front(),
+            Store::Deque(deque) => deque.pop_front(),
+        }
+    }
+
+    /// The number of messages.
+    pub fn len(&self) -> usize
+        ensures { result ≡ length self.now.messages }
+    {
+        match &self.store {
+            Store::Ring(ring) => ring.len(),
+            Store::Deque(deque) => deque.len(),
+        }
+    }
+
+    /// The most messages that there may be, if there is a bound.
+    pub fn capacity(&self) -> Option<usize>
+        ensures { result ≡ self.now.capacity }
+    {
+        match &self.store {
+            Store::Ring(ring) => Some(ring.capacity()),
+            Store::Deque(_) => None,
+        }
+    }
+}

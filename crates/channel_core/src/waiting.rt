@@ -1,0 +1,120 @@
+//! The waiting lists of a channel, and what a ticket that may be there does to one.
+ghost use Rattle.std.specs.Prelude.{◌≡◌, ◌++◌, None, OnErr, OnOk, false, take};
+ghost use Rattle.event_list.specs.Waiting.{RingsEach, nobody, payloads, told_one, told_all};
+ghost use Rattle.channel_core.specs.Tickets.{Waits, waits, left, handed_on, rung_by_handing_on, LosesAtMostOne};
+
+use crate::errors::OutOfMemory;
+use crate::state::Group;
+use event_list::{Bell, NoRoom, Ticket, WaitList};
+use std::alloc::Global;
+
+/// Who waits for a channel, by what they wait for.
+#[derive(Drop)]
+pub(crate) struct WaitLists<W> {
+    pub(crate) sends: WaitList<W>,
+    pub(crate) receives: WaitList<W>,
+    pub(crate) streams: WaitList<W>,
+    pub(crate) closeds: WaitList<W>,
+}
+
+impl<W: Drop> WaitLists<W> {
+    /// Nobody waits.
+    pub(crate) fn new(alloc: Global) -> Self
+        ensures { result ≡ record { sends = nobody; receives = nobody; streams = nobody; closeds = nobody } }
+    {
+        WaitLists {
+            sends: WaitList::new(alloc),
+            receives: WaitList::new(alloc),
+            streams: WaitList::new(alloc),
+            closeds: WaitList::new(alloc),
+        }
+    }
+
+    /// The list of a group.
+    pub(crate) fn of(&self, g: Group) -> &WaitList<W>
+        ensures sends { g ≡ Group.Sends → result.now ≡ self.now.sends }
+        ensures receives { g ≡ Group.Receives → result.now ≡ self.now.receives }
+        ensures streams { g ≡ Group.Streams → result.now ≡ self.now.streams }
+        ensures closeds { g ≡ Group.Closeds → result.now ≡ self.now.closeds }
+    {
+        match g {
+            Group::Sends => &self.sends,
+            Group::Receives => &self.receives,
+            Group::Streams => &self.streams,
+            Group::Closeds => &self.closeds,
+        }
+    }
+
+    /// A message was accepted.
+    pub(crate) fn tell_accepted<B: Bell<W>>(&mut self, bell: &mut B)
+        ensures after { self.new ≡ record self.old { receives = told_one self.old.receives; streams = told_all self.old.streams } }
+        ensures rung { RingsEach B.rings bell.old (take 1 (payloads self.old.receives) ++ payloads self.old.streams) bell.new }
+    {
+        self.receives.tell_one(bell);
+        self.streams.tell_all(bell);
+    }
+
+    /// The channel was closed.
+    #[tactic(auto, using(crate::proofs::Rings::rings_in_turn))]
+    pub(crate) fn tell_closed<B: Bell<W>>(&mut self, bell: &mut B)
+        ensures after { self.new ≡ record self.old { sends = told_all self.old.sends; receives = told_all self.old.receives; streams = told_all self.old.streams } }
+        ensures rung { RingsEach B.rings bell.old (payloads self.old.sends ++ payloads self.old.receives ++ payloads self.old.streams) bell.new }
+    {
+        self.sends.tell_all(bell);
+        self.receives.tell_all(bell);
+        self.streams.tell_all(bell);
+    }
+}
+
+/// The ticket's entry leaves the list, with its notice.
+pub(crate) fn leave<W: Drop>(list: &mut WaitList<W>, ticket: &mut Option<Ticket>)
+    ensures after { list.new ≡ left ticket.old list.old }
+    ensures sizes { LosesAtMostOne ticket.old list.old }
+    ensures ticket { ticket.new ≡ None }
+{
+    if let Some(ticket) = ticket.take() {
+        list.remove(ticket);
+    }
+}
+
+/// The ticket's entry leaves the list, and a notice that it had is handed on.
+pub(crate) fn hand_on<W: Drop, B: Bell<W>>(
+    list: &mut WaitList<W>,
+    ticket: &mut Option<Ticket>,
+    bell: &mut B,
+)
+    ensures after { list.new ≡ handed_on ticket.old list.old }
+    ensures rung { RingsEach B.rings bell.old (rung_by_handing_on ticket.old list.old) bell.new }
+    ensures sizes { LosesAtMostOne ticket.old list.old }
+    ensures ticket { ticket.new ≡ None }
+{
+    if let Some(ticket) = ticket.take() {
+        list.cancel(ticket, bell);
+    }
+}
+
+/// Who can't go on waits: its entry waits again, or it begins to wait.
+pub(crate) fn wait<W: Drop>(
+    list: &mut WaitList<W>,
+    ticket: &mut Option<Ticket>,
+    w: W,
+) -> Result<(), OutOfMemory>
+    ensures ok { OnOk result (Waits ticket.old list.old w ticket.new list.new) }
+    ensures unchanged { OnErr result (list.new ≡ list.old) }
+    ensures kept { OnErr result (ticket.new ≡ ticket.old) }
+    ensures wanted { OnErr result (waits ticket.old list.old ≡ false) }
+{
+    if let Some(ticket) = ticket {
+        if list.contains(ticket) {
+            list.again(ticket, w);
+            return Ok(());
+        }
+    }
+    match list.listen(w) {
+        Ok(new) => {
+            *ticket = Some(new);
+            Ok(())
+        }
+        Err(NoRoom(_payload)) => Err(OutOfMemory),
+    }
+}

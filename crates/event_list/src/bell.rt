@@ -1,0 +1,27 @@
+//! What is rung for those newly told.
+ghost use Rattle.std.specs.Prelude.{◌≡◌};
+
+/// What is rung with the payload of each newly told entry.
+///
+/// Each bell says by `rings` how one ring may change it, so that a caller knows from a list's
+/// contracts which payloads it was rung with, in which order.
+pub trait Bell<W> {
+    /// How one ring with a payload may change the bell.
+    ghost rings: { Self → W → Self → Type 0 };
+
+    /// Rings with the payload of an entry that has just been told.
+    fn ring(&mut self, w: W)
+        ensures { rings self.old w self.new };
+}
+
+/// A bell that does nothing, for a list whose waiters are looked after by its owner.
+#[derive(Drop)]
+pub struct Quiet;
+
+impl<W: Drop> Bell<W> for Quiet {
+    ghost rings = { λ before _ after. after ≡ before };
+
+    fn ring(&mut self, w: W) {
+        let _ = w;
+    }
+}
