@@ -1,5 +1,5 @@
 -- Rings one after another.
-use Rattle.std.proofs.Common.{◌≡◌, List, [], ◌∷◌, ◌++◌, subst, sym}
+use Rattle.std.proofs.Common.{List, [], ◌∷◌, ◌++◌, subst}
 use Rattle.event_list.specs.Waiting.{RingsEach}
 
 module _ {B W : Type 0} (rings : B → W → B → Type 0) where

@@ -1,5 +1,5 @@
 -- What a contract sees of a channel, and what each step makes of it.
-use Rattle.std.specs.Prelude.{◌≡◌, ℕ, ◌+◌, ◌-◌, ◌++◌, ◌==◌, Bool, true, false, List, [], ◌∷◌, length, take, drop, slice_get, Option, Some, None, if◌then◌else◌, ◌⊎◌}
+use Rattle.std.specs.Prelude.{◌≡◌, ℕ, ◌-◌, ◌++◌, ◌==◌, Bool, true, false, List, [], ◌∷◌, length, take, drop, slice_get, Option, Some, None, if◌then◌else◌, ◌⊎◌}
 use Rattle.event_list.specs.Waiting.{Waiting, nobody, payloads, told_count, untold_count, told_one, told_all}
 use Rattle.futures.specs.declared.task.Poll.TheVariants.{Pending}
 use Rattle.channel_core.specs.declared.state.Group.{Group}
@@ -150,18 +150,6 @@ module _ {T W : Type 0} where
   abbrev pub received : Channel T W → Change T W
   received channel = taking channel.messages channel
 
-  -- the send's entry leaves, and its message is sent
-  abbrev pub sent_by : Option ℕ → T → Channel T W → Change T W
-  sent_by ticket message channel = sent message (record channel { sends = left ticket channel.sends })
-
-  -- the receive's entry leaves, and then a message, if there is one
-  abbrev pub received_by : Option ℕ → Channel T W → Change T W
-  received_by ticket channel = received (record channel { receives = left ticket channel.receives })
-
-  -- the stream's entry leaves, and then a message, if there is one
-  abbrev pub streamed_by : Option ℕ → Channel T W → Change T W
-  streamed_by ticket channel = received (record channel { streams = left ticket channel.streams })
-
   -- a sender is given up: the last one closes the channel
   abbrev pub sender_dropped : Channel T W → Change T W
   sender_dropped channel =
@@ -181,10 +169,18 @@ module _ {T W : Type 0} where
 
   -- ### Polls
 
-  -- a send with a message finishes; one without is finished, and has nothing to do
-  abbrev pub send_finished : Option T → Option ℕ → Channel T W → Change T W
-  send_finished None ticket channel = unchanged channel
-  send_finished (Some message) ticket channel = sent_by ticket message channel
+  -- a send's entry leaves, and its message is sent; one without a message is finished, and has nothing to do
+  abbrev pub polled_send : Option T → Option ℕ → Channel T W → Change T W
+  polled_send None ticket channel = unchanged channel
+  polled_send (Some message) ticket channel = sent message (record channel { sends = left ticket channel.sends })
+
+  -- a receive's entry leaves, and then a message, if there is one
+  abbrev pub polled_receive : Option ℕ → Channel T W → Change T W
+  polled_receive ticket channel = received (record channel { receives = left ticket channel.receives })
+
+  -- a stream's entry leaves, and then a message, if there is one
+  abbrev pub polled_stream : Option ℕ → Channel T W → Change T W
+  polled_stream ticket channel = received (record channel { streams = left ticket channel.streams })
 
   -- a send that can't go on waits, and nothing else changes; a finished one changes nothing
   abbrev pub SendWaits : Option T → Option ℕ → Channel T W → W → Option ℕ → Channel T W → Type 0

@@ -70,7 +70,7 @@ abbrev pub closed_poll : (no_receiver : Bool) → Poll (Unit {0})
 closed_poll true = Ready tt
 closed_poll false = Pending
 
--- A handle is copied beside at most so many of its kind: half of the numbers of 64 bits.
+-- The greatest count beside which one more handle is made: half of the greatest number of 64 bits, rounded down.
 abbrev pub handle_limit : ℕ
 handle_limit = 2 ^ 63 - 1
 

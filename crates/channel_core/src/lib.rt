@@ -1,11 +1,14 @@
-//! The channel as one owner sees it: its errors, its queue and its state.
+//! The channel as one owner sees it: its errors, its queue, its state, and what its past decides.
 //!
-//! Each call of [`Core`] is one atomic step of a channel.
+//! Each call of [`Core`] is one atomic step of a channel. A [`Step`] is such a call by a named party, and
+//! [`laws`] has what holds behind every list of them.
 #![tactic(auto)]
 
 mod errors;
+pub mod laws;
 mod queue;
 mod state;
+mod step;
 #[cfg(test)]
 mod tests;
 mod waiting;
@@ -16,3 +19,4 @@ pub use errors::{
 pub use event_list::{Bell, Quiet, Ticket};
 pub use queue::Queue;
 pub use state::{Core, Group, Upgrade};
+pub use step::{Kind, Notice, Refusal, Reply, Side, Step, Who};

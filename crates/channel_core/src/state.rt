@@ -5,7 +5,7 @@ ghost use Rattle.event_list.specs.Keys.{AreDifferent};
 ghost use Rattle.event_list.specs.Waiting.{RingsEach, keys, payloads, told_count, told_all, mark};
 ghost use Rattle.channel_core.specs.Tables.{OnReady, OnWait, try_send_answer, force_send_answer, try_recv_answer, send_poll, recv_poll, next_poll, closed_poll, may_add, count_added, upgrade_answer, count_upgraded};
 ghost use Rattle.channel_core.specs.Tickets.{left, handed_on, rung_by_handing_on};
-ghost use Rattle.channel_core.specs.Channel.{new_channel, is_channel_full, oldest, GrowsWithMessages, list_of, sent, force_sent, received, closing, received_by, streamed_by, sender_dropped, receiver_dropped_by, send_finished, SendWaits, RecvWaits, NextWaits, ClosedWaits, SendWants, RecvWants, NextWants, ClosedWants};
+ghost use Rattle.channel_core.specs.Channel.{new_channel, is_channel_full, oldest, GrowsWithMessages, list_of, sent, force_sent, received, closing, polled_receive, polled_stream, sender_dropped, receiver_dropped_by, polled_send, SendWaits, RecvWaits, NextWaits, ClosedWaits, SendWants, RecvWants, NextWants, ClosedWants};
 
 use crate::errors::{NoMemory, OutOfMemory, RecvError, SendError, TryRecvError, TrySendError};
 use crate::queue::Queue;
@@ -363,8 +363,8 @@ impl<T: Drop, W: Drop> Core<T, W> {
         bell: &mut B,
     ) -> Result<Poll<Result<(), SendError<T>>>, OutOfMemory>
         ensures reply { IfOk result (λ poll. poll ≡ send_poll m.old self.old.closed (is_channel_full self.old)) }
-        ensures after { OnReady result (self.new ≡ (send_finished m.old t.old self.old).channel) }
-        ensures rung { OnReady result (RingsEach B.rings bell.old (send_finished m.old t.old self.old).rung bell.new) }
+        ensures after { OnReady result (self.new ≡ (polled_send m.old t.old self.old).channel) }
+        ensures rung { OnReady result (RingsEach B.rings bell.old (polled_send m.old t.old self.old).rung bell.new) }
         ensures finished { OnReady result ((m.new ≡ None) × (t.new ≡ None)) }
 
         ensures waits { OnWait result (SendWaits m.old t.old self.old w t.new self.new) }
@@ -410,8 +410,8 @@ impl<T: Drop, W: Drop> Core<T, W> {
         bell: &mut B,
     ) -> Result<Poll<Result<T, RecvError>>, OutOfMemory>
         ensures reply { IfOk result (λ poll. poll ≡ recv_poll (oldest self.old) self.old.closed) }
-        ensures after { OnReady result (self.new ≡ (received_by t.old self.old).channel) }
-        ensures rung { OnReady result (RingsEach B.rings bell.old (received_by t.old self.old).rung bell.new) }
+        ensures after { OnReady result (self.new ≡ (polled_receive t.old self.old).channel) }
+        ensures rung { OnReady result (RingsEach B.rings bell.old (polled_receive t.old self.old).rung bell.new) }
         ensures finished { OnReady result (t.new ≡ None) }
 
         ensures waits { OnWait result (RecvWaits t.old self.old w t.new self.new) }
@@ -444,8 +444,8 @@ impl<T: Drop, W: Drop> Core<T, W> {
         bell: &mut B,
     ) -> Result<Poll<Option<T>>, OutOfMemory>
         ensures reply { IfOk result (λ poll. poll ≡ next_poll (oldest self.old) self.old.closed) }
-        ensures after { OnReady result (self.new ≡ (streamed_by t.old self.old).channel) }
-        ensures rung { OnReady result (RingsEach B.rings bell.old (streamed_by t.old self.old).rung bell.new) }
+        ensures after { OnReady result (self.new ≡ (polled_stream t.old self.old).channel) }
+        ensures rung { OnReady result (RingsEach B.rings bell.old (polled_stream t.old self.old).rung bell.new) }
         ensures finished { OnReady result (t.new ≡ None) }
 
         ensures waits { OnWait result (NextWaits t.old self.old w t.new self.new) }
