@@ -1,21 +1,21 @@
 # `make run` and `make test` do everything on a fresh machine.
 
-LIBRARIES := event_list channel_core
-PROGRAMS := trysend
-
-.PHONY: help run test check
+.PHONY: help run test check bench
 
 help:
-	@echo 'make run    proves and builds the libraries, and runs the program trysend'
+	@echo 'make run    proves and builds the channel, and runs the program trysend'
 	@echo 'make test   the gate: every proof from nothing, must-fail edits, tests and programs'
 	@echo 'make check  every crate, lowest first, over what earlier checks kept'
+	@echo 'make bench  measures the waiting list'
 
 run:
-	@for crate in $(LIBRARIES); do (cd crates/$$crate && rt lib > out.log 2>&1) || { cat crates/$$crate/out.log; exit 1; }; done
-	@cd crates/trysend && rt run
+	cd crates/trysend && rt run
 
 test:
 	rt ci
 
 check:
 	rt all check
+
+bench:
+	cd crates/bench_waiters && rt run -- measure

@@ -1,6 +1,6 @@
 -- Lists of keys, cut at one key: what is among them, and what is left without it.
-use Rattle.std.proofs.Common.{◌≡◌, ℕ, suc, zero, ◌+◌, ◌<◌, ◌≤◌, ◌==◌, true, false, not, cond, ◌||◌, List, [], ◌∷◌, ◌++◌, map, filter, length, Some, is_some, refl, sym, ap, ◌∙◌, arith, subst, inl, inr, below_more}
-use Rattle.std.proofs.lemmas.Bool.{eqb-true, eqb-false, eq-eqb, ne_eqb, or_parts, or_from, or_right, or_left, or_cases, cases_Bool, both_ways}
+use Rattle.std.proofs.Common.{◌≡◌, ℕ, ◌==◌, true, false, not, cond, ◌||◌, List, [], ◌∷◌, ◌++◌, map, filter, length, Some, is_some, refl, sym, ap, ◌∙◌, arith, subst, inl, inr}
+use Rattle.std.proofs.lemmas.Bool.{eqb-true, eqb-false, eq-eqb, ne_eqb, or_parts, or_from, or_right, or_cases, cases_Bool, both_ways}
 use Rattle.std.proofs.lemmas.List.{map-id, length-append, map-append, append_assoc, append-nil}
 use Rattle.std.proofs.lemmas.List.Folds.{list_any-append}
 use Rattle.std.proofs.lemmas.List.Elements.{filter-append}
@@ -179,32 +179,28 @@ module _ {W : Type 0} where
 pub different-push : (keys : List ℕ) (key : ℕ) → is_among key keys ≡ false → AreDifferent keys → AreDifferent (keys ++ key ∷ [])
 different-push keys key h d = different-insert key keys [] (rw append-nil h) (rw append-nil d)
 
--- a key is still among a list without another one
-pub present-middle : (key other : ℕ) (front back : List ℕ) → (other == key) ≡ false → is_among key (front ++ other ∷ back) ≡ true → is_among key (front ++ back) ≡ true
-present-middle key other [] back differs h = sym (ap (λ b. b || is_among key back) differs) ∙ h
-present-middle key other (x ∷ front) back differs h =
-    elim (or_cases (x == key) (is_among key (front ++ other ∷ back)) h) [
-      | inl here ↦ or_left _ _ here
-      | inr there ↦ or_right _ _ (present-middle key other front back differs there)
+-- so are the keys of a part of a list
+pub different_left : (xs ys : List ℕ) → AreDifferent (xs ++ ys) → AreDifferent xs
+different_left [] ys d = tt
+different_left (x ∷ xs) ys d = (absent_left x xs ys d.0, different_left xs ys d.1)
+
+pub different_right : (xs ys : List ℕ) → AreDifferent (xs ++ ys) → AreDifferent ys
+different_right [] ys d = d
+different_right (x ∷ xs) ys d = different_right xs ys d.1
+
+-- what is among the first of two lists isn't among the second
+pub apart : (xs ys : List ℕ) (key : ℕ) → AreDifferent (xs ++ ys) → is_among key xs ≡ true → is_among key ys ≡ false
+apart [] ys key d h = absurd (both_ways false refl h)
+apart (x ∷ xs) ys key d h =
+    elim (or_cases (x == key) (is_among key xs) h) [
+      | inl here ↦ absent_right key xs ys (subst (λ k. is_among k (xs ++ ys) ≡ false) (eqb-true x key here) d.0)
+      | inr there ↦ apart xs ys key d.1 there
     ]
 
--- a list that has every key below n is at least as long
-pub few_keys : (n : ℕ) (keys : List ℕ) → ((key : ℕ) → key < n → is_among key keys ≡ true) → n ≤ length keys
-few_keys zero keys all = omega arith
-few_keys (suc n) keys all =
-    let here = cut_at (λ (k : ℕ). k) n keys (subst (λ ks. is_among n ks ≡ true) (sym (map-id keys)) (all n (omega arith))) in
-    let front = here.0 in
-    let back = here.2 in
-    let whole : keys ≡ front ++ n ∷ back = here.3 ∙ ap (λ k. front ++ k ∷ back) here.4 in
-    let rest : (key : ℕ) → key < n → is_among key (front ++ back) ≡ true =
-    λ key h. present-middle key n front back (ne_eqb n key (λ e. absurd (omega arith))) (subst (λ ks. is_among key ks ≡ true) whole (all key (omega arith))) in
-    omega (arith, few_keys n (front ++ back) rest, ap length whole, length-append front (n ∷ back), length-append front back)
-
--- where every key below the length is among a list, the length isn't
-pub length_absent : (keys : List ℕ) (n : ℕ) → length keys ≡ n → ((key : ℕ) → key < n → is_among key keys ≡ true) → is_among n keys ≡ false
-length_absent keys n size all =
-    elim (cases_Bool (is_among n keys)) [
-      | inl there ↦ absurd (omega (arith, few_keys (n + 1) keys (below_more (λ key. is_among key keys ≡ true) n all there)))
+pub apart_back : (xs ys : List ℕ) (key : ℕ) → AreDifferent (xs ++ ys) → is_among key ys ≡ true → is_among key xs ≡ false
+apart_back xs ys key d h =
+    elim (cases_Bool (is_among key xs)) [
+      | inl there ↦ absurd (both_ways (is_among key ys) (apart xs ys key d there) h)
       | inr absent ↦ absent
     ]
 

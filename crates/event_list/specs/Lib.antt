@@ -1,3 +1,5 @@
 pub mod Keys
 pub mod Waiting
+pub mod Opens
 pub mod Entries
+pub mod Chain

@@ -4,14 +4,21 @@
 //! [`Ticket`]. When something changes, the list tells one waiter, or all: it rings the [`Bell`] with
 //! the payload that the waiter left, as a waker of its task, and keeps the entry, marked as told, until
 //! the waiter takes it out, waits again or gives up.
+//!
+//! The entries are linked to one another in a slab, so that a call costs as much among a hundred
+//! thousand waiters as among ten. [`Steps`] counts the entries that a call looks up.
 #![tactic(auto)]
 
 mod bell;
+mod ends;
+mod entries;
 mod list;
+mod steps;
 #[cfg(test)]
 mod tests;
 mod ticket;
 
 pub use bell::{Bell, Quiet};
 pub use list::{NoRoom, WaitList};
+pub use steps::Steps;
 pub use ticket::Ticket;

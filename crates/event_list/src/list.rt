@@ -1,30 +1,43 @@
 //! The waiting list.
-ghost use Rattle.std.specs.Prelude.{◌≡◌, ℕ, ◌<◌, ◌↔◌, ◌==◌, [], length, map, take, position, is_some, IsTrue, IfNone, IfOk, IfErr, OnErr, slice_get, if◌then◌else◌, false};
+ghost use Rattle.std.specs.Prelude.{◌≡◌, ℕ, ◌+◌, ◌<◌, ◌≤◌, ◌↔◌, [], length, take, is_some, IsTrue, IfNone, IfOk, IfErr, OnErr, slice_get, if◌then◌else◌, false};
 ghost use Rattle.std.specs.Bool.{OnTrue, OnFalse};
 ghost use Rattle.event_list.specs.Keys.{is_among, AreDifferent};
 ghost use Rattle.event_list.specs.Waiting.{LosesOne, IsWaiting, nobody, keys, told_count, payloads, mark, joined, without, renewed, told_one, told_all, cancelled, RingsEach};
-ghost use Rattle.event_list.specs.Entries.{key_of};
+ghost use Rattle.event_list.specs.Opens.{Opens};
 
 use crate::bell::Bell;
+use crate::ends::Ends;
+use crate::entries::Entries;
+use crate::steps::Steps;
 use crate::ticket::Ticket;
 use std::alloc::Global;
-use std::marker::Model;
+use std::marker::{Brand, Model};
+use std::sync::ledger::{Blank, Ledger};
 
 /// There was no memory for another entry. It hands the payload back.
 #[derive(Drop)]
 pub struct NoRoom<W>(pub W);
 
-#[derive(Drop)]
-struct Entry<W> {
-    key: usize,
-    // Nothing where the entry is told.
-    payload: Option<W>,
-}
-
 /// Those who wait, in order of arrival; the first of them are told.
+///
+/// The entries lie in a slab, each with the keys of the one before and the one behind it. So each call
+/// looks up a fixed number of them, however many wait; `tell_all` looks up one for each that it tells.
+/// The counted calls say how many: they have the contracts of the calls of the plain names, which run
+/// them on a ledger of their own.
+///
+/// ```
+/// let mut list = WaitList::new(rt.alloc());
+/// let first = list.listen(10)?;
+/// let second = list.listen(11)?;
+/// list.tell_one(&mut bell);          // the bell gets 10
+/// list.cancel(first, &mut bell);     // the notice goes on: the bell gets 11
+/// list.is_told(&second)              // Some(true)
+/// ```
 #[derive(Drop)]
 pub struct WaitList<W> {
-    entries: Vec<Entry<W>>,
+    entries: Entries<W>,
+    ends: Ends,
+    len: usize,
     told: usize,
 }
 
@@ -33,39 +46,26 @@ impl<W> Model for WaitList<W> {
 
     ghost Value = { Waiting W };
 
-    ghost use Rattle.event_list.specs.Entries.{shown, Keeps};
+    ghost use Rattle.event_list.specs.Chain.{shown, Keeps};
 
-    ghost view = { λ list. shown list.entries.items list.told };
+    ghost view = { λ list. shown list.entries list.ends list.len list.told };
 
-    ghost invariant = { λ list. Keeps list.entries.items list.told (shown list.entries.items list.told) };
-}
-
-// The place of a key.
-fn place_of<W>(entries: &[Entry<W>], key: usize) -> Option<usize>
-    ensures { result ≡ position (λ entry. entry.key == key) entries.now }
-{
-    entries.iter().position(|entry| entry.key == key)
-}
-
-// A key that none of the entries has.
-fn fresh_key<W>(entries: &[Entry<W>]) -> usize
-    ensures { is_among result (map key_of entries.now) ≡ false }
-{
-    for key in 0..entries.len() {
-        if place_of(entries, key).is_none() {
-            return key;
-        }
-    }
-    entries.len()
+    ghost invariant = { λ list. Keeps list.entries list.ends list.len list.told (shown list.entries list.ends list.len list.told) };
 }
 
 impl<W: Drop> WaitList<W> {
-    /// A list where nobody waits.
+    /// A list where nobody waits. It takes no memory.
     pub fn new(alloc: Global) -> Self
         ensures { result ≡ nobody }
     {
         WaitList {
-            entries: Vec::new(alloc),
+            entries: Entries::new(alloc),
+            ends: Ends {
+                first: None,
+                last: None,
+                cursor: None,
+            },
+            len: 0,
             told: 0,
         }
     }
@@ -79,15 +79,7 @@ impl<W: Drop> WaitList<W> {
         ensures unchanged { OnErr result (self.new ≡ self.old) }
         ensures different { AreDifferent (keys self.new) }
     {
-        if self.entries.reserve(1).is_err() {
-            return Err(NoRoom(w));
-        }
-        let key = fresh_key(&self.entries);
-        self.entries.push_reserved(Entry {
-            key,
-            payload: Some(w),
-        });
-        Ok(Ticket { key })
+        self.listen_from::<Brand>(w, Blank::new(1))
     }
 
     /// The entry waits again with this payload. The answer is whether it is in the list.
@@ -99,20 +91,7 @@ impl<W: Drop> WaitList<W> {
         ensures different { AreDifferent (keys self.new) }
         ensures sizes { LosesOne self.old t.now }
     {
-        let Some(place) = place_of(&self.entries, t.key) else {
-            return false;
-        };
-        if place < self.told {
-            self.entries.remove(place);
-            self.entries.push_reserved(Entry {
-                key: t.key,
-                payload: Some(w),
-            });
-            self.told -= 1;
-        } else {
-            self.entries[place].payload = Some(w);
-        }
-        true
+        self.again_from::<Brand>(t, w, Blank::new(1))
     }
 
     /// Tells the longest waiting untold entry. The answer is whether there was one.
@@ -122,16 +101,7 @@ impl<W: Drop> WaitList<W> {
         ensures rung { RingsEach B.rings bell.old (take 1 (payloads self.old)) bell.new }
         ensures different { AreDifferent (keys self.new) }
     {
-        if self.told == self.entries.len() {
-            return false;
-        }
-        let entry = &mut self.entries[self.told];
-        match entry.payload.take() {
-            Some(w) => bell.ring(w),
-            None => unreachable!(),
-        }
-        self.told += 1;
-        true
+        self.tell_one_from::<B, Brand>(bell, Blank::new(1))
     }
 
     /// Tells every untold entry, and answers how many there were.
@@ -141,11 +111,7 @@ impl<W: Drop> WaitList<W> {
         ensures rung { RingsEach B.rings bell.old (payloads self.old) bell.new }
         ensures different { AreDifferent (keys self.new) }
     {
-        let untold = self.len() - self.told();
-        for _turn in 0..untold {
-            self.tell_one(bell);
-        }
-        untold
+        self.tell_all_from::<B, Brand>(bell, Blank::new(1))
     }
 
     /// The entry leaves. The answer is whether it was told, or nothing where it isn't in the list.
@@ -156,13 +122,7 @@ impl<W: Drop> WaitList<W> {
         ensures different { AreDifferent (keys self.new) }
         ensures sizes { LosesOne self.old t }
     {
-        let place = place_of(&self.entries, t.key)?;
-        self.entries.remove(place);
-        let was_told = place < self.told;
-        if was_told {
-            self.told -= 1;
-        }
-        Some(was_told)
+        self.remove_from::<Brand>(t, Blank::new(1))
     }
 
     /// The entry leaves, and where it was told, one is told in its place.
@@ -172,8 +132,129 @@ impl<W: Drop> WaitList<W> {
         ensures different { AreDifferent (keys self.new) }
         ensures sizes { LosesOne self.old t }
     {
-        if self.remove(t) == Some(true) {
-            self.tell_one(bell);
+        self.cancel_from::<B, Brand>(t, bell, Blank::new(1));
+    }
+
+    /// `listen`, which counts its look-ups: at most 6.
+    pub fn listen_counted<L: Ledger>(
+        &mut self,
+        w: W,
+        steps: &mut Steps<L>,
+    ) -> Result<Ticket, NoRoom<W>>
+        ensures fresh { IfOk result (λ ticket. is_among ticket (keys self.old) ≡ false) }
+        ensures after { IfOk result (λ ticket. self.new ≡ joined self.old ticket w) }
+        ensures waits { IfOk result (λ ticket. IsWaiting self.new ticket w) }
+        ensures refused { IfErr result (λ error. error.0 ≡ w) }
+        ensures unchanged { OnErr result (self.new ≡ self.old) }
+        ensures different { AreDifferent (keys self.new) }
+        ensures counted { steps.new ≤ steps.old + 6 }
+    {
+        if !self.entries.reserve(steps) {
+            return Err(NoRoom(w));
+        }
+        let key = self.ends.put_last(&mut self.entries, w, steps);
+        self.len += 1;
+        Ok(Ticket { key })
+    }
+
+    /// `again`, which counts its look-ups: at most 6.
+    pub fn again_counted<L: Ledger>(&mut self, t: &Ticket, w: W, steps: &mut Steps<L>) -> bool
+        ensures found { result ≡ is_some (mark self.old t.now) }
+        ensures after { self.new ≡ renewed self.old t.now w }
+        ensures waits { OnTrue result (IsWaiting self.new t.now w) }
+        ensures unchanged { OnFalse result (self.new ≡ self.old) }
+        ensures different { AreDifferent (keys self.new) }
+        ensures sizes { LosesOne self.old t.now }
+        ensures counted { steps.new ≤ steps.old + 6 }
+    {
+        let Some(was_told) = self.entries.is_told(t.key, steps) else {
+            return false;
+        };
+        if !was_told {
+            self.entries.set_payload(t.key, w, steps);
+            return true;
+        }
+        self.ends.take_out(&mut self.entries, t.key, steps);
+        self.ends.put_last(&mut self.entries, w, steps);
+        self.told -= 1;
+        true
+    }
+
+    /// `tell_one`, which counts its look-ups: at most one.
+    pub fn tell_one_counted<B: Bell<W>, L: Ledger>(
+        &mut self,
+        bell: &mut B,
+        steps: &mut Steps<L>,
+    ) -> bool
+        ensures told { IsTrue result ↔ (0 < length (payloads self.old)) }
+        ensures after { self.new ≡ told_one self.old }
+        ensures rung { RingsEach B.rings bell.old (take 1 (payloads self.old)) bell.new }
+        ensures different { AreDifferent (keys self.new) }
+        ensures counted { steps.new ≤ steps.old + 1 }
+    {
+        let Some(key) = self.ends.cursor else {
+            return false;
+        };
+        let Some((payload, behind)) = self.entries.tell(key, steps) else {
+            unreachable!()
+        };
+        self.ends.cursor = behind;
+        self.told += 1;
+        bell.ring(payload);
+        true
+    }
+
+    /// `tell_all`, which counts its look-ups: at most one for each untold entry.
+    pub fn tell_all_counted<B: Bell<W>, L: Ledger>(
+        &mut self,
+        bell: &mut B,
+        steps: &mut Steps<L>,
+    ) -> usize
+        ensures told { result ≡ length (payloads self.old) }
+        ensures after { self.new ≡ told_all self.old }
+        ensures rung { RingsEach B.rings bell.old (payloads self.old) bell.new }
+        ensures different { AreDifferent (keys self.new) }
+        ensures counted { steps.new ≤ steps.old + length (payloads self.old) }
+    {
+        let untold = self.len() - self.told();
+        for _turn in 0..untold {
+            self.tell_one_counted(bell, steps);
+        }
+        untold
+    }
+
+    /// `remove`, which counts its look-ups: at most 6.
+    pub fn remove_counted<L: Ledger>(&mut self, t: Ticket, steps: &mut Steps<L>) -> Option<bool>
+        ensures was_told { result ≡ mark self.old t }
+        ensures after { self.new ≡ without self.old t }
+        ensures unchanged { IfNone result (self.new ≡ self.old) }
+        ensures different { AreDifferent (keys self.new) }
+        ensures sizes { LosesOne self.old t }
+        ensures counted { steps.new ≤ steps.old + 6 }
+    {
+        let was_told = self.ends.take_out(&mut self.entries, t.key, steps)?;
+        self.len -= 1;
+        if was_told {
+            self.told -= 1;
+        }
+        Some(was_told)
+    }
+
+    /// `cancel`, which counts its look-ups: at most 12.
+    pub fn cancel_counted<B: Bell<W>, L: Ledger>(
+        &mut self,
+        t: Ticket,
+        bell: &mut B,
+        steps: &mut Steps<L>,
+    )
+        ensures after { self.new ≡ cancelled self.old t }
+        ensures rung { RingsEach B.rings bell.old (if is_among t self.old.told then take 1 (payloads (without self.old t)) else []) bell.new }
+        ensures different { AreDifferent (keys self.new) }
+        ensures sizes { LosesOne self.old t }
+        ensures counted { steps.new ≤ steps.old + 12 }
+    {
+        if self.remove_counted(t, steps) == Some(true) {
+            self.tell_one_counted(bell, steps);
         }
     }
 
@@ -182,7 +263,7 @@ impl<W: Drop> WaitList<W> {
         ensures count { result ≡ length (keys self.now) }
         ensures different { AreDifferent (keys self.now) }
     {
-        self.entries.len()
+        self.len
     }
 
     /// How many are told.
@@ -196,15 +277,14 @@ impl<W: Drop> WaitList<W> {
     pub fn contains(&self, t: &Ticket) -> bool
         ensures { result ≡ is_some (mark self.now t.now) }
     {
-        place_of(&self.entries, t.key).is_some()
+        self.entries.mark(t.key).is_some()
     }
 
     /// Whether the ticket's entry is told, or nothing where it isn't in the list.
     pub fn is_told(&self, t: &Ticket) -> Option<bool>
         ensures { result ≡ mark self.now t.now }
     {
-        let place = place_of(&self.entries, t.key)?;
-        Some(place < self.told)
+        self.entries.mark(t.key)
     }
 
     /// The key of the first entry, where somebody is told.
@@ -214,6 +294,75 @@ impl<W: Drop> WaitList<W> {
         if self.told == 0 {
             return None;
         }
-        Some(self.entries[0].key)
+        self.ends.first
+    }
+}
+
+// What the calls of the plain names run: the counted ones, on the ledger of a blank. They stand apart
+// since a ledger gets its name where a call passes a blank on.
+impl<W: Drop> WaitList<W> {
+    fn listen_from<L: Ledger>(&mut self, w: W, blank: Blank) -> Result<Ticket, NoRoom<W>>
+        requires { Opens blank.name blank.parts L.name L.parts }
+        ensures fresh { IfOk result (λ ticket. is_among ticket (keys self.old) ≡ false) }
+        ensures after { IfOk result (λ ticket. self.new ≡ joined self.old ticket w) }
+        ensures waits { IfOk result (λ ticket. IsWaiting self.new ticket w) }
+        ensures refused { IfErr result (λ error. error.0 ≡ w) }
+        ensures unchanged { OnErr result (self.new ≡ self.old) }
+        ensures different { AreDifferent (keys self.new) }
+    {
+        self.listen_counted(w, &mut Steps::<L>::of(blank))
+    }
+
+    fn again_from<L: Ledger>(&mut self, t: &Ticket, w: W, blank: Blank) -> bool
+        requires { Opens blank.name blank.parts L.name L.parts }
+        ensures found { result ≡ is_some (mark self.old t.now) }
+        ensures after { self.new ≡ renewed self.old t.now w }
+        ensures waits { OnTrue result (IsWaiting self.new t.now w) }
+        ensures unchanged { OnFalse result (self.new ≡ self.old) }
+        ensures different { AreDifferent (keys self.new) }
+        ensures sizes { LosesOne self.old t.now }
+    {
+        self.again_counted(t, w, &mut Steps::<L>::of(blank))
+    }
+
+    fn tell_one_from<B: Bell<W>, L: Ledger>(&mut self, bell: &mut B, blank: Blank) -> bool
+        requires { Opens blank.name blank.parts L.name L.parts }
+        ensures told { IsTrue result ↔ (0 < length (payloads self.old)) }
+        ensures after { self.new ≡ told_one self.old }
+        ensures rung { RingsEach B.rings bell.old (take 1 (payloads self.old)) bell.new }
+        ensures different { AreDifferent (keys self.new) }
+    {
+        self.tell_one_counted(bell, &mut Steps::<L>::of(blank))
+    }
+
+    fn tell_all_from<B: Bell<W>, L: Ledger>(&mut self, bell: &mut B, blank: Blank) -> usize
+        requires { Opens blank.name blank.parts L.name L.parts }
+        ensures told { result ≡ length (payloads self.old) }
+        ensures after { self.new ≡ told_all self.old }
+        ensures rung { RingsEach B.rings bell.old (payloads self.old) bell.new }
+        ensures different { AreDifferent (keys self.new) }
+    {
+        self.tell_all_counted(bell, &mut Steps::<L>::of(blank))
+    }
+
+    fn remove_from<L: Ledger>(&mut self, t: Ticket, blank: Blank) -> Option<bool>
+        requires { Opens blank.name blank.parts L.name L.parts }
+        ensures was_told { result ≡ mark self.old t }
+        ensures after { self.new ≡ without self.old t }
+        ensures unchanged { IfNone result (self.new ≡ self.old) }
+        ensures different { AreDifferent (keys self.new) }
+        ensures sizes { LosesOne self.old t }
+    {
+        self.remove_counted(t, &mut Steps::<L>::of(blank))
+    }
+
+    fn cancel_from<B: Bell<W>, L: Ledger>(&mut self, t: Ticket, bell: &mut B, blank: Blank)
+        requires { Opens blank.name blank.parts L.name L.parts }
+        ensures after { self.new ≡ cancelled self.old t }
+        ensures rung { RingsEach B.rings bell.old (if is_among t self.old.told then take 1 (payloads (without self.old t)) else []) bell.new }
+        ensures different { AreDifferent (keys self.new) }
+        ensures sizes { LosesOne self.old t }
+    {
+        self.cancel_counted(t, bell, &mut Steps::<L>::of(blank));
     }
 }

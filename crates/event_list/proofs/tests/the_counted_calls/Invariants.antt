@@ -1,0 +1,5 @@
+use Rattle.event_list.proofs.tests.the_counted_calls.Given as goal
+
+-- the ledger of the blank
+abbrev pub ghosts-call_each : goal.ghosts-call_each
+ghosts-call_each g a = record { name = a.blank.name; parts = a.blank.parts }

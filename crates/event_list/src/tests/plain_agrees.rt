@@ -1,0 +1,91 @@
+// The same calls go to the linked list and to the plain one, and both do the same.
+use super::plain::PlainList;
+use super::{Log, listen};
+use crate::list::WaitList;
+use crate::ticket::Ticket;
+use std::alloc::Global;
+use std::test::Fail;
+
+const CALLS: usize = 10_000;
+
+// Both lists, their logs, and the entries' names in each.
+#[derive(Drop)]
+struct Pair {
+    linked: WaitList<u64>,
+    plain: PlainList<u64>,
+    linked_log: Log<CALLS>,
+    plain_log: Log<CALLS>,
+    names: Vec<(Ticket, usize)>,
+}
+
+impl Pair {
+    fn new(alloc: Global) -> Self {
+        Pair {
+            linked: WaitList::new(alloc),
+            plain: PlainList::new(alloc),
+            linked_log: Log::new(),
+            plain_log: Log::new(),
+            names: Vec::new(alloc),
+        }
+    }
+
+    // Makes the call that a word draws. The answer is whether both lists gave the same result.
+    fn call(&mut self, word: u64) -> Result<bool, Fail> {
+        // The low bits of these words repeat soon.
+        let draw = word >> 33;
+        let (linked_log, plain_log) = (&mut self.linked_log, &mut self.plain_log);
+        match draw % 64 {
+            0..16 => self.listen(word),
+            16..28 => Ok(self.linked.tell_one(linked_log) == self.plain.tell_one(plain_log)),
+            28 => Ok(self.linked.tell_all(linked_log) == self.plain.tell_all(plain_log)),
+            kind => self.call_named(kind, draw / 64, word),
+        }
+    }
+
+    fn listen(&mut self, payload: u64) -> Result<bool, Fail> {
+        let linked = listen(&mut self.linked, payload)?;
+        let plain = self.plain.listen(payload)?;
+        self.names.push((linked, plain))?;
+        Ok(true)
+    }
+
+    // The calls that name an entry, which is drawn too.
+    fn call_named(&mut self, kind: u64, draw: u64, payload: u64) -> Result<bool, Fail> {
+        let count = self.names.len();
+        if count == 0 {
+            return Ok(true);
+        }
+        let place = draw as usize % count;
+        if kind < 48 {
+            let (linked, plain) = &self.names[place];
+            let there = self.linked.again(linked, payload);
+            return Ok(there == self.plain.again(*plain, payload)?);
+        }
+        let (linked, plain) = self.names.swap_remove(place);
+        if kind < 56 {
+            return Ok(self.linked.remove(linked) == self.plain.remove(plain));
+        }
+        self.linked.cancel(linked, &mut self.linked_log);
+        self.plain.cancel(plain, &mut self.plain_log);
+        Ok(true)
+    }
+}
+
+#[test]
+fn the_plain_list_agrees(rt: HostRuntime) -> Result<(), Fail> {
+    let mut pair = Pair::new(rt.alloc());
+    let mut word: u64 = 1;
+    for turn in 0..CALLS {
+        word = word
+            .wrapping_mul(6364136223846793005)
+            .wrapping_add(1442695040888963407);
+        assert!(rt; pair.call(word)?, "the results of call {turn}");
+        assert_eq!(rt; pair.linked.len(), pair.plain.len(), "at call {turn}");
+        assert_eq!(rt; pair.linked.told(), pair.plain.told(), "at call {turn}");
+        assert!(rt;
+            pair.linked_log.stored() == pair.plain_log.stored(),
+            "the logs at call {turn}"
+        );
+    }
+    Ok(())
+}
