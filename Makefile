@@ -6,7 +6,7 @@ help:
 	@echo 'make run    proves and builds the channel, and runs the program trysend'
 	@echo 'make test   the gate: every proof from nothing, must-fail edits, tests and programs'
 	@echo 'make check  every crate, lowest first, over what earlier checks kept'
-	@echo 'make bench  measures the waiting list'
+	@echo 'make bench  measures the waiting list and the handles'
 
 run:
 	cd crates/trysend && rt run
@@ -19,3 +19,4 @@ check:
 
 bench:
 	cd crates/bench_waiters && rt run -- measure
+	cd crates/bench_channel && rt run -- measure

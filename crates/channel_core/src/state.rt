@@ -44,6 +44,15 @@ pub enum Upgrade {
 /// A payload `W` is what a waiter leaves to be told by, as a waker of its task: a call that tells
 /// somebody rings its [`Bell`] with it. The law of notices is the invariant of the type: whoever waits
 /// untold could not go on, or enough others were told.
+///
+/// ```
+/// let mut core: Core<u64, ()> = Core::bounded(rt.alloc(), 1)?;
+/// core.try_send(1, &mut Quiet)?;     // Ok(())
+/// core.try_send(2, &mut Quiet)?;     // Err(TrySendError::Full(2))
+/// core.close(&mut Quiet);            // true: nothing more goes in
+/// core.try_recv(&mut Quiet);         // Ok(1): what is left comes out
+/// core.try_recv(&mut Quiet);         // Err(TryRecvError::Closed)
+/// ```
 #[derive(Drop)]
 pub struct Core<T, W> {
     queue: Queue<T>,

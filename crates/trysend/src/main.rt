@@ -1,10 +1,11 @@
 //! Prints the answers of three sends on a channel with room for one message.
 #![tactic(auto)]
 
-use channel_core::{Core, NoMemory, OutOfMemory, Quiet, TrySendError};
+use async_channel::{MakeError, NoMemory, StampMaker, TrySendError, bounded};
 use std::alloc::Global;
 use std::io;
 use std::process::ExitCode;
+use std::sync::Wait;
 
 /// What ended the program early.
 #[derive(Drop)]
@@ -13,8 +14,8 @@ enum Stop {
     Writing,
 }
 
-impl From<OutOfMemory> for Stop {
-    fn from(_refusal: OutOfMemory) -> Stop {
+impl From<MakeError> for Stop {
+    fn from(_refusal: MakeError) -> Stop {
         Stop::Memory
     }
 }
@@ -39,13 +40,13 @@ fn report(rt: &impl Print, answer: Result<(), TrySendError<u64>>) -> io::Result<
     }
 }
 
-fn try_sends(rt: &impl Print, alloc: Global) -> Result<(), Stop> {
-    let mut core: Core<u64, ()> = Core::bounded(alloc, 1)?;
-    report(rt, core.try_send(1, &mut Quiet)?)?;
-    report(rt, core.try_send(2, &mut Quiet)?)?;
-    core.drop_receiver(&mut None, &mut Quiet);
+fn try_sends<R: Wait + Clone + Drop + Print>(rt: &R, alloc: Global) -> Result<(), Stop> {
+    let (s, r) = bounded(rt, alloc, 1, &mut StampMaker::new())?;
+    report(rt, s.try_send(1)?)?;
+    report(rt, s.try_send(2)?)?;
+    drop(r);
     println!(rt; "done")?;
-    report(rt, core.try_send(3, &mut Quiet)?)?;
+    report(rt, s.try_send(3)?)?;
     Ok(())
 }
 

@@ -1,0 +1,464 @@
+//! The two sides of a channel.
+ghost use Rattle.std.specs.Prelude.{◌≡◌, ◌<◌, ◌↔◌, ◌≢◌, IsTrue, IsSome, IfOk, IfErr, OnErr, Err, Some, None, codes};
+ghost use Rattle.std.specs.Arc.{arc_value};
+ghost use Rattle.channel_core.specs.Errors.{message_of};
+ghost use Rattle.async_channel.specs.Stamps.{next_stamp};
+ghost use Rattle.async_channel.specs.Operations.{AreEndsOf};
+
+use crate::mark::{Mark, Marker};
+use crate::shared::{Link, Shared};
+use crate::stamps::{StampMaker, Tag};
+use crate::weak::{WeakReceiver, WeakSender};
+use channel_core::{
+    CloneError, Core, MakeError, NoMemory, OutOfMemory, SendError, Ticket, TryRecvError,
+    TrySendError,
+};
+use std::alloc::Global;
+use std::fmt;
+use std::marker::Model;
+use std::sync::{Arc, Wait};
+
+/// The sending side of a channel.
+///
+/// Senders can be copied and shared by threads. When all senders of a channel are dropped, the channel
+/// is closed. [`Sender::close`] closes it by hand.
+pub struct Sender<T: Drop, R: Wait + Clone + Drop> {
+    /// What the sender knows of its channel without its lock. Another tag that is written here changes the
+    /// answers of `capacity` and `same_channel` alone, for this sender and those made from it.
+    pub tag: Tag,
+    pub(crate) link: Link<T, R>,
+}
+
+/// The tag, and the source that tasks wait for.
+impl<T: Drop, R: Wait + Clone + Drop> Model for Sender<T, R> {
+    ghost use Rattle.std.specs.Arc.{arc_value};
+    ghost use Rattle.async_channel.specs.Operations.{HandleView};
+
+    ghost Value = { HandleView };
+
+    ghost view = { λ handle. record { tag = handle.tag; source = (arc_value handle.link.shared).source.id } };
+}
+
+/// The receiving side of a channel.
+///
+/// Receivers can be copied and shared by threads. When all receivers of a channel are dropped, the channel
+/// is closed. [`Receiver::close`] closes it by hand.
+///
+/// A receiver is a stream of its messages. An item is `Err` where memory was refused, and the stream may be
+/// polled again.
+pub struct Receiver<T: Drop, R: Wait + Clone + Drop> {
+    /// What the receiver knows of its channel without its lock. Another tag that is written here changes the
+    /// answers of `capacity` and `same_channel` alone, for this receiver and those made from it.
+    pub tag: Tag,
+    pub(crate) link: Link<T, R>,
+    // The stream's wait.
+    pub(crate) ticket: Option<Ticket>,
+    pub(crate) marker: Marker,
+}
+
+/// The tag, and the source that tasks wait for.
+impl<T: Drop, R: Wait + Clone + Drop> Model for Receiver<T, R> {
+    ghost use Rattle.std.specs.Arc.{arc_value};
+    ghost use Rattle.async_channel.specs.Operations.{HandleView};
+
+    ghost Value = { HandleView };
+
+    ghost view = { λ handle. record { tag = handle.tag; source = (arc_value handle.link.shared).source.id } };
+}
+
+/// Creates a bounded channel, which holds at most `cap` messages at a time.
+///
+/// # Examples
+///
+/// ```
+/// let (s, r) = bounded(&rt, rt.alloc(), 1, &mut maker)?;
+///
+/// assert_eq!(rt; block_on(&rt, s.send(10))?, Ok(Ok(())));
+/// assert_eq!(rt; s.try_send(20)?, Err(TrySendError::Full(20)));
+///
+/// assert_eq!(rt; block_on(&rt, r.recv())?, Ok(Ok(10)));
+/// assert_eq!(rt; r.try_recv(), Err(TryRecvError::Empty));
+/// ```
+pub fn bounded<T: Drop, R: Wait + Clone + Drop>(
+    rt: &R,
+    alloc: Global,
+    cap: usize,
+    maker: &mut StampMaker,
+) -> Result<(Sender<T, R>, Receiver<T, R>), MakeError>
+    requires { 0 < cap }
+    ensures spent { (result ≡ Err MakeError.NoStamps) ↔ (maker.old ≡ None) }
+    ensures refused { OnErr result (maker.new ≡ maker.old) }
+    ensures tags { IfOk result (λ ends. AreEndsOf ends.0 ends.1 maker.old (Some cap)) }
+    ensures rises { IfOk result (λ _. maker.new ≡ next_stamp maker.old) }
+{
+    if maker.is_spent() {
+        return Err(MakeError::NoStamps);
+    }
+    match Core::bounded(alloc, cap) {
+        Ok(core) => ends(rt, alloc, core, Some(cap), maker),
+        Err(OutOfMemory) => Err(MakeError::OutOfMemory),
+    }
+}
+
+/// Creates an unbounded channel, which can hold any number of messages.
+///
+/// # Examples
+///
+/// ```
+/// let (s, r) = unbounded(&rt, rt.alloc(), &mut maker)?;
+///
+/// assert_eq!(rt; block_on(&rt, s.send(10))?, Ok(Ok(())));
+/// assert_eq!(rt; block_on(&rt, s.send(20))?, Ok(Ok(())));
+///
+/// assert_eq!(rt; block_on(&rt, r.recv())?, Ok(Ok(10)));
+/// assert_eq!(rt; block_on(&rt, r.recv())?, Ok(Ok(20)));
+/// assert_eq!(rt; r.try_recv(), Err(TryRecvError::Empty));
+/// ```
+pub fn unbounded<T: Drop, R: Wait + Clone + Drop>(
+    rt: &R,
+    alloc: Global,
+    maker: &mut StampMaker,
+) -> Result<(Sender<T, R>, Receiver<T, R>), MakeError>
+    ensures spent { (result ≡ Err MakeError.NoStamps) ↔ (maker.old ≡ None) }
+    ensures refused { OnErr result (maker.new ≡ maker.old) }
+    ensures tags { IfOk result (λ ends. AreEndsOf ends.0 ends.1 maker.old None) }
+    ensures rises { IfOk result (λ _. maker.new ≡ next_stamp maker.old) }
+{
+    if maker.is_spent() {
+        return Err(MakeError::NoStamps);
+    }
+    ends(rt, alloc, Core::unbounded(alloc), None, maker)
+}
+
+// Both sides of a channel. The stamp is drawn behind everything that may be refused.
+fn ends<T: Drop, R: Wait + Clone + Drop>(
+    rt: &R,
+    alloc: Global,
+    core: Core<T, Mark>,
+    capacity: Option<usize>,
+    maker: &mut StampMaker,
+) -> Result<(Sender<T, R>, Receiver<T, R>), MakeError>
+    requires { IsSome maker.old }
+    ensures spent { result ≢ Err MakeError.NoStamps }
+    ensures refused { OnErr result (maker.new ≡ maker.old) }
+    ensures tags { IfOk result (λ ends. AreEndsOf ends.0 ends.1 maker.old capacity) }
+    ensures rises { IfOk result (λ _. maker.new ≡ next_stamp maker.old) }
+{
+    let Ok((sending, receiving)) = links(rt, alloc, core) else {
+        return Err(MakeError::OutOfMemory);
+    };
+    let stamp = maker.draw().unwrap();
+    let tag = Tag::new(stamp, capacity);
+    Ok((Sender { tag, link: sending }, Receiver::new(tag, receiving)))
+}
+
+// Two links to one new channel.
+fn links<T: Drop, R: Wait + Clone + Drop>(
+    rt: &R,
+    alloc: Global,
+    core: Core<T, Mark>,
+) -> Result<(Link<T, R>, Link<T, R>), OutOfMemory>
+    ensures { IfOk result (λ links. arc_value links.0.shared ≡ arc_value links.1.shared) }
+{
+    let link = Link {
+        shared: Arc::new(alloc, Shared::new(alloc, core)).map_err(|_| OutOfMemory)?,
+        rt: rt.clone().map_err(|_| OutOfMemory)?,
+    };
+    let other = link.try_clone()?;
+    Ok((link, other))
+}
+
+impl<T: Drop, R: Wait + Clone + Drop> Sender<T, R> {
+    /// Attempts to send a message into the channel.
+    ///
+    /// A full or closed channel is answered by an error, with the message. The outer error, with the
+    /// message, says that memory was refused.
+    ///
+    /// # Examples
+    ///
+    /// ```
+    /// let (s, r) = bounded(&rt, rt.alloc(), 1, &mut maker)?;
+    ///
+    /// assert_eq!(rt; s.try_send(1)?, Ok(()));
+    /// assert_eq!(rt; s.try_send(2)?, Err(TrySendError::Full(2)));
+    ///
+    /// drop(r);
+    /// assert_eq!(rt; s.try_send(3)?, Err(TrySendError::Closed(3)));
+    /// ```
+    #[tactic(auto, using(crate::proofs::Refusals::try_send_hands_back))]
+    pub fn try_send(&self, msg: T) -> Result<Result<(), TrySendError<T>>, NoMemory<T>>
+        ensures refused { IfOk result (λ answer. IfErr answer (λ error. message_of error ≡ msg)) }
+        ensures unsent { IfErr result (λ error. error.0 ≡ msg) }
+    {
+        self.link.lock().try_send(msg, &mut self.link.bell())
+    }
+
+    /// Sends a message into the channel, whatever it holds.
+    ///
+    /// A full channel gives its oldest message for it, as `Ok(Some(oldest))`. A closed one is answered by an
+    /// error, with the message. The outer error, with the message, says that memory was refused.
+    ///
+    /// # Examples
+    ///
+    /// ```
+    /// let (s, r) = bounded(&rt, rt.alloc(), 3, &mut maker)?;
+    ///
+    /// assert_eq!(rt; s.try_send(1)?, Ok(()));
+    /// assert_eq!(rt; s.try_send(2)?, Ok(()));
+    /// assert_eq!(rt; s.force_send(3)?, Ok(None));
+    /// assert_eq!(rt; s.force_send(4)?, Ok(Some(1)));
+    /// assert_eq!(rt; r.try_recv(), Ok(2));
+    /// ```
+    #[tactic(auto, using(crate::proofs::Refusals::force_send_hands_back))]
+    pub fn force_send(&self, msg: T) -> Result<Result<Option<T>, SendError<T>>, NoMemory<T>>
+        ensures refused { IfOk result (λ answer. IfErr answer (λ error. error.0 ≡ msg)) }
+        ensures unsent { IfErr result (λ error. error.0 ≡ msg) }
+    {
+        self.link.lock().force_send(msg, &mut self.link.bell())
+    }
+
+    /// Closes the channel, and answers whether this call closed it.
+    ///
+    /// The remaining messages can still be received.
+    pub fn close(&self) -> bool {
+        self.link.lock().close(&mut self.link.bell())
+    }
+
+    /// Whether the channel is closed.
+    pub fn is_closed(&self) -> bool {
+        self.link.lock().is_closed()
+    }
+
+    /// Whether the channel holds no message.
+    pub fn is_empty(&self) -> bool {
+        self.link.lock().is_empty()
+    }
+
+    /// Whether the channel holds as many messages as it may. An unbounded channel never does.
+    pub fn is_full(&self) -> bool {
+        self.link.lock().is_full()
+    }
+
+    /// The number of messages in the channel.
+    pub fn len(&self) -> usize {
+        self.link.lock().len()
+    }
+
+    /// The number of receivers of the channel.
+    pub fn receiver_count(&self) -> usize {
+        self.link.lock().receiver_count()
+    }
+
+    /// The number of senders of the channel.
+    pub fn sender_count(&self) -> usize {
+        self.link.lock().sender_count()
+    }
+
+    /// The channel's capacity, if it is bounded. It takes no lock.
+    ///
+    /// # Examples
+    ///
+    /// ```
+    /// let (s, r) = bounded::<u64, _>(&rt, rt.alloc(), 5, &mut maker)?;
+    /// assert_eq!(rt; s.capacity(), Some(5));
+    /// ```
+    pub fn capacity(&self) -> Option<usize>
+        ensures { result ≡ self.now.tag.capacity }
+    {
+        self.tag.capacity()
+    }
+
+    /// Whether both senders are of one channel. It takes no lock, and says nothing of channels of two makers.
+    ///
+    /// # Examples
+    ///
+    /// ```
+    /// let s2 = s.try_clone()?;
+    /// assert!(rt; s.same_channel(&s2));
+    /// ```
+    pub fn same_channel(&self, other: &Sender<T, R>) -> bool
+        ensures { IsTrue result ↔ (self.now.tag.stamp ≡ other.now.tag.stamp) }
+    {
+        self.tag.same_channel(&other.tag)
+    }
+
+    /// One more sender of the channel.
+    ///
+    /// It is refused where there are more than `usize::MAX / 2` of them, or memory was refused.
+    pub fn try_clone(&self) -> Result<Sender<T, R>, CloneError>
+        ensures { IfOk result (λ sender. sender ≡ self.now) }
+    {
+        let Ok(link) = self.link.try_clone() else {
+            return Err(CloneError::OutOfMemory);
+        };
+        if !link.lock().add_sender() {
+            return Err(CloneError::TooMany);
+        }
+        Ok(Sender {
+            tag: self.tag,
+            link,
+        })
+    }
+
+    /// A weak handle of the channel, which doesn't keep it open.
+    pub fn downgrade(&self) -> Result<WeakSender<T, R>, OutOfMemory>
+        ensures { IfOk result (λ weak. weak ≡ self.now) }
+    {
+        let link = self.link.try_clone()?;
+        Ok(WeakSender {
+            tag: self.tag,
+            link,
+        })
+    }
+}
+
+impl<T: Drop, R: Wait + Clone + Drop> Drop for Sender<T, R> {
+    fn drop(self) {
+        let Self { tag: _, link } = self;
+        link.lock().drop_sender(&mut link.bell());
+    }
+}
+
+impl<T: Drop, R: Wait + Clone + Drop> fmt::Debug for Sender<T, R> {
+    ghost debug_output = { λ _. Some (codes "Sender { .. }") };
+
+    fn fmt<W: fmt::Write>(&self, f: &mut fmt::Formatter<W>) -> fmt::Result {
+        f.write_str("Sender { .. }")
+    }
+}
+
+impl<T: Drop, R: Wait + Clone + Drop> Receiver<T, R> {
+    // One without a stream's wait.
+    pub(crate) fn new(tag: Tag, link: Link<T, R>) -> Receiver<T, R>
+        ensures { result ≡ record { tag = tag; source = (arc_value link.shared).source.id } }
+    {
+        Receiver {
+            tag,
+            link,
+            ticket: None,
+            marker: Marker::new(),
+        }
+    }
+
+    /// Attempts to receive a message from the channel.
+    ///
+    /// A channel without a message is answered by an error, which says whether it is closed.
+    ///
+    /// # Examples
+    ///
+    /// ```
+    /// let (s, r) = unbounded(&rt, rt.alloc(), &mut maker)?;
+    /// assert_eq!(rt; s.try_send(1)?, Ok(()));
+    ///
+    /// assert_eq!(rt; r.try_recv(), Ok(1));
+    /// assert_eq!(rt; r.try_recv(), Err(TryRecvError::Empty));
+    ///
+    /// drop(s);
+    /// assert_eq!(rt; r.try_recv(), Err(TryRecvError::Closed));
+    /// ```
+    pub fn try_recv(&self) -> Result<T, TryRecvError> {
+        self.link.lock().try_recv(&mut self.link.bell())
+    }
+
+    /// Closes the channel, and answers whether this call closed it.
+    ///
+    /// The remaining messages can still be received.
+    pub fn close(&self) -> bool {
+        self.link.lock().close(&mut self.link.bell())
+    }
+
+    /// Whether the channel is closed.
+    pub fn is_closed(&self) -> bool {
+        self.link.lock().is_closed()
+    }
+
+    /// Whether the channel holds no message.
+    pub fn is_empty(&self) -> bool {
+        self.link.lock().is_empty()
+    }
+
+    /// Whether the channel holds as many messages as it may. An unbounded channel never does.
+    pub fn is_full(&self) -> bool {
+        self.link.lock().is_full()
+    }
+
+    /// Whether the channel is closed and holds no message, so that the stream has ended.
+    pub fn is_terminated(&self) -> bool {
+        self.link.lock().is_terminated()
+    }
+
+    /// The number of messages in the channel.
+    pub fn len(&self) -> usize {
+        self.link.lock().len()
+    }
+
+    /// The number of receivers of the channel.
+    pub fn receiver_count(&self) -> usize {
+        self.link.lock().receiver_count()
+    }
+
+    /// The number of senders of the channel.
+    pub fn sender_count(&self) -> usize {
+        self.link.lock().sender_count()
+    }
+
+    /// The channel's capacity, if it is bounded. It takes no lock.
+    pub fn capacity(&self) -> Option<usize>
+        ensures { result ≡ self.now.tag.capacity }
+    {
+        self.tag.capacity()
+    }
+
+    /// Whether both receivers are of one channel. It takes no lock, and says nothing of channels of two makers.
+    pub fn same_channel(&self, other: &Receiver<T, R>) -> bool
+        ensures { IsTrue result ↔ (self.now.tag.stamp ≡ other.now.tag.stamp) }
+    {
+        self.tag.same_channel(&other.tag)
+    }
+
+    /// One more receiver of the channel, whose stream doesn't wait.
+    ///
+    /// It is refused where there are more than `usize::MAX / 2` of them, or memory was refused.
+    pub fn try_clone(&self) -> Result<Receiver<T, R>, CloneError>
+        ensures { IfOk result (λ receiver. receiver ≡ self.now) }
+    {
+        let Ok(link) = self.link.try_clone() else {
+            return Err(CloneError::OutOfMemory);
+        };
+        if !link.lock().add_receiver() {
+            return Err(CloneError::TooMany);
+        }
+        Ok(Receiver::new(self.tag, link))
+    }
+
+    /// A weak handle of the channel, which doesn't keep it open.
+    pub fn downgrade(&self) -> Result<WeakReceiver<T, R>, OutOfMemory>
+        ensures { IfOk result (λ weak. weak ≡ self.now) }
+    {
+        let link = self.link.try_clone()?;
+        Ok(WeakReceiver {
+            tag: self.tag,
+            link,
+        })
+    }
+}
+
+impl<T: Drop, R: Wait + Clone + Drop> Drop for Receiver<T, R> {
+    fn drop(self) {
+        let Self {
+            tag: _,
+            link,
+            mut ticket,
+            marker: _,
+        } = self;
+        link.lock().drop_receiver(&mut ticket, &mut link.bell());
+    }
+}
+
+impl<T: Drop, R: Wait + Clone + Drop> fmt::Debug for Receiver<T, R> {
+    ghost debug_output = { λ _. Some (codes "Receiver { .. }") };
+
+    fn fmt<W: fmt::Write>(&self, f: &mut fmt::Formatter<W>) -> fmt::Result {
+        f.write_str("Receiver { .. }")
+    }
+}

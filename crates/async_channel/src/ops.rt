@@ -1,0 +1,349 @@
+//! The operations: futures that borrow a handle.
+ghost use Rattle.std.specs.Prelude.{◌≡◌, ⊤, true, false, Some, None, IsTrue, ◌↔◌, OnOk, OnErr};
+ghost use Rattle.async_channel.specs.Operations.{MayGive};
+ghost use Rattle.futures.specs.Poll.{IfReady, OnPending};
+ghost use Rattle.futures.specs.Task.{Covers, Keeps};
+ghost use Rattle.std.specs.Prelude.{Result};
+ghost use Rattle.channel_core.specs.declared.errors.RecvError.{RecvError};
+ghost use Rattle.channel_core.specs.declared.errors.OutOfMemory.{OutOfMemory};
+
+use crate::handles::{Receiver, Sender};
+use crate::mark::Marker;
+use channel_core::{OutOfMemory, RecvError, SendError, Ticket};
+use futures::Future;
+use futures::task::{Context, Poll};
+use std::marker::Model;
+use std::sync::Wait;
+
+/// A future returned by [`Sender::send`].
+///
+/// It gives `Ok(Ok(()))` once the message is in the channel, the message in a [`SendError`] where the channel
+/// is closed, and `Err` where memory was refused: it is then as it was, and may be polled again. A finished
+/// one stays pending. Dropping it withdraws it, with its message.
+pub struct Send<'a, T: Drop, R: Wait + Clone + Drop> {
+    sender: &'a Sender<T, R>,
+    message: Option<T>,
+    ticket: Option<Ticket>,
+    marker: Marker,
+}
+
+/// A future returned by [`Receiver::recv`].
+///
+/// It gives a message, [`RecvError`] where the channel is closed and empty, and `Err` where memory was
+/// refused: it is then as it was, and may be polled again. A finished one acts as a new one. Dropping it
+/// withdraws it.
+pub struct Recv<'a, T: Drop, R: Wait + Clone + Drop> {
+    receiver: &'a Receiver<T, R>,
+    ticket: Option<Ticket>,
+    marker: Marker,
+    finished: bool,
+}
+
+/// A future returned by [`Sender::closed`].
+///
+/// It completes once no receiver is left, and gives `Err` where memory was refused: it is then as it was, and
+/// may be polled again. A finished one acts as a new one. Dropping it withdraws it.
+pub struct Closed<'a, T: Drop, R: Wait + Clone + Drop> {
+    sender: &'a Sender<T, R>,
+    ticket: Option<Ticket>,
+    marker: Marker,
+    finished: bool,
+}
+
+/// The message of an unfinished send, and the source that its task waits for.
+impl<'a, T: Drop, R: Wait + Clone + Drop> Model for Send<'a, T, R> {
+    ghost use Rattle.async_channel.specs.Operations.{SendView};
+
+    ghost Value = { SendView T };
+
+    ghost view = { λ op. record { message = op.message; source = op.sender.now.source } };
+}
+
+/// Whether the last poll finished it, and the source that its task waits for.
+impl<'a, T: Drop, R: Wait + Clone + Drop> Model for Recv<'a, T, R> {
+    ghost use Rattle.async_channel.specs.Operations.{OperationView};
+
+    ghost Value = { OperationView };
+
+    ghost view = { λ op. record { finished = op.finished; source = op.receiver.now.source } };
+}
+
+/// Whether the last poll finished it, and the source that its task waits for.
+impl<'a, T: Drop, R: Wait + Clone + Drop> Model for Closed<'a, T, R> {
+    ghost use Rattle.async_channel.specs.Operations.{OperationView};
+
+    ghost Value = { OperationView };
+
+    ghost view = { λ op. record { finished = op.finished; source = op.sender.now.source } };
+}
+
+impl<T: Drop, R: Wait + Clone + Drop> Sender<T, R> {
+    /// Sends a message into the channel.
+    ///
+    /// The operation waits where the channel is full, and gives an error where it is closed. It does nothing
+    /// until it is polled.
+    ///
+    /// # Examples
+    ///
+    /// ```
+    /// let (s, r) = unbounded(&rt, rt.alloc(), &mut maker)?;
+    ///
+    /// assert_eq!(rt; block_on(&rt, s.send(1))?, Ok(Ok(())));
+    /// drop(r);
+    /// assert_eq!(rt; block_on(&rt, s.send(2))?, Ok(Err(SendError(2))));
+    /// ```
+    pub fn send(&self, msg: T) -> Send<'_, T, R>
+        ensures { result ≡ record { message = Some msg; source = self.now.source } }
+    {
+        Send {
+            sender: self,
+            message: Some(msg),
+            ticket: None,
+            marker: Marker::new(),
+        }
+    }
+
+    /// Completes when all receivers have dropped.
+    ///
+    /// This tells producers that nobody wants their messages any more. A channel that is closed by hand, or by
+    /// its last sender, may still have receivers.
+    ///
+    /// # Examples
+    ///
+    /// ```
+    /// let (s, r) = unbounded::<u64, _>(&rt, rt.alloc(), &mut maker)?;
+    /// drop(r);
+    /// assert_eq!(rt; block_on(&rt, s.closed())?, Ok(()));
+    /// ```
+    pub fn closed(&self) -> Closed<'_, T, R>
+        ensures { result ≡ record { finished = false; source = self.now.source } }
+    {
+        Closed {
+            sender: self,
+            ticket: None,
+            marker: Marker::new(),
+            finished: false,
+        }
+    }
+}
+
+impl<T: Drop, R: Wait + Clone + Drop> Receiver<T, R> {
+    /// Receives a message from the channel.
+    ///
+    /// The operation waits where the channel is empty, and gives an error where it is closed and empty.
+    ///
+    /// # Examples
+    ///
+    /// ```
+    /// let (s, r) = unbounded(&rt, rt.alloc(), &mut maker)?;
+    ///
+    /// assert_eq!(rt; block_on(&rt, s.send(1))?, Ok(Ok(())));
+    /// drop(s);
+    ///
+    /// assert_eq!(rt; block_on(&rt, r.recv())?, Ok(Ok(1)));
+    /// assert_eq!(rt; block_on(&rt, r.recv())?, Ok(Err(RecvError)));
+    /// ```
+    pub fn recv(&self) -> Recv<'_, T, R>
+        ensures { result ≡ record { finished = false; source = self.now.source } }
+    {
+        Recv {
+            receiver: self,
+            ticket: None,
+            marker: Marker::new(),
+            finished: false,
+        }
+    }
+}
+
+impl<T: Drop, R: Wait + Clone + Drop> Send<'_, T, R> {
+    /// Whether it is finished: a poll was ready, and not for want of memory.
+    pub fn is_terminated(&self) -> bool
+        ensures { IsTrue result ↔ (self.now.message ≡ None) }
+    {
+        self.message.is_none()
+    }
+
+    /// Withdraws the operation, and gives the message of an unfinished one.
+    ///
+    /// # Examples
+    ///
+    /// ```
+    /// let send = s.send(8);
+    /// assert_eq!(rt; send.into_msg(), Some(8));
+    /// ```
+    pub fn into_msg(mut self) -> Option<T>
+        ensures { result ≡ self.entry.message }
+    {
+        self.message.take()
+    }
+}
+
+impl<T: Drop, R: Wait + Clone + Drop> Future for Send<'_, T, R> {
+    type Output = Result<Result<(), SendError<T>>, OutOfMemory>;
+
+    ghost needs = { λ op source. source ≡ op.source };
+
+    ghost gives = { λ op. MayGive op.message };
+
+    fn poll(&mut self, cx: &mut Context<'_>) -> Poll<Self::Output>
+        ensures value { IfReady result (MayGive self.old.message) }
+        ensures again { OnPending result ⊤ }
+        ensures same { OnPending result ((x : _) → MayGive self.new.message x → MayGive self.old.message x) }
+        ensures registered { OnPending result (Covers cx.new (λ source. source ≡ self.new.source)) }
+        ensures kept { Keeps cx.old cx.new }
+
+        ensures finished { IfReady result (λ answer. OnOk answer (self.new ≡ record self.old { message = None })) }
+        ensures refused { IfReady result (λ answer. OnErr answer (self.new ≡ self.old)) }
+        ensures waits { OnPending result (self.new ≡ self.old) }
+    {
+        let sender = self.sender;
+        let link = &sender.link;
+        let shared = &*link.shared;
+        let mut core = link.lock();
+        let Ok(mark) = self.marker.mark(&link.rt, shared.alloc, &shared.source, cx) else {
+            return Poll::Ready(Err(OutOfMemory));
+        };
+        let polled = core.poll_send(&mut self.message, &mut self.ticket, mark, &mut link.bell());
+        match polled {
+            Ok(Poll::Ready(answer)) => Poll::Ready(Ok(answer)),
+            Ok(Poll::Pending) => Poll::Pending,
+            Err(OutOfMemory) => Poll::Ready(Err(OutOfMemory)),
+        }
+    }
+}
+
+impl<T: Drop, R: Wait + Clone + Drop> Drop for Send<'_, T, R> {
+    fn drop(self) {
+        let Self {
+            sender,
+            message: _,
+            mut ticket,
+            marker: _,
+        } = self;
+        if ticket.is_some() {
+            let link = &sender.link;
+            link.lock().cancel_send(&mut ticket, &mut link.bell());
+        }
+    }
+}
+
+impl<T: Drop, R: Wait + Clone + Drop> Recv<'_, T, R> {
+    /// Whether the last poll finished it: it was ready, and not for want of memory.
+    pub fn is_terminated(&self) -> bool
+        ensures { result ≡ self.now.finished }
+    {
+        self.finished
+    }
+}
+
+impl<T: Drop, R: Wait + Clone + Drop> Future for Recv<'_, T, R> {
+    type Output = Result<Result<T, RecvError>, OutOfMemory>;
+
+    ghost needs = { λ op source. source ≡ op.source };
+
+    fn poll(&mut self, cx: &mut Context<'_>) -> Poll<Self::Output>
+        ensures value { IfReady result (λ _. ⊤) }
+        ensures again { OnPending result ⊤ }
+        ensures same { OnPending result ((x : Result (Result T RecvError) OutOfMemory) → ⊤ → ⊤) }
+        ensures registered { OnPending result (Covers cx.new (λ source. source ≡ self.new.source)) }
+        ensures kept { Keeps cx.old cx.new }
+
+        ensures finished { IfReady result (λ answer. OnOk answer (self.new ≡ record self.old { finished = true })) }
+        ensures refused { IfReady result (λ answer. OnErr answer (self.new ≡ self.old)) }
+        ensures waits { OnPending result (self.new ≡ record self.old { finished = false }) }
+    {
+        let receiver = self.receiver;
+        let link = &receiver.link;
+        let shared = &*link.shared;
+        let mut core = link.lock();
+        let Ok(mark) = self.marker.mark(&link.rt, shared.alloc, &shared.source, cx) else {
+            return Poll::Ready(Err(OutOfMemory));
+        };
+        match core.poll_recv(&mut self.ticket, mark, &mut link.bell()) {
+            Ok(Poll::Ready(answer)) => {
+                self.finished = true;
+                Poll::Ready(Ok(answer))
+            }
+            Ok(Poll::Pending) => {
+                self.finished = false;
+                Poll::Pending
+            }
+            Err(OutOfMemory) => Poll::Ready(Err(OutOfMemory)),
+        }
+    }
+}
+
+impl<T: Drop, R: Wait + Clone + Drop> Drop for Recv<'_, T, R> {
+    fn drop(self) {
+        let Self {
+            receiver,
+            mut ticket,
+            marker: _,
+            finished: _,
+        } = self;
+        if ticket.is_some() {
+            let link = &receiver.link;
+            link.lock().cancel_recv(&mut ticket, &mut link.bell());
+        }
+    }
+}
+
+impl<T: Drop, R: Wait + Clone + Drop> Closed<'_, T, R> {
+    /// Whether the last poll finished it: it was ready, and not for want of memory.
+    pub fn is_terminated(&self) -> bool
+        ensures { result ≡ self.now.finished }
+    {
+        self.finished
+    }
+}
+
+impl<T: Drop, R: Wait + Clone + Drop> Future for Closed<'_, T, R> {
+    type Output = Result<(), OutOfMemory>;
+
+    ghost needs = { λ op source. source ≡ op.source };
+
+    fn poll(&mut self, cx: &mut Context<'_>) -> Poll<Self::Output>
+        ensures value { IfReady result (λ _. ⊤) }
+        ensures again { OnPending result ⊤ }
+        ensures same { OnPending result ((x : Result (Unit {0}) OutOfMemory) → ⊤ → ⊤) }
+        ensures registered { OnPending result (Covers cx.new (λ source. source ≡ self.new.source)) }
+        ensures kept { Keeps cx.old cx.new }
+
+        ensures finished { IfReady result (λ answer. OnOk answer (self.new ≡ record self.old { finished = true })) }
+        ensures refused { IfReady result (λ answer. OnErr answer (self.new ≡ self.old)) }
+        ensures waits { OnPending result (self.new ≡ record self.old { finished = false }) }
+    {
+        let sender = self.sender;
+        let link = &sender.link;
+        let shared = &*link.shared;
+        let mut core = link.lock();
+        let Ok(mark) = self.marker.mark(&link.rt, shared.alloc, &shared.source, cx) else {
+            return Poll::Ready(Err(OutOfMemory));
+        };
+        match core.poll_closed(&mut self.ticket, mark) {
+            Ok(Poll::Ready(())) => {
+                self.finished = true;
+                Poll::Ready(Ok(()))
+            }
+            Ok(Poll::Pending) => {
+                self.finished = false;
+                Poll::Pending
+            }
+            Err(OutOfMemory) => Poll::Ready(Err(OutOfMemory)),
+        }
+    }
+}
+
+impl<T: Drop, R: Wait + Clone + Drop> Drop for Closed<'_, T, R> {
+    fn drop(self) {
+        let Self {
+            sender,
+            mut ticket,
+            marker: _,
+            finished: _,
+        } = self;
+        if ticket.is_some() {
+            sender.link.lock().cancel_closed(&mut ticket);
+        }
+    }
+}

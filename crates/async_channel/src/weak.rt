@@ -1,0 +1,145 @@
+//! Handles that don't keep a channel open.
+ghost use Rattle.std.specs.Prelude.{◌≡◌, IfOk, IfSome, Some, codes};
+
+use crate::handles::{Receiver, Sender};
+use crate::shared::Link;
+use crate::stamps::Tag;
+use channel_core::{CloneError, OutOfMemory, Upgrade};
+use std::fmt;
+use std::marker::Model;
+use std::sync::Wait;
+
+/// A [`Sender`] that doesn't keep its channel open.
+///
+/// It is made by [`Sender::downgrade`]. To send by it, it has to be upgraded.
+///
+/// # Examples
+///
+/// ```
+/// let weak = s.downgrade()?;
+/// assert!(rt; weak.upgrade()?.is_some());
+///
+/// drop(r);
+/// assert!(rt; weak.upgrade()?.is_none());
+/// ```
+#[derive(Drop)]
+pub struct WeakSender<T, R> {
+    /// What the handle knows of its channel without its lock.
+    pub tag: Tag,
+    pub(crate) link: Link<T, R>,
+}
+
+/// The tag, and the source that tasks wait for.
+impl<T, R> Model for WeakSender<T, R> {
+    ghost use Rattle.std.specs.Arc.{arc_value};
+    ghost use Rattle.async_channel.specs.Operations.{HandleView};
+
+    ghost Value = { HandleView };
+
+    ghost view = { λ handle. record { tag = handle.tag; source = (arc_value handle.link.shared).source.id } };
+}
+
+/// A [`Receiver`] that doesn't keep its channel open.
+///
+/// It is made by [`Receiver::downgrade`]. To receive by it, it has to be upgraded.
+#[derive(Drop)]
+pub struct WeakReceiver<T, R> {
+    /// What the handle knows of its channel without its lock.
+    pub tag: Tag,
+    pub(crate) link: Link<T, R>,
+}
+
+/// The tag, and the source that tasks wait for.
+impl<T, R> Model for WeakReceiver<T, R> {
+    ghost use Rattle.std.specs.Arc.{arc_value};
+    ghost use Rattle.async_channel.specs.Operations.{HandleView};
+
+    ghost Value = { HandleView };
+
+    ghost view = { λ handle. record { tag = handle.tag; source = (arc_value handle.link.shared).source.id } };
+}
+
+impl<T: Drop, R: Wait + Clone + Drop> WeakSender<T, R> {
+    /// One more sender of the channel, or `None` where it is closed.
+    ///
+    /// It is refused where memory was refused or, on an open channel, there are more than `usize::MAX / 2`
+    /// senders.
+    pub fn upgrade(&self) -> Result<Option<Sender<T, R>>, CloneError>
+        ensures { IfOk result (λ upgraded. IfSome upgraded (λ sender. sender ≡ self.now)) }
+    {
+        let Ok(link) = self.link.try_clone() else {
+            return Err(CloneError::OutOfMemory);
+        };
+        let upgraded = link.lock().upgrade_sender();
+        match upgraded {
+            Upgrade::Closed => Ok(None),
+            Upgrade::TooMany => Err(CloneError::TooMany),
+            Upgrade::Raised => Ok(Some(Sender {
+                tag: self.tag,
+                link,
+            })),
+        }
+    }
+}
+
+impl<T: Drop, R: Clone + Drop> WeakSender<T, R> {
+    /// One more weak handle of the channel.
+    pub fn try_clone(&self) -> Result<WeakSender<T, R>, OutOfMemory>
+        ensures { IfOk result (λ weak. weak ≡ self.now) }
+    {
+        let link = self.link.try_clone()?;
+        Ok(WeakSender {
+            tag: self.tag,
+            link,
+        })
+    }
+}
+
+impl<T, R> fmt::Debug for WeakSender<T, R> {
+    ghost debug_output = { λ _. Some (codes "WeakSender { .. }") };
+
+    fn fmt<W: fmt::Write>(&self, f: &mut fmt::Formatter<W>) -> fmt::Result {
+        f.write_str("WeakSender { .. }")
+    }
+}
+
+impl<T: Drop, R: Wait + Clone + Drop> WeakReceiver<T, R> {
+    /// One more receiver of the channel, whose stream doesn't wait, or `None` where it is closed.
+    ///
+    /// It is refused where memory was refused or, on an open channel, there are more than `usize::MAX / 2`
+    /// receivers.
+    pub fn upgrade(&self) -> Result<Option<Receiver<T, R>>, CloneError>
+        ensures { IfOk result (λ upgraded. IfSome upgraded (λ receiver. receiver ≡ self.now)) }
+    {
+        let Ok(link) = self.link.try_clone() else {
+            return Err(CloneError::OutOfMemory);
+        };
+        let upgraded = link.lock().upgrade_receiver();
+        match upgraded {
+            Upgrade::Closed => Ok(None),
+            Upgrade::TooMany => Err(CloneError::TooMany),
+            Upgrade::Raised => Ok(Some(Receiver::new(self.tag, link))),
+        }
+    }
+}
+
+impl<T: Drop, R: Clone + Drop> WeakReceiver<T, R> {
+    /// One more weak handle of the channel.
+    pub fn try_clone(&self) -> Result<WeakReceiver<T, R>, OutOfMemory>
+        ensures { IfOk result (λ weak. weak ≡ self.now) }
+    {
+        let link = self.link.try_clone()?;
+        Ok(WeakReceiver {
+            tag: self.tag,
+            link,
+        })
+    }
+}
+
+impl<T, R> fmt::Debug for WeakReceiver<T, R> {
+    ghost debug_output = { λ _. Some (codes "WeakReceiver { .. }") };
+
+    fn fmt<W: fmt::Write>(&self, f: &mut fmt::Formatter<W>) -> fmt::Result {
+        f.write_str("WeakReceiver { .. }")
+    }
+}

@@ -1,0 +1,172 @@
+//! Worked rows, and the tests of the original that need one thread.
+use crate::probe::Answer::*;
+use crate::probe::Call::*;
+use crate::probe::{channel, run};
+use async_channel::{RecvError, SendError, TryRecvError, TrySendError};
+use futures::executor::block_on;
+use std::test::Fail;
+
+#[test]
+fn the_first_example(rt: HostRuntime) -> Result<(), Fail> {
+    let (s, r) = channel(&rt, rt.alloc(), None)?;
+    assert_eq!(rt; block_on(&rt, s.send("Hello"))?, Ok(Ok(())));
+    assert_eq!(rt; block_on(&rt, r.recv())?, Ok(Ok("Hello")));
+    Ok(())
+}
+
+#[test]
+fn documentation_of_try_send(rt: HostRuntime) -> Result<(), Fail> {
+    run(
+        &rt,
+        Some(1),
+        &[
+            (TrySend(1), TrySent(Ok(()))),
+            (TrySend(2), TrySent(Err(TrySendError::Full(2)))),
+            (DropReceiver, Done),
+            (TrySend(3), TrySent(Err(TrySendError::Closed(3)))),
+        ],
+    )
+}
+
+#[test]
+fn documentation_of_force_send(rt: HostRuntime) -> Result<(), Fail> {
+    run(
+        &rt,
+        Some(3),
+        &[
+            (Send(1), Sent(Ok(()))),
+            (Send(2), Sent(Ok(()))),
+            (ForceSend(3), Forced(Ok(None))),
+            (ForceSend(4), Forced(Ok(Some(1)))),
+            (Recv, Got(Ok(2))),
+            (Recv, Got(Ok(3))),
+            (Recv, Got(Ok(4))),
+            (CloseReceiver, Flag(true)),
+            (ForceSend(5), Forced(Err(SendError(5)))),
+        ],
+    )
+}
+
+#[test]
+fn documentation_of_close(rt: HostRuntime) -> Result<(), Fail> {
+    run(
+        &rt,
+        None,
+        &[
+            (Send(1), Sent(Ok(()))),
+            (CloseSender, Flag(true)),
+            (CloseReceiver, Flag(false)),
+            (Recv, Got(Ok(1))),
+            (Recv, Got(Err(RecvError))),
+            (DropReceiver, Done),
+            (AwaitClosed, Done),
+        ],
+    )
+}
+
+#[test]
+fn forced_sends_into_new_channels(rt: HostRuntime) -> Result<(), Fail> {
+    run(&rt, Some(1), &[(ForceSend(1), Forced(Ok(None)))])?;
+    run(&rt, None, &[(ForceSend(1), Forced(Ok(None)))])
+}
+
+#[test]
+fn smoke(rt: HostRuntime) -> Result<(), Fail> {
+    for capacity in [Some(1), None] {
+        run(
+            &rt,
+            capacity,
+            &[
+                (TrySend(7), TrySent(Ok(()))),
+                (TryRecv, Received(Ok(7))),
+                (Send(8), Sent(Ok(()))),
+                (Recv, Got(Ok(8))),
+                (TryRecv, Received(Err(TryRecvError::Empty))),
+            ],
+        )?;
+    }
+    Ok(())
+}
+
+#[test]
+fn smoke_blocking(rt: HostRuntime) -> Result<(), Fail> {
+    for capacity in [Some(1), None] {
+        run(
+            &rt,
+            capacity,
+            &[
+                (SendBlocking(7), Sent(Ok(()))),
+                (TryRecv, Received(Ok(7))),
+                (SendBlocking(8), Sent(Ok(()))),
+                (Recv, Got(Ok(8))),
+                (Send(9), Sent(Ok(()))),
+                (RecvBlocking, Got(Ok(9))),
+                (TryRecv, Received(Err(TryRecvError::Empty))),
+            ],
+        )?;
+    }
+    Ok(())
+}
+
+#[test]
+fn len_empty_full(rt: HostRuntime) -> Result<(), Fail> {
+    for (capacity, full_at_two) in [(Some(2), true), (None, false)] {
+        run(
+            &rt,
+            capacity,
+            &[
+                (Ask, Numbers(0, true, false, false)),
+                (Send(5), Sent(Ok(()))),
+                (Ask, Numbers(1, false, false, false)),
+                (Send(6), Sent(Ok(()))),
+                (Ask, Numbers(2, false, full_at_two, false)),
+                (Recv, Got(Ok(5))),
+                (Ask, Numbers(1, false, false, false)),
+                (Recv, Got(Ok(6))),
+                (Ask, Numbers(0, true, false, false)),
+            ],
+        )?;
+    }
+    Ok(())
+}
+
+#[test]
+fn send_after_close(rt: HostRuntime) -> Result<(), Fail> {
+    for capacity in [Some(100), None] {
+        run(
+            &rt,
+            capacity,
+            &[
+                (Send(1), Sent(Ok(()))),
+                (Send(2), Sent(Ok(()))),
+                (Send(3), Sent(Ok(()))),
+                (DropReceiver, Done),
+                (Send(4), Sent(Err(SendError(4)))),
+                (TrySend(5), TrySent(Err(TrySendError::Closed(5)))),
+                (Send(6), Sent(Err(SendError(6)))),
+            ],
+        )?;
+    }
+    Ok(())
+}
+
+#[test]
+fn recv_after_close(rt: HostRuntime) -> Result<(), Fail> {
+    for capacity in [Some(100), None] {
+        run(
+            &rt,
+            capacity,
+            &[
+                (Send(1), Sent(Ok(()))),
+                (Send(2), Sent(Ok(()))),
+                (Send(3), Sent(Ok(()))),
+                (DropSender, Done),
+                (Recv, Got(Ok(1))),
+                (Recv, Got(Ok(2))),
+                (Recv, Got(Ok(3))),
+                (Recv, Got(Err(RecvError))),
+            ],
+        )?;
+    }
+    Ok(())
+}
