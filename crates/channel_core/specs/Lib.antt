@@ -24,5 +24,3 @@ pub mod Polling
 pub mod Laws
 pub mod StandsFor
 pub mod RunSteps
-pub mod RunShown
-pub mod Runs
