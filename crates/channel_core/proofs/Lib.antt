@@ -37,3 +37,11 @@ pub mod ClosedStays
 pub mod Upgrades
 pub mod LegalAnswers
 pub mod Settling
+pub mod Entries
+pub mod Holding
+pub mod RunChanges
+pub mod RunTables
+pub mod RunPolls
+pub mod RunStreams
+pub mod RunNew
+pub mod RunNotices

@@ -24,3 +24,5 @@ pub mod Polling
 pub mod Laws
 pub mod StandsFor
 pub mod RunSteps
+pub mod RunShown
+pub mod Runs

@@ -302,6 +302,13 @@ StepsTo before step reply after =
     (IsMade before step reply after ⊎ ((may_want_memory_in before step ≡ true) × IsRefused before step OutOfMemory reply after))
     (λ refusal. IsRefused before step refusal reply after)
 
+-- What a run does at a poll, also where the refusal Borrowed guards the step: it makes it, or wants memory where it
+-- begins to wait.
+abbrev pub StepsAsAllowed : {T : Type 0} → RunView T → Step T → Reply T → RunView T → Type 0
+StepsAsAllowed before step reply after =
+    IsMade before step reply after
+    ⊎ ((polls_newcomer_in before step ≡ true) × (is_pending (reply_in before step) ≡ true) × IsRefused before step OutOfMemory reply after)
+
 -- What a run promises of a step, behind a past that stands for it: the reply is an answer, and the past after it stands for the run after it.
 pub record Answers {T : Type 0} (kind : Kind) (past : Past T) (step : Step T) (reply : Reply T) (after : RunView T) : Type 0 where
   pub answer : IsAnswer kind past step reply

@@ -6,7 +6,10 @@
 
 mod errors;
 pub mod laws;
+mod names;
+mod operations;
 mod queue;
+mod run;
 mod state;
 mod step;
 #[cfg(test)]
@@ -18,5 +21,6 @@ pub use errors::{
 };
 pub use event_list::{Bell, Quiet, Ticket};
 pub use queue::Queue;
+pub use run::{End, Run, RunError, run_all};
 pub use state::{Core, Group, Upgrade};
 pub use step::{Kind, Notice, Refusal, Reply, Side, Step, Who};

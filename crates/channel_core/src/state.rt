@@ -63,7 +63,7 @@ pub struct Core<T, W> {
 }
 
 // A copy is refused where there are more handles of its kind than this.
-const HANDLE_LIMIT: usize = usize::MAX / 2;
+pub(crate) const HANDLE_LIMIT: usize = usize::MAX / 2;
 
 impl<T, W> Model for Core<T, W> {
     ghost use Rattle.channel_core.specs.Covered.{IsCovered};

@@ -1,0 +1,85 @@
+//! Operations that were started, with the tickets of their waits.
+ghost use Rattle.std.specs.Prelude.{◌≡◌};
+ghost use Rattle.std.specs.List.{list_any};
+ghost use Rattle.std.specs.BTreeMap.{values};
+ghost use Rattle.channel_core.specs.Operations.{borrows_receiver, borrows_sender, unsent_message};
+ghost use Rattle.channel_core.specs.RunShown.{operation_shown};
+
+use event_list::Ticket;
+use std::collections::BTreeMap;
+
+/// An operation that was started and not given up. It borrows its handle all that time.
+#[derive(Drop)]
+pub(crate) enum Operation<T> {
+    /// A send, with its message until it has finished.
+    Send {
+        sender: u64,
+        message: Option<T>,
+        ticket: Option<Ticket>,
+    },
+    /// A receive.
+    Recv {
+        receiver: u64,
+        ticket: Option<Ticket>,
+    },
+    /// An operation that waits for the last receiver.
+    Closed {
+        sender: u64,
+        ticket: Option<Ticket>,
+    },
+}
+
+impl<T> Operation<T> {
+    /// Whether it borrows this sender.
+    pub(crate) fn borrows_sender(&self, name: u64) -> bool
+        ensures { result ≡ borrows_sender name (operation_shown self.now) }
+    {
+        match self {
+            Operation::Send { sender, .. } => *sender == name,
+            Operation::Recv { .. } => false,
+            Operation::Closed { sender, .. } => *sender == name,
+        }
+    }
+
+    /// The message of a send that hasn't finished.
+    pub(crate) fn into_message(self) -> Option<T>
+    where
+        T: Drop,
+        ensures { result ≡ unsent_message (operation_shown self) }
+    {
+        match self {
+            Operation::Send { message, .. } => message,
+            Operation::Recv { .. } => None,
+            Operation::Closed { .. } => None,
+        }
+    }
+
+    /// Whether it borrows this receiver.
+    pub(crate) fn borrows_receiver(&self, name: u64) -> bool
+        ensures { result ≡ borrows_receiver name (operation_shown self.now) }
+    {
+        match self {
+            Operation::Send { .. } => false,
+            Operation::Recv { receiver, .. } => *receiver == name,
+            Operation::Closed { .. } => false,
+        }
+    }
+}
+
+/// Whether a live send or closed operation borrows the sender.
+pub(crate) fn is_sender_borrowed<T>(operations: &BTreeMap<u64, Operation<T>>, name: u64) -> bool
+    ensures { result ≡ list_any (λ operation. borrows_sender name (operation_shown operation)) (values operations.now) }
+{
+    operations
+        .values()
+        .any(|operation| operation.borrows_sender(name))
+}
+
+/// Whether a live receive borrows the receiver.
+pub(crate) fn is_receiver_borrowed<T>(operations: &BTreeMap<u64, Operation<T>>, name: u64) -> bool
+    ensures { result ≡ list_any (λ operation. borrows_receiver name (operation_shown operation)) (values operations.now) }
+{
+    operations
+        .values()
+        .any(|operation| operation.borrows_receiver(name))
+}

@@ -1,0 +1,666 @@
+//! A channel with named handles and operations, and lists of steps by any parties.
+ghost use Rattle.std.specs.Prelude.{◌≡◌, ◌++◌, ℕ, [], true, Some, length, IfOk, IfErr};
+ghost use Rattle.channel_core.specs.declared.step.Kind.{Kind};
+ghost use Rattle.channel_core.specs.declared.step.Step.{Step};
+ghost use Rattle.channel_core.specs.Past.{Past};
+ghost use Rattle.channel_core.specs.Channel.{list_of};
+ghost use Rattle.channel_core.specs.Capacity.{HasPositiveCapacity};
+ghost use Rattle.channel_core.specs.Notices.{notice_of};
+ghost use Rattle.channel_core.specs.Answers.{IsAnswer, past_after};
+ghost use Rattle.channel_core.specs.StandsFor.{StandsFor};
+ghost use Rattle.channel_core.specs.Runs.{ComesTo};
+ghost use Rattle.event_list.specs.Keys.{is_among};
+ghost use Rattle.channel_core.specs.RunShown.{dropped, notice_at};
+ghost use Rattle.channel_core.specs.RunSteps.{is_handle_in, is_operation_in, StepsAsAllowed, StepsTo};
+
+use crate::errors::{NoMemory, OutOfMemory};
+use crate::names::{Names, put, take};
+use crate::operations::{Operation, is_receiver_borrowed, is_sender_borrowed};
+use crate::state::{Core, Group, HANDLE_LIMIT};
+use crate::step::{Kind, Notice, Refusal, Reply, Side, Step, Who};
+use event_list::{Quiet, Ticket};
+use std::alloc::Global;
+use std::collections::BTreeMap;
+use std::marker::Model;
+
+/// A channel with named handles and operations. It begins with sender 0 and receiver 0.
+///
+/// A step by any party is made whole, while nobody else makes one. So what a list of steps does to a run is
+/// what the parties' calls do to a channel, in any way in which they may follow one another.
+#[derive(Drop)]
+pub struct Run<T> {
+    core: Core<T, ()>,
+    senders: Names,
+    // each with the ticket of its stream's wait
+    receivers: BTreeMap<u64, Option<Ticket>>,
+    weak_senders: Names,
+    weak_receivers: Names,
+    operations: BTreeMap<u64, Operation<T>>,
+}
+
+impl<T> Model for Run<T> {
+    ghost use Rattle.channel_core.specs.StandsFor.{RunView};
+    ghost use Rattle.channel_core.specs.RunShown.{shown, IsWhole};
+
+    ghost Value = { RunView T };
+
+    ghost view = { λ run. shown run.core run.senders run.receivers.entries run.weak_senders run.weak_receivers run.operations.entries };
+
+    ghost invariant = { λ run. IsWhole run.core run.senders run.receivers.entries run.operations.entries };
+}
+
+impl<T: Drop> Run<T> {
+    /// A run of a new channel.
+    pub fn new(alloc: Global, kind: Kind) -> Result<Run<T>, OutOfMemory>
+        requires { HasPositiveCapacity kind }
+        ensures { IfOk result (λ run. StandsFor kind [] run) }
+    {
+        let core = match kind {
+            Kind::Bounded(capacity) => Core::bounded(alloc, capacity)?,
+            Kind::Unbounded => Core::unbounded(alloc),
+        };
+        let mut senders = Names::new(alloc);
+        senders.add(0)?;
+        let mut receivers = BTreeMap::new(alloc);
+        if put(&mut receivers, 0, None).is_err() {
+            return Err(OutOfMemory);
+        }
+        Ok(Run {
+            core,
+            senders,
+            receivers,
+            weak_senders: Names::new(alloc),
+            weak_receivers: Names::new(alloc),
+            operations: BTreeMap::new(alloc),
+        })
+    }
+
+    /// Makes a step, or refuses it.
+    pub fn step(&mut self, step: Step<T>) -> Reply<T>
+        ensures answer { (kind : Kind) (past : Past T) → StandsFor kind past self.old → IsAnswer kind past step result }
+        ensures stands { (kind : Kind) (past : Past T) → StandsFor kind past self.old → StandsFor kind (past_after past step result) self.new }
+    {
+        self.make(step)
+    }
+
+    /// Whether somebody waits, and was told. Who has no live name doesn't wait.
+    pub fn notice_of(&self, who: Who) -> Notice
+        ensures { (kind : Kind) (past : Past T) → StandsFor kind past self.now → result ≡ notice_of past who }
+    {
+        match who {
+            Who::Op(op) => match self.operations.get(&op) {
+                Some(Operation::Send { ticket, .. }) => notice(&self.core, Group::Sends, ticket),
+                Some(Operation::Recv { ticket, .. }) => notice(&self.core, Group::Receives, ticket),
+                Some(Operation::Closed { ticket, .. }) => notice(
+                    &self.core,
+                    Group::Closeds,
+                    ticket,
+                ),
+                None => Notice::Absent,
+            },
+            Who::Receiver(receiver) => match self.receivers.get(&receiver) {
+                Some(ticket) => notice(&self.core, Group::Streams, ticket),
+                None => Notice::Absent,
+            },
+        }
+    }
+
+    // The step that was asked for.
+    fn make(&mut self, step: Step<T>) -> Reply<T>
+        ensures { StepsTo self.old step result self.new }
+    {
+        match step {
+            Step::TrySend(sender, message) => self.try_send(sender, message),
+            Step::ForceSend(sender, message) => self.force_send(sender, message),
+            Step::TryRecv(receiver) => self.try_recv(receiver),
+            Step::Close(side) => self.close(side),
+            Step::IsClosed(side) => self.is_closed(side),
+            Step::IsEmpty(side) => self.is_empty(side),
+            Step::IsFull(side) => self.is_full(side),
+            Step::IsTerminated(receiver) => self.is_terminated(receiver),
+            Step::Len(side) => self.len(side),
+            Step::SenderCount(side) => self.sender_count(side),
+            Step::ReceiverCount(side) => self.receiver_count(side),
+            Step::Capacity(side) => self.capacity(side),
+            Step::CloneSender { of, new } => self.clone_sender(of, new),
+            Step::CloneReceiver { of, new } => self.clone_receiver(of, new),
+            Step::CloneWeakSender { of, new } => self.clone_weak_sender(of, new),
+            Step::CloneWeakReceiver { of, new } => self.clone_weak_receiver(of, new),
+            Step::DowngradeSender { of, new } => self.downgrade_sender(of, new),
+            Step::DowngradeReceiver { of, new } => self.downgrade_receiver(of, new),
+            Step::UpgradeSender { of, new } => self.upgrade_sender(of, new),
+            Step::UpgradeReceiver { of, new } => self.upgrade_receiver(of, new),
+            Step::DropSender(name) => self.drop_sender(name),
+            Step::DropReceiver(name) => self.drop_receiver(name),
+            Step::DropWeakSender(name) => self.drop_weak_sender(name),
+            Step::DropWeakReceiver(name) => self.drop_weak_receiver(name),
+            Step::StartSend { op, sender, msg } => self.start_send(op, sender, msg),
+            Step::StartRecv { op, receiver } => self.start_recv(op, receiver),
+            Step::StartClosed { op, sender } => self.start_closed(op, sender),
+            Step::Poll(op) => self.poll(op),
+            Step::PollNext(receiver) => self.poll_next(receiver),
+            Step::DropOp(op) => self.drop_op(op),
+        }
+    }
+
+    fn has_handle(&self, side: Side) -> bool
+        ensures { result ≡ is_handle_in self.now side }
+    {
+        match side {
+            Side::Sender(name) => self.senders.has(name),
+            Side::Receiver(name) => self.has_receiver(name),
+        }
+    }
+
+    fn has_receiver(&self, name: u64) -> bool
+        ensures { result ≡ is_among name self.now.receivers }
+    {
+        self.receivers.contains_key(&name)
+    }
+
+    fn has_operation(&self, op: u64) -> bool
+        ensures { result ≡ is_operation_in self.now op }
+    {
+        self.operations.contains_key(&op)
+    }
+
+    fn try_send(&mut self, sender: u64, message: T) -> Reply<T>
+        ensures { StepsTo self.old (Step.TrySend sender message) result self.new }
+    {
+        if !self.senders.has(sender) {
+            return Reply::Refused(Refusal::Unknown, Some(message));
+        }
+        match self.core.try_send(message, &mut Quiet) {
+            Ok(answer) => Reply::TrySent(answer),
+            Err(NoMemory(message)) => Reply::Refused(Refusal::OutOfMemory, Some(message)),
+        }
+    }
+
+    fn force_send(&mut self, sender: u64, message: T) -> Reply<T>
+        ensures { StepsTo self.old (Step.ForceSend sender message) result self.new }
+    {
+        if !self.senders.has(sender) {
+            return Reply::Refused(Refusal::Unknown, Some(message));
+        }
+        match self.core.force_send(message, &mut Quiet) {
+            Ok(answer) => Reply::Forced(answer),
+            Err(NoMemory(message)) => Reply::Refused(Refusal::OutOfMemory, Some(message)),
+        }
+    }
+
+    fn try_recv(&mut self, receiver: u64) -> Reply<T>
+        ensures { StepsTo self.old (Step.TryRecv receiver) result self.new }
+    {
+        if !self.has_receiver(receiver) {
+            return Reply::Refused(Refusal::Unknown, None);
+        }
+        Reply::Received(self.core.try_recv(&mut Quiet))
+    }
+
+    fn close(&mut self, side: Side) -> Reply<T>
+        ensures { StepsTo self.old (Step.Close side) result self.new }
+    {
+        if !self.has_handle(side) {
+            return Reply::Refused(Refusal::Unknown, None);
+        }
+        Reply::Flag(self.core.close(&mut Quiet))
+    }
+
+    fn is_closed(&self, side: Side) -> Reply<T>
+        ensures { StepsTo self.now (Step.IsClosed side) result self.now }
+    {
+        if !self.has_handle(side) {
+            return Reply::Refused(Refusal::Unknown, None);
+        }
+        Reply::Flag(self.core.is_closed())
+    }
+
+    fn is_empty(&self, side: Side) -> Reply<T>
+        ensures { StepsTo self.now (Step.IsEmpty side) result self.now }
+    {
+        if !self.has_handle(side) {
+            return Reply::Refused(Refusal::Unknown, None);
+        }
+        Reply::Flag(self.core.is_empty())
+    }
+
+    fn is_full(&self, side: Side) -> Reply<T>
+        ensures { StepsTo self.now (Step.IsFull side) result self.now }
+    {
+        if !self.has_handle(side) {
+            return Reply::Refused(Refusal::Unknown, None);
+        }
+        Reply::Flag(self.core.is_full())
+    }
+
+    fn is_terminated(&self, receiver: u64) -> Reply<T>
+        ensures { StepsTo self.now (Step.IsTerminated receiver) result self.now }
+    {
+        if !self.has_receiver(receiver) {
+            return Reply::Refused(Refusal::Unknown, None);
+        }
+        Reply::Flag(self.core.is_terminated())
+    }
+
+    fn len(&self, side: Side) -> Reply<T>
+        ensures { StepsTo self.now (Step.Len side) result self.now }
+    {
+        if !self.has_handle(side) {
+            return Reply::Refused(Refusal::Unknown, None);
+        }
+        Reply::Count(self.core.len())
+    }
+
+    fn sender_count(&self, side: Side) -> Reply<T>
+        ensures { StepsTo self.now (Step.SenderCount side) result self.now }
+    {
+        if !self.has_handle(side) {
+            return Reply::Refused(Refusal::Unknown, None);
+        }
+        Reply::Count(self.core.sender_count())
+    }
+
+    fn receiver_count(&self, side: Side) -> Reply<T>
+        ensures { StepsTo self.now (Step.ReceiverCount side) result self.now }
+    {
+        if !self.has_handle(side) {
+            return Reply::Refused(Refusal::Unknown, None);
+        }
+        Reply::Count(self.core.receiver_count())
+    }
+
+    fn capacity(&self, side: Side) -> Reply<T>
+        ensures { StepsTo self.now (Step.Capacity side) result self.now }
+    {
+        if !self.has_handle(side) {
+            return Reply::Refused(Refusal::Unknown, None);
+        }
+        Reply::Capacity(self.core.capacity())
+    }
+
+    fn clone_sender(&mut self, of: u64, new: u64) -> Reply<T>
+        ensures { StepsTo self.old (Step.CloneSender of new) result self.new }
+    {
+        if !self.senders.has(of) {
+            return Reply::Refused(Refusal::Unknown, None);
+        }
+        if self.senders.has(new) {
+            return Reply::Refused(Refusal::Taken, None);
+        }
+        if self.core.sender_count() > HANDLE_LIMIT {
+            return Reply::Refused(Refusal::TooMany, None);
+        }
+        if self.senders.add(new).is_err() {
+            return Reply::Refused(Refusal::OutOfMemory, None);
+        }
+        self.core.add_sender();
+        Reply::Done
+    }
+
+    fn clone_receiver(&mut self, of: u64, new: u64) -> Reply<T>
+        ensures { StepsTo self.old (Step.CloneReceiver of new) result self.new }
+    {
+        if !self.has_receiver(of) {
+            return Reply::Refused(Refusal::Unknown, None);
+        }
+        if self.has_receiver(new) {
+            return Reply::Refused(Refusal::Taken, None);
+        }
+        if self.core.receiver_count() > HANDLE_LIMIT {
+            return Reply::Refused(Refusal::TooMany, None);
+        }
+        if put(&mut self.receivers, new, None).is_err() {
+            return Reply::Refused(Refusal::OutOfMemory, None);
+        }
+        self.core.add_receiver();
+        Reply::Done
+    }
+
+    fn clone_weak_sender(&mut self, of: u64, new: u64) -> Reply<T>
+        ensures { StepsTo self.old (Step.CloneWeakSender of new) result self.new }
+    {
+        if !self.weak_senders.has(of) {
+            return Reply::Refused(Refusal::Unknown, None);
+        }
+        self.add_weak_sender(new)
+    }
+
+    fn clone_weak_receiver(&mut self, of: u64, new: u64) -> Reply<T>
+        ensures { StepsTo self.old (Step.CloneWeakReceiver of new) result self.new }
+    {
+        if !self.weak_receivers.has(of) {
+            return Reply::Refused(Refusal::Unknown, None);
+        }
+        self.add_weak_receiver(new)
+    }
+
+    fn downgrade_sender(&mut self, of: u64, new: u64) -> Reply<T>
+        ensures { StepsTo self.old (Step.DowngradeSender of new) result self.new }
+    {
+        if !self.senders.has(of) {
+            return Reply::Refused(Refusal::Unknown, None);
+        }
+        self.add_weak_sender(new)
+    }
+
+    fn downgrade_receiver(&mut self, of: u64, new: u64) -> Reply<T>
+        ensures { StepsTo self.old (Step.DowngradeReceiver of new) result self.new }
+    {
+        if !self.has_receiver(of) {
+            return Reply::Refused(Refusal::Unknown, None);
+        }
+        self.add_weak_receiver(new)
+    }
+
+    fn upgrade_sender(&mut self, of: u64, new: u64) -> Reply<T>
+        ensures { StepsTo self.old (Step.UpgradeSender of new) result self.new }
+    {
+        if !self.weak_senders.has(of) {
+            return Reply::Refused(Refusal::Unknown, None);
+        }
+        if self.senders.has(new) {
+            return Reply::Refused(Refusal::Taken, None);
+        }
+        if self.core.is_closed() {
+            return Reply::Upgraded(false);
+        }
+        if self.core.sender_count() > HANDLE_LIMIT {
+            return Reply::Refused(Refusal::TooMany, None);
+        }
+        if self.senders.add(new).is_err() {
+            return Reply::Refused(Refusal::OutOfMemory, None);
+        }
+        self.core.upgrade_sender();
+        Reply::Upgraded(true)
+    }
+
+    fn upgrade_receiver(&mut self, of: u64, new: u64) -> Reply<T>
+        ensures { StepsTo self.old (Step.UpgradeReceiver of new) result self.new }
+    {
+        if !self.weak_receivers.has(of) {
+            return Reply::Refused(Refusal::Unknown, None);
+        }
+        if self.has_receiver(new) {
+            return Reply::Refused(Refusal::Taken, None);
+        }
+        if self.core.is_closed() {
+            return Reply::Upgraded(false);
+        }
+        if self.core.receiver_count() > HANDLE_LIMIT {
+            return Reply::Refused(Refusal::TooMany, None);
+        }
+        if put(&mut self.receivers, new, None).is_err() {
+            return Reply::Refused(Refusal::OutOfMemory, None);
+        }
+        self.core.upgrade_receiver();
+        Reply::Upgraded(true)
+    }
+
+    fn drop_sender(&mut self, name: u64) -> Reply<T>
+        ensures { StepsTo self.old (Step.DropSender name) result self.new }
+    {
+        if !self.senders.has(name) {
+            return Reply::Refused(Refusal::Unknown, None);
+        }
+        if is_sender_borrowed(&self.operations, name) {
+            return Reply::Refused(Refusal::Borrowed, None);
+        }
+        self.senders.remove(name);
+        self.core.drop_sender(&mut Quiet);
+        Reply::Done
+    }
+
+    fn drop_receiver(&mut self, name: u64) -> Reply<T>
+        ensures { StepsTo self.old (Step.DropReceiver name) result self.new }
+    {
+        if !self.has_receiver(name) {
+            return Reply::Refused(Refusal::Unknown, None);
+        }
+        if is_receiver_borrowed(&self.operations, name) {
+            return Reply::Refused(Refusal::Borrowed, None);
+        }
+        let mut ticket = take(&mut self.receivers, name).flatten();
+        self.core.drop_receiver(&mut ticket, &mut Quiet);
+        Reply::Done
+    }
+
+    fn drop_weak_sender(&mut self, name: u64) -> Reply<T>
+        ensures { StepsTo self.old (Step.DropWeakSender name) result self.new }
+    {
+        if !self.weak_senders.has(name) {
+            return Reply::Refused(Refusal::Unknown, None);
+        }
+        self.weak_senders.remove(name);
+        Reply::Done
+    }
+
+    fn drop_weak_receiver(&mut self, name: u64) -> Reply<T>
+        ensures { StepsTo self.old (Step.DropWeakReceiver name) result self.new }
+    {
+        if !self.weak_receivers.has(name) {
+            return Reply::Refused(Refusal::Unknown, None);
+        }
+        self.weak_receivers.remove(name);
+        Reply::Done
+    }
+
+    fn start_send(&mut self, op: u64, sender: u64, message: T) -> Reply<T>
+        ensures { StepsTo self.old (Step.StartSend op sender message) result self.new }
+    {
+        if !self.senders.has(sender) {
+            return Reply::Refused(Refusal::Unknown, Some(message));
+        }
+        if self.has_operation(op) {
+            return Reply::Refused(Refusal::Taken, Some(message));
+        }
+        let operation = Operation::Send {
+            sender,
+            message: Some(message),
+            ticket: None,
+        };
+        match put(&mut self.operations, op, operation) {
+            Ok(()) => Reply::Done,
+            Err(operation) => Reply::Refused(Refusal::OutOfMemory, operation.into_message()),
+        }
+    }
+
+    fn start_recv(&mut self, op: u64, receiver: u64) -> Reply<T>
+        ensures { StepsTo self.old (Step.StartRecv op receiver) result self.new }
+    {
+        if !self.has_receiver(receiver) {
+            return Reply::Refused(Refusal::Unknown, None);
+        }
+        if self.has_operation(op) {
+            return Reply::Refused(Refusal::Taken, None);
+        }
+        let operation = Operation::Recv {
+            receiver,
+            ticket: None,
+        };
+        match put(&mut self.operations, op, operation) {
+            Ok(()) => Reply::Done,
+            Err(_) => Reply::Refused(Refusal::OutOfMemory, None),
+        }
+    }
+
+    fn start_closed(&mut self, op: u64, sender: u64) -> Reply<T>
+        ensures { StepsTo self.old (Step.StartClosed op sender) result self.new }
+    {
+        if !self.senders.has(sender) {
+            return Reply::Refused(Refusal::Unknown, None);
+        }
+        if self.has_operation(op) {
+            return Reply::Refused(Refusal::Taken, None);
+        }
+        let operation = Operation::Closed {
+            sender,
+            ticket: None,
+        };
+        match put(&mut self.operations, op, operation) {
+            Ok(()) => Reply::Done,
+            Err(_) => Reply::Refused(Refusal::OutOfMemory, None),
+        }
+    }
+
+    fn poll(&mut self, op: u64) -> Reply<T>
+        ensures { StepsTo self.old (Step.Poll op) result self.new }
+    {
+        let Some(operation) = self.operations.get_mut(&op) else {
+            return Reply::Refused(Refusal::Unknown, None);
+        };
+        match operation {
+            Operation::Send {
+                message,
+                ticket,
+                ..
+            } => {
+                match self.core.poll_send(message, ticket, (), &mut Quiet) {
+                    Ok(poll) => Reply::SendPolled(poll),
+                    Err(OutOfMemory) => Reply::Refused(Refusal::OutOfMemory, None),
+                }
+            }
+            Operation::Recv { ticket, .. } => {
+                match self.core.poll_recv(ticket, (), &mut Quiet) {
+                    Ok(poll) => Reply::RecvPolled(poll),
+                    Err(OutOfMemory) => Reply::Refused(Refusal::OutOfMemory, None),
+                }
+            }
+            Operation::Closed { ticket, .. } => match self.core.poll_closed(ticket, ()) {
+                Ok(poll) => Reply::ClosedPolled(poll),
+                Err(OutOfMemory) => Reply::Refused(Refusal::OutOfMemory, None),
+            },
+        }
+    }
+
+    fn poll_next(&mut self, receiver: u64) -> Reply<T>
+        ensures { StepsTo self.old (Step.PollNext receiver) result self.new }
+    {
+        if !self.has_receiver(receiver) {
+            return Reply::Refused(Refusal::Unknown, None);
+        }
+        if is_receiver_borrowed(&self.operations, receiver) {
+            return Reply::Refused(Refusal::Borrowed, None);
+        }
+        self.poll_stream(receiver)
+    }
+
+    fn drop_op(&mut self, op: u64) -> Reply<T>
+        ensures { StepsTo self.old (Step.DropOp op) result self.new }
+    {
+        let Some(operation) = take(&mut self.operations, op) else {
+            return Reply::Refused(Refusal::Unknown, None);
+        };
+        cancel(&mut self.core, operation);
+        Reply::Done
+    }
+
+    // Makes the name of a weak sender.
+    fn add_weak_sender(&mut self, new: u64) -> Reply<T>
+        ensures copied { (of : ℕ) → is_among of self.old.weak_senders ≡ true → StepsTo self.old (Step.CloneWeakSender of new) result self.new }
+        ensures downgraded { (of : ℕ) → is_among of self.old.senders ≡ true → StepsTo self.old (Step.DowngradeSender of new) result self.new }
+    {
+        if self.weak_senders.has(new) {
+            return Reply::Refused(Refusal::Taken, None);
+        }
+        match self.weak_senders.add(new) {
+            Ok(()) => Reply::Done,
+            Err(OutOfMemory) => Reply::Refused(Refusal::OutOfMemory, None),
+        }
+    }
+
+    // Makes the name of a weak receiver.
+    fn add_weak_receiver(&mut self, new: u64) -> Reply<T>
+        ensures copied { (of : ℕ) → is_among of self.old.weak_receivers ≡ true → StepsTo self.old (Step.CloneWeakReceiver of new) result self.new }
+        ensures downgraded { (of : ℕ) → is_among of self.old.receivers ≡ true → StepsTo self.old (Step.DowngradeReceiver of new) result self.new }
+    {
+        if self.weak_receivers.has(new) {
+            return Reply::Refused(Refusal::Taken, None);
+        }
+        match self.weak_receivers.add(new) {
+            Ok(()) => Reply::Done,
+            Err(OutOfMemory) => Reply::Refused(Refusal::OutOfMemory, None),
+        }
+    }
+
+    // Polls the stream of a receiver that is live.
+    fn poll_stream(&mut self, receiver: u64) -> Reply<T>
+        requires { is_among receiver self.old.receivers ≡ true }
+        ensures { StepsAsAllowed self.old (Step.PollNext receiver) result self.new }
+    {
+        let Some(ticket) = self.receivers.get_mut(&receiver) else {
+            return Reply::Refused(Refusal::Unknown, None);
+        };
+        match self.core.poll_next(ticket, (), &mut Quiet) {
+            Ok(poll) => Reply::NextPolled(poll),
+            Err(OutOfMemory) => Reply::Refused(Refusal::OutOfMemory, None),
+        }
+    }
+}
+
+// Whether the entry of a ticket waits, and was told.
+fn notice<T: Drop>(core: &Core<T, ()>, group: Group, ticket: &Option<Ticket>) -> Notice
+    ensures { result ≡ notice_at ticket.now (list_of group core.now) }
+{
+    let Some(ticket) = ticket else {
+        return Notice::Absent;
+    };
+    match core.is_told(group, ticket) {
+        Some(told) => { if told { Notice::Told } else { Notice::Untold } }
+        None => Notice::Absent,
+    }
+}
+
+// Gives up an operation's wait.
+fn cancel<T: Drop>(core: &mut Core<T, ()>, operation: Operation<T>)
+    ensures { core.new ≡ dropped core.old (Some operation) }
+{
+    match operation {
+        Operation::Send {
+            message: _message,
+            mut ticket,
+            ..
+        } => core.cancel_send(&mut ticket, &mut Quiet),
+        Operation::Recv { mut ticket, .. } => core.cancel_recv(&mut ticket, &mut Quiet),
+        Operation::Closed { mut ticket, .. } => core.cancel_closed(&mut ticket),
+    }
+}
+
+/// What a list of steps came to.
+#[derive(Drop)]
+pub struct End<T> {
+    /// One reply a step, in order.
+    pub replies: Vec<Reply<T>>,
+    /// The run behind the last step.
+    pub run: Run<T>,
+}
+
+/// Memory was refused before the first step. The steps come back.
+#[derive(Drop)]
+pub struct RunError<T>(pub Vec<Step<T>>);
+
+/// Makes the steps in turn, in a run of a new channel.
+pub fn run_all<T: Drop>(
+    alloc: Global,
+    kind: Kind,
+    steps: Vec<Step<T>>,
+) -> Result<End<T>, RunError<T>>
+    requires { HasPositiveCapacity kind }
+    ensures made { IfOk result (λ end. ComesTo kind steps.items end.replies.items end.run) }
+    ensures count { IfOk result (λ end. length end.replies.items ≡ length steps.items) }
+    ensures refused { IfErr result (λ error. error.0 ≡ steps) }
+{
+    let Ok(mut replies) = Vec::with_capacity(alloc, steps.len()) else {
+        return Err(RunError(steps));
+    };
+    let Ok(mut run) = Run::new(alloc, kind) else {
+        return Err(RunError(steps));
+    };
+    for step in steps {
+        let reply = run.step(step);
+        match replies.push(reply) {
+            Ok(()) => {}
+            Err(_) => unreachable!(),
+        }
+    }
+    Ok(End { replies, run })
+}

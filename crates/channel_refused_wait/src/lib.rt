@@ -1,0 +1,5 @@
+//! A wait that is refused for want of memory, seen with an allocation that fails.
+#![tactic(auto)]
+
+#[cfg(test)]
+mod tests;

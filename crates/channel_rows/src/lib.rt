@@ -1,0 +1,5 @@
+//! Worked rows: lists of steps on a channel, with the reply to each.
+#![tactic(auto)]
+
+#[cfg(test)]
+mod tests;
