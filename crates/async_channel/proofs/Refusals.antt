@@ -1,11 +1,11 @@
 -- What a refused send hands back, by the answers of a core.
 use Rattle.std.proofs.Common.{◌≡◌, Bool, true, false, Option, Some, Result, Ok, Err, IfOk, IfErr, refl}
 use Rattle.futures.specs.declared.task.Poll.TheVariants.{Ready}
-use Rattle.channel_core.specs.declared.errors.NoMemory.{NoMemory}
-use Rattle.channel_core.specs.declared.errors.SendError.{SendError}
-use Rattle.channel_core.specs.declared.errors.TrySendError.{TrySendError}
-use Rattle.channel_core.specs.Errors.{message_of}
-use Rattle.channel_core.specs.Tables.{try_send_answer, force_send_answer, send_poll}
+use Rattle.channel_model.specs.declared.errors.NoMemory.{NoMemory}
+use Rattle.channel_model.specs.declared.errors.SendError.{SendError}
+use Rattle.channel_model.specs.declared.errors.TrySendError.{TrySendError}
+use Rattle.channel_model.specs.Errors.{message_of}
+use Rattle.channel_model.specs.Tables.{try_send_answer, force_send_answer, send_poll}
 
 module _ {T : Type 0} where
   try_send_answer-hands_back : (closed full : Bool) (message : T)

@@ -1,7 +1,7 @@
 -- What contracts see of handles and operations.
 use Rattle.std.specs.Prelude.{◌≡◌, ⊤, ℕ, Bool, List, Option, Some, None, Result, Ok, Err}
-use Rattle.channel_core.specs.declared.errors.SendError.{SendError}
-use Rattle.channel_core.specs.declared.errors.OutOfMemory.{OutOfMemory}
+use Rattle.channel_model.specs.declared.errors.SendError.{SendError}
+use Rattle.channel_model.specs.declared.errors.OutOfMemory.{OutOfMemory}
 use Rattle.async_channel.specs.Stamps.{TagView}
 
 -- A handle: its tag, and the name of the source that tasks wait for at its channel.

@@ -9,10 +9,10 @@ use Rattle.std.specs.declared.cmp.Ordering.TheVariants.{Less, Equal, Greater}
 use Rattle.std.proofs.lemmas.Bool.{eqb-true, eq-eqb}
 use Rattle.event_list.specs.Keys.{AreDifferent, is_among}
 use Rattle.channel_core.specs.declared.operations.Operation.{Operation as Started}
-use Rattle.channel_core.specs.Operations.{Operation, operation_in}
+use Rattle.channel_model.specs.Operations.{Operation, operation_in}
 use Rattle.channel_core.specs.RunShown.{entry_at, operation_shown}
-use Rattle.channel_core.proofs.NameLists.{both_false}
-use Rattle.channel_core.proofs.LookUps.{look_up-cons}
+use Rattle.channel_model.proofs.NameLists.{both_false}
+use Rattle.channel_model.proofs.LookUps.{look_up-cons}
 
 -- one comparison, two spellings
 pub is_eq-nat_cmp : (a b : ℕ) → is_eq (nat_cmp a b) ≡ (b == a)

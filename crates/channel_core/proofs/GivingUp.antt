@@ -1,13 +1,13 @@
 -- What a change of a roster comes to for one who is told, who is untold, or who isn't there; and operations that are given up, by their kind.
 use Rattle.std.proofs.Common.{◌≡◌, ℕ, List, Bool, true, false, cond, Some, None, Option, refl, sym, ◌∙◌, ap}
-use Rattle.channel_core.specs.declared.step.Step.TheVariants.{DropOp}
-use Rattle.channel_core.specs.declared.step.Reply.TheVariants.{Done}
+use Rattle.channel_model.specs.declared.step.Step.TheVariants.{DropOp}
+use Rattle.channel_model.specs.declared.step.Reply.TheVariants.{Done}
 use Rattle.event_list.specs.Keys.{is_among}
-use Rattle.channel_core.specs.Operations.{awaiting_close, is_awaiting, is_receive, is_unsent, operation_in, receiving, sending, without_operation}
-use Rattle.channel_core.specs.Rosters.{Roster, Rosters, arrive, hand_on, is_told, leave, tell_one, wait}
+use Rattle.channel_model.specs.Operations.{awaiting_close, is_awaiting, is_receive, is_unsent, operation_in, receiving, sending, without_operation}
+use Rattle.channel_model.specs.Rosters.{Roster, Rosters, arrive, hand_on, is_told, leave, tell_one, wait}
 use Rattle.channel_core.specs.StandsFor.{RunView}
 use Rattle.channel_core.specs.RunSteps.{IsMade}
-use Rattle.channel_core.proofs.NameLists.{is_among-take, without-absent}
+use Rattle.channel_model.proofs.NameLists.{is_among-take, without-absent}
 use Rattle.channel_core.proofs.RunWants.{AreLiveIn, absent_if}
 use Rattle.channel_core.proofs.MadeSteps.{is_made, told}
 

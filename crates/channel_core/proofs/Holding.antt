@@ -9,12 +9,12 @@ use Rattle.event_list.specs.Keys.{AreDifferent, is_among}
 use Rattle.event_list.specs.Waiting.{Waiting, cancelled, joined, keys, renewed, repaid, told_all, told_count, told_one, untold_keys}
 use Rattle.event_list.specs.Waiting as waiting
 use Rattle.event_list.proofs.Splits.{is_among-append, absent_left, different-push}
-use Rattle.channel_core.specs.Handles.{without}
-use Rattle.channel_core.specs.Rosters.{Roster, arrive, hand_on, is_told, leave, tell_all, tell_one, wait}
+use Rattle.channel_model.specs.Handles.{without}
+use Rattle.channel_model.specs.Rosters.{Roster, arrive, hand_on, is_told, leave, tell_all, tell_one, wait}
 use Rattle.channel_core.specs.Tickets.{Waits, handed_on, left, waiting_again, waits}
 use Rattle.channel_core.specs.RunShown.{AreHeld, has_key, name_of, roster_of}
-use Rattle.channel_core.proofs.NameLists.{AreDifferent-without, is_among-without_same, length-without}
-use Rattle.channel_core.proofs.WhoWaits.{is_among-without_other}
+use Rattle.channel_model.proofs.NameLists.{AreDifferent-without, is_among-without_same, length-without}
+use Rattle.channel_model.proofs.WhoWaits.{is_among-without_other}
 use Rattle.channel_core.proofs.KeyedRosters.{AreKeyed, IsKeyed, is_among-no_key, is_told-keyed, leave-keyed, hand_on-keyed, wait-keyed, tell_one-keyed, tell_all-keyed, AreKeyed-other, arrive-keyed}
 use Rattle.channel_core.proofs.GivingUp.{leave-absent, hand_on-absent, wait-when_absent}
 

@@ -3,11 +3,11 @@ use Rattle.std.proofs.Common.{◌≡◌, ℕ, zero, suc, List, [], ◌∷◌, Bo
 use Rattle.std.proofs.lemmas.Bool.{eqb-true, eq-eqb, or_right}
 use Rattle.std.proofs.lemmas.List.{map-append}
 use Rattle.std.specs.Prelude.{slice_get}
-use Rattle.channel_core.specs.declared.step.Notice.TheVariants.{Absent, Untold, Told}
+use Rattle.channel_model.specs.declared.step.Notice.TheVariants.{Absent, Untold, Told}
 use Rattle.event_list.specs.Keys.{AreDifferent, is_among}
-use Rattle.channel_core.specs.Handles.{without}
-use Rattle.channel_core.specs.Rosters.{Roster, arrive, hand_on, is_told, leave, notice_in, tell_all, tell_one, told_names, wait}
-use Rattle.channel_core.proofs.NameLists.{left_false, right_false}
+use Rattle.channel_model.specs.Handles.{without}
+use Rattle.channel_model.specs.Rosters.{Roster, arrive, hand_on, is_told, leave, notice_in, tell_all, tell_one, told_names, wait}
+use Rattle.channel_model.proofs.NameLists.{left_false, right_false}
 
 -- Each name has the key that stands in its place.
 abbrev pub AreKeyed : (ℕ → Option ℕ) → List ℕ → List ℕ → Type 0

@@ -2,19 +2,19 @@
 use Rattle.std.proofs.Common.{◌≡◌, ℕ, ◌<◌, List, [], ◌∷◌, Bool, true, false, not, ◌||◌, ◌==◌, cond, Some, Option, refl, sym, ◌∙◌, ap, subst, length}
 use Rattle.std.specs.Prelude.{is_some}
 use Rattle.futures.specs.declared.task.Poll.TheVariants.{Ready}
-use Rattle.channel_core.specs.declared.step.Kind.{Kind}
-use Rattle.channel_core.specs.declared.step.Step.TheVariants.{CloneSender, CloneReceiver, CloneWeakSender, CloneWeakReceiver, DowngradeSender, DowngradeReceiver, UpgradeSender, UpgradeReceiver, DropSender, DropReceiver, DropWeakSender, DropWeakReceiver, StartSend, StartRecv, StartClosed, Poll, DropOp}
-use Rattle.channel_core.specs.declared.step.Reply.TheVariants.{Upgraded, SendPolled}
+use Rattle.channel_model.specs.declared.step.Kind.{Kind}
+use Rattle.channel_model.specs.declared.step.Step.TheVariants.{CloneSender, CloneReceiver, CloneWeakSender, CloneWeakReceiver, DowngradeSender, DowngradeReceiver, UpgradeSender, UpgradeReceiver, DropSender, DropReceiver, DropWeakSender, DropWeakReceiver, StartSend, StartRecv, StartClosed, Poll, DropOp}
+use Rattle.channel_model.specs.declared.step.Reply.TheVariants.{Upgraded, SendPolled}
 use Rattle.event_list.specs.Keys.{AreDifferent, is_among}
-use Rattle.channel_core.specs.Past.{Past}
-use Rattle.channel_core.specs.Handles.{live_receivers, live_senders, live_weak_receivers, live_weak_senders, without}
-use Rattle.channel_core.specs.Operations.{Operation, finished, live_operations, names_of, with_finished, without_operation}
-use Rattle.channel_core.specs.Closing.{is_closed}
-use Rattle.channel_core.specs.Legal.{IsLegal}
-use Rattle.channel_core.proofs.NameLists.{AreDifferent-without}
-use Rattle.channel_core.proofs.LookUps.{look_up, look_up-cons}
-use Rattle.channel_core.proofs.WhoWaits.{allowed}
-use Rattle.channel_core.proofs.CoveredSteps.{IsCovered-IsLegal}
+use Rattle.channel_model.specs.Past.{Past}
+use Rattle.channel_model.specs.Handles.{live_receivers, live_senders, live_weak_receivers, live_weak_senders, without}
+use Rattle.channel_model.specs.Operations.{Operation, finished, live_operations, names_of, with_finished, without_operation}
+use Rattle.channel_model.specs.Closing.{is_closed}
+use Rattle.channel_model.specs.Legal.{IsLegal}
+use Rattle.channel_model.proofs.NameLists.{AreDifferent-without}
+use Rattle.channel_model.proofs.LookUps.{look_up, look_up-cons}
+use Rattle.channel_model.proofs.WhoWaits.{allowed}
+use Rattle.channel_model.proofs.CoveredSteps.{IsCovered-IsLegal}
 
 -- each sender's name stands once
 pub live_senders-AreDifferent : {T : Type 0} (kind : Kind) (past : Past T) → IsLegal kind past → AreDifferent (live_senders past)

@@ -2,21 +2,21 @@
 use Rattle.std.proofs.Common.{◌≡◌, ℕ, [], ◌∷◌, ◌++◌, Bool, true, false, not, ◌||◌, ◌&&◌, cond, Some, None, Ok, Err, Option, refl, sym, ◌∙◌, ap, length, drop}
 use Rattle.std.specs.Prelude.{slice_get, option_and_then}
 use Rattle.futures.specs.declared.task.Poll.TheVariants.{Ready, Pending}
-use Rattle.channel_core.specs.declared.errors.TrySendError.TheVariants.{Full, Closed}
-use Rattle.channel_core.specs.declared.errors.TryRecvError.TheVariants.{Empty, Closed}
-use Rattle.channel_core.specs.declared.step.Side.{Side}
-use Rattle.channel_core.specs.declared.step.Step.{Step}
-use Rattle.channel_core.specs.declared.step.Step.TheVariants.{TrySend, ForceSend, TryRecv, Close, IsClosed, IsEmpty, IsFull, IsTerminated, Len, SenderCount, ReceiverCount, Capacity, CloneSender, CloneReceiver, CloneWeakSender, CloneWeakReceiver, DowngradeSender, DowngradeReceiver, UpgradeSender, UpgradeReceiver, DropSender, DropReceiver, DropWeakSender, DropWeakReceiver, StartSend, StartRecv, StartClosed, Poll, PollNext, DropOp}
-use Rattle.channel_core.specs.declared.step.Reply.{Reply}
-use Rattle.channel_core.specs.declared.step.Reply.TheVariants.{TrySent, Forced, Received, Flag, Count, Capacity, Done, Upgraded, SendPolled, RecvPolled, ClosedPolled, NextPolled}
-use Rattle.channel_core.specs.Handles.{without}
-use Rattle.channel_core.specs.Operations.{Operation, awaiting_close, is_finished_send, operation_in, receiving, sending, unsent_message, with_finished, without_operation}
-use Rattle.channel_core.specs.Messages.{with_last}
-use Rattle.channel_core.specs.Closing.{has_none}
-use Rattle.channel_core.specs.Tables.{send_error}
-use Rattle.channel_core.specs.Replies.{force_send_reply, poll_closed_reply, poll_next_reply, poll_recv_reply, poll_reply, poll_send_reply, try_recv_reply, try_send_reply}
-use Rattle.channel_core.specs.Rosters.{Rosters, hand_on, leave, tell_all, tell_one, wait}
-use Rattle.channel_core.specs.Notices.{after_accepting, after_closing, after_last_receiver}
+use Rattle.channel_model.specs.declared.errors.TrySendError.TheVariants.{Full, Closed}
+use Rattle.channel_model.specs.declared.errors.TryRecvError.TheVariants.{Empty, Closed}
+use Rattle.channel_model.specs.declared.step.Side.{Side}
+use Rattle.channel_model.specs.declared.step.Step.{Step}
+use Rattle.channel_model.specs.declared.step.Step.TheVariants.{TrySend, ForceSend, TryRecv, Close, IsClosed, IsEmpty, IsFull, IsTerminated, Len, SenderCount, ReceiverCount, Capacity, CloneSender, CloneReceiver, CloneWeakSender, CloneWeakReceiver, DowngradeSender, DowngradeReceiver, UpgradeSender, UpgradeReceiver, DropSender, DropReceiver, DropWeakSender, DropWeakReceiver, StartSend, StartRecv, StartClosed, Poll, PollNext, DropOp}
+use Rattle.channel_model.specs.declared.step.Reply.{Reply}
+use Rattle.channel_model.specs.declared.step.Reply.TheVariants.{TrySent, Forced, Received, Flag, Count, Capacity, Done, Upgraded, SendPolled, RecvPolled, ClosedPolled, NextPolled}
+use Rattle.channel_model.specs.Handles.{without}
+use Rattle.channel_model.specs.Operations.{Operation, awaiting_close, is_finished_send, operation_in, receiving, sending, unsent_message, with_finished, without_operation}
+use Rattle.channel_model.specs.Messages.{with_last}
+use Rattle.channel_model.specs.Closing.{has_none}
+use Rattle.channel_model.specs.Tables.{send_error}
+use Rattle.channel_model.specs.Replies.{force_send_reply, poll_closed_reply, poll_next_reply, poll_recv_reply, poll_reply, poll_send_reply, try_recv_reply, try_send_reply}
+use Rattle.channel_model.specs.Rosters.{Rosters, hand_on, leave, tell_all, tell_one, wait}
+use Rattle.channel_model.specs.Notices.{after_accepting, after_closing, after_last_receiver}
 use Rattle.channel_core.specs.StandsFor.{RunView}
 use Rattle.channel_core.specs.RunSteps.{AreAlike, IsMade, after_step, is_full_in, reply_in}
 use Rattle.channel_core.proofs.SameNames.{AreSameNames-refl}

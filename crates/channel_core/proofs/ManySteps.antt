@@ -1,13 +1,13 @@
 -- Lists of steps, answered one by one.
 use Rattle.std.proofs.Common.{◌≡◌, List, [], ◌∷◌, ◌++◌, suc, refl, sym, ◌∙◌, ap, subst, length}
-use Rattle.channel_core.specs.declared.step.Kind.{Kind}
-use Rattle.channel_core.specs.declared.step.Step.{Step}
-use Rattle.channel_core.specs.declared.step.Reply.{Reply}
-use Rattle.channel_core.specs.Past.{Past}
-use Rattle.channel_core.specs.Messages.{accepted_messages, taken_messages}
-use Rattle.channel_core.specs.Answers.{AreAnswers, IsAnswer, past_after}
+use Rattle.channel_model.specs.declared.step.Kind.{Kind}
+use Rattle.channel_model.specs.declared.step.Step.{Step}
+use Rattle.channel_model.specs.declared.step.Reply.{Reply}
+use Rattle.channel_model.specs.Past.{Past}
+use Rattle.channel_model.specs.Messages.{accepted_messages, taken_messages}
+use Rattle.channel_model.specs.Answers.{AreAnswers, IsAnswer, past_after}
 use Rattle.channel_core.specs.StandsFor.{RunView, StandsFor}
-use Rattle.channel_core.proofs.Conserved.{accepted_messages-IsLegal}
+use Rattle.channel_model.proofs.Conserved.{accepted_messages-IsLegal}
 
 -- one step more, answered behind the past that the others left
 pub AreAnswers-more : {T : Type 0} (kind : Kind) (past : Past T) (steps : List (Step T)) (replies : List (Reply T)) (after : Past T) (step : Step T) (reply : Reply T)

@@ -1,29 +1,29 @@
 -- A run answers what the past that stands for it decides.
 use Rattle.std.proofs.Common.{◌≡◌, ℕ, List, Bool, not, ◌&&◌, cond, Some, None, Option, refl, ◌∙◌, ap, length}
 use Rattle.std.specs.Prelude.{is_some, slice_get, nat_lt, is_none, ◌||◌, option_and_then}
-use Rattle.channel_core.specs.declared.step.Kind.{Kind}
-use Rattle.channel_core.specs.declared.step.Kind.TheVariants.{Bounded, Unbounded}
-use Rattle.channel_core.specs.declared.step.Side.{Side}
-use Rattle.channel_core.specs.declared.step.Side.TheVariants.{Sender, Receiver}
-use Rattle.channel_core.specs.declared.step.Refusal.{Refusal}
-use Rattle.channel_core.specs.declared.step.Refusal.TheVariants.{Unknown, Taken, Borrowed, TooMany}
-use Rattle.channel_core.specs.declared.step.Step.{Step}
-use Rattle.channel_core.specs.declared.step.Step.TheVariants.{TrySend, ForceSend, TryRecv, Close, IsClosed, IsEmpty, IsFull, IsTerminated, Len, SenderCount, ReceiverCount, Capacity, CloneSender, CloneReceiver, CloneWeakSender, CloneWeakReceiver, DowngradeSender, DowngradeReceiver, UpgradeSender, UpgradeReceiver, DropSender, DropReceiver, DropWeakSender, DropWeakReceiver, StartSend, StartRecv, StartClosed, Poll, PollNext, DropOp}
-use Rattle.channel_core.specs.declared.step.Reply.{Reply}
-use Rattle.channel_core.specs.declared.step.Reply.TheVariants.{Flag, Count, Capacity, Upgraded}
+use Rattle.channel_model.specs.declared.step.Kind.{Kind}
+use Rattle.channel_model.specs.declared.step.Kind.TheVariants.{Bounded, Unbounded}
+use Rattle.channel_model.specs.declared.step.Side.{Side}
+use Rattle.channel_model.specs.declared.step.Side.TheVariants.{Sender, Receiver}
+use Rattle.channel_model.specs.declared.step.Refusal.{Refusal}
+use Rattle.channel_model.specs.declared.step.Refusal.TheVariants.{Unknown, Taken, Borrowed, TooMany}
+use Rattle.channel_model.specs.declared.step.Step.{Step}
+use Rattle.channel_model.specs.declared.step.Step.TheVariants.{TrySend, ForceSend, TryRecv, Close, IsClosed, IsEmpty, IsFull, IsTerminated, Len, SenderCount, ReceiverCount, Capacity, CloneSender, CloneReceiver, CloneWeakSender, CloneWeakReceiver, DowngradeSender, DowngradeReceiver, UpgradeSender, UpgradeReceiver, DropSender, DropReceiver, DropWeakSender, DropWeakReceiver, StartSend, StartRecv, StartClosed, Poll, PollNext, DropOp}
+use Rattle.channel_model.specs.declared.step.Reply.{Reply}
+use Rattle.channel_model.specs.declared.step.Reply.TheVariants.{Flag, Count, Capacity, Upgraded}
 use Rattle.event_list.specs.Keys.{AreDifferent, is_among}
-use Rattle.channel_core.specs.Past.{Past}
-use Rattle.channel_core.specs.Handles.{live_receivers}
-use Rattle.channel_core.specs.Operations.{Operation, borrows_receiver, borrows_sender, is_finished_send, live_operations, names_of, operation_in, operation_of, unsent_message}
-use Rattle.channel_core.specs.Messages.{held_messages, oldest_message}
-use Rattle.channel_core.specs.Capacity.{capacity_of, is_full, is_unbounded}
-use Rattle.channel_core.specs.Closing.{has_no_receiver, has_none, is_closed}
-use Rattle.channel_core.specs.Replies.{due_reply, force_send_reply, is_pending, poll_next_reply, poll_reply, try_recv_reply, try_send_reply}
-use Rattle.channel_core.specs.Tables.{handle_limit}
-use Rattle.channel_core.specs.Refusals.{is_borrowed, is_handle, is_known, is_one_too_many, is_taken, refusal_of}
-use Rattle.channel_core.specs.Rosters.{Rosters, waits_anywhere}
-use Rattle.channel_core.specs.Notices.{rosters}
-use Rattle.channel_core.specs.Memory.{brings_message, makes_name, may_want_memory, polls_newcomer}
+use Rattle.channel_model.specs.Past.{Past}
+use Rattle.channel_model.specs.Handles.{live_receivers}
+use Rattle.channel_model.specs.Operations.{Operation, borrows_receiver, borrows_sender, is_finished_send, live_operations, names_of, operation_in, operation_of, unsent_message}
+use Rattle.channel_model.specs.Messages.{held_messages, oldest_message}
+use Rattle.channel_model.specs.Capacity.{capacity_of, is_full, is_unbounded}
+use Rattle.channel_model.specs.Closing.{has_no_receiver, has_none, is_closed}
+use Rattle.channel_model.specs.Replies.{due_reply, force_send_reply, is_pending, poll_next_reply, poll_reply, try_recv_reply, try_send_reply}
+use Rattle.channel_model.specs.Tables.{handle_limit}
+use Rattle.channel_model.specs.Refusals.{is_borrowed, is_handle, is_known, is_one_too_many, is_taken, refusal_of}
+use Rattle.channel_model.specs.Rosters.{Rosters, waits_anywhere}
+use Rattle.channel_model.specs.Notices.{rosters}
+use Rattle.channel_model.specs.Memory.{brings_message, makes_name, may_want_memory, polls_newcomer}
 use Rattle.channel_core.specs.StandsFor.{RunView, StandsFor}
 use Rattle.channel_core.specs.RunSteps.{brings_message_in, full_at, is_borrowed_in, is_full_in, is_handle_in, is_known_in, is_one_too_many_in, is_taken_in, makes_name_in, may_want_memory_in, polls_newcomer_in, refusal_in, reply_in}
 use Rattle.channel_core.proofs.LiveNames.{live_operations-AreDifferent}

@@ -4,21 +4,21 @@ use Rattle.std.proofs.lemmas.Bool.{eqb-true, eq-eqb, ne_eqb}
 use Rattle.std.specs.Prelude.{slice_get}
 use Rattle.std.specs.Map.{keys_of}
 use Rattle.event_list.specs.Waiting.{Waiting, payloads, told_all, told_one}
-use Rattle.channel_core.specs.declared.errors.TrySendError.TheVariants.{Full, Closed}
-use Rattle.channel_core.specs.declared.errors.TryRecvError.TheVariants.{Empty, Closed}
+use Rattle.channel_model.specs.declared.errors.TrySendError.TheVariants.{Full, Closed}
+use Rattle.channel_model.specs.declared.errors.TryRecvError.TheVariants.{Empty, Closed}
 use Rattle.channel_core.specs.declared.operations.Operation.{Operation as Started}
-use Rattle.channel_core.specs.declared.step.Side.{Side}
-use Rattle.channel_core.specs.declared.step.Step.{Step}
-use Rattle.channel_core.specs.declared.step.Step.TheVariants.{TrySend, ForceSend, TryRecv, Close, DropSender}
-use Rattle.channel_core.specs.declared.step.Reply.{Reply}
-use Rattle.channel_core.specs.declared.step.Reply.TheVariants.{TrySent, Forced, Received, Flag, Done}
+use Rattle.channel_model.specs.declared.step.Side.{Side}
+use Rattle.channel_model.specs.declared.step.Step.{Step}
+use Rattle.channel_model.specs.declared.step.Step.TheVariants.{TrySend, ForceSend, TryRecv, Close, DropSender}
+use Rattle.channel_model.specs.declared.step.Reply.{Reply}
+use Rattle.channel_model.specs.declared.step.Reply.TheVariants.{TrySent, Forced, Received, Flag, Done}
 use Rattle.channel_core.specs.Channel.{Change, Channel, accepting, closing, force_sent, forcing, is_channel_full, oldest, received, receiving, sender_dropped, sending, sent, taking, unchanged}
-use Rattle.channel_core.specs.Closing.{has_none}
-use Rattle.channel_core.specs.Handles.{without}
+use Rattle.channel_model.specs.Closing.{has_none}
+use Rattle.channel_model.specs.Handles.{without}
 use Rattle.channel_core.specs.Queue.{is_full}
-use Rattle.channel_core.specs.Replies.{force_send_reply}
-use Rattle.channel_core.specs.Tables.{force_send_answer, send_error, try_recv_answer, try_send_answer}
-use Rattle.channel_core.specs.Rosters.{Roster, Rosters}
+use Rattle.channel_model.specs.Replies.{force_send_reply}
+use Rattle.channel_model.specs.Tables.{force_send_answer, send_error, try_recv_answer, try_send_answer}
+use Rattle.channel_model.specs.Rosters.{Roster, Rosters}
 use Rattle.channel_core.specs.StandsFor.{RunView}
 use Rattle.channel_core.specs.RunSteps.{IsMade, full_at, is_full_in}
 use Rattle.channel_core.specs.RunShown.{AreHeld, IsWhole, closed_ticket, recv_ticket, rosters_shown, send_ticket, shown, stream_ticket, ticket_at}

@@ -4,34 +4,34 @@ use Rattle.std.specs.Prelude.{is_some}
 use Rattle.std.specs.Option.{option_map}
 use Rattle.std.proofs.lemmas.Bool.{eq-eqb}
 use Rattle.std.proofs.lemmas.List.Folds.{list_any-append}
-use Rattle.channel_core.specs.declared.step.Kind.{Kind}
-use Rattle.channel_core.specs.declared.step.Notice.{Notice}
-use Rattle.channel_core.specs.declared.step.Notice.TheVariants.{Absent, Untold, Told}
-use Rattle.channel_core.specs.declared.step.Who.{Who}
-use Rattle.channel_core.specs.declared.step.Who.TheVariants.{Op, Receiver}
+use Rattle.channel_model.specs.declared.step.Kind.{Kind}
+use Rattle.channel_model.specs.declared.step.Notice.{Notice}
+use Rattle.channel_model.specs.declared.step.Notice.TheVariants.{Absent, Untold, Told}
+use Rattle.channel_model.specs.declared.step.Who.{Who}
+use Rattle.channel_model.specs.declared.step.Who.TheVariants.{Op, Receiver}
 use Rattle.event_list.specs.Keys.{AreDifferent, is_among}
-use Rattle.channel_core.specs.Past.{Past}
-use Rattle.channel_core.specs.Handles.{live_receivers, live_senders, without}
-use Rattle.channel_core.specs.Operations.{Operation, names_of, awaiting_close, finished, is_awaiting, is_receive, is_unsent, operation_of, receiving, sending, with_finished, without_operation}
-use Rattle.channel_core.specs.Messages.{held_messages}
-use Rattle.channel_core.specs.Capacity.{capacity_of}
-use Rattle.channel_core.specs.Closing.{has_none, is_closed}
-use Rattle.channel_core.specs.Rosters.{Roster, Rosters, notice_in}
-use Rattle.channel_core.specs.Notices.{notice_of, rosters}
-use Rattle.channel_core.specs.Covered.{IsCovered, Standing}
-use Rattle.channel_core.specs.Standing.{standing_of, waiters_of}
-use Rattle.channel_core.specs.Laws.{AreLive}
+use Rattle.channel_model.specs.Past.{Past}
+use Rattle.channel_model.specs.Handles.{live_receivers, live_senders, without}
+use Rattle.channel_model.specs.Operations.{Operation, names_of, awaiting_close, finished, is_awaiting, is_receive, is_unsent, operation_of, receiving, sending, with_finished, without_operation}
+use Rattle.channel_model.specs.Messages.{held_messages}
+use Rattle.channel_model.specs.Capacity.{capacity_of}
+use Rattle.channel_model.specs.Closing.{has_none, is_closed}
+use Rattle.channel_model.specs.Rosters.{Roster, Rosters, notice_in}
+use Rattle.channel_model.specs.Notices.{notice_of, rosters}
+use Rattle.channel_model.specs.Covered.{IsCovered, Standing}
+use Rattle.channel_model.specs.Standing.{standing_of, waiters_of}
+use Rattle.channel_model.specs.Laws.{AreLive}
 use Rattle.channel_core.specs.StandsFor.{AreSameNames, AreSameOperations, RunView, StandsFor}
 use Rattle.channel_core.specs.RunSteps.{AreAlike, notice_of_operation, notice_shown}
-use Rattle.channel_core.proofs.NameLists.{is_among-take, length-without}
-use Rattle.channel_core.proofs.LookUps.{look_up}
-use Rattle.channel_core.proofs.CoveredSteps.{IsCovered-IsLegal}
-use Rattle.channel_core.proofs.WhoWaits.{AreLive-IsLegal}
+use Rattle.channel_model.proofs.NameLists.{is_among-take, length-without}
+use Rattle.channel_model.proofs.LookUps.{look_up}
+use Rattle.channel_model.proofs.CoveredSteps.{IsCovered-IsLegal}
+use Rattle.channel_model.proofs.WhoWaits.{AreLive-IsLegal}
 use Rattle.channel_core.proofs.LiveNames.{live_senders-AreDifferent, live_receivers-AreDifferent, some_sender, some_receiver, is_some-look_up, names_of-without_operation}
 use Rattle.channel_core.proofs.SameNames.{AreSameNames-refl, is_among-without_is, has_none-length, length-without_same}
 use Rattle.std.proofs.lemmas.List.{length-map}
 use Rattle.channel_core.proofs.SameOperations.{SameLookUps, AreSameOperations-refl, length-names_of, look_up-append, look_up-finished_same, look_up-without_same, by_name}
-use Rattle.channel_core.proofs.LookUps.{look_up-without, look_up-with_finished, look_up-cons}
+use Rattle.channel_model.proofs.LookUps.{look_up-without, look_up-with_finished, look_up-cons}
 
 -- ---- counts
 

@@ -4,11 +4,11 @@ use Rattle.std.specs.Prelude.{option_and_then}
 use Rattle.std.specs.Map.{keys_of}
 use Rattle.std.proofs.lemmas.Bool.{eqb-true}
 use Rattle.event_list.specs.Waiting.{nobody}
-use Rattle.channel_core.specs.declared.step.Kind.{Kind}
+use Rattle.channel_model.specs.declared.step.Kind.{Kind}
 use Rattle.channel_core.specs.declared.operations.Operation.{Operation as Started}
-use Rattle.channel_core.specs.Capacity.{HasPositiveCapacity, capacity_of}
+use Rattle.channel_model.specs.Capacity.{HasPositiveCapacity, capacity_of}
 use Rattle.channel_core.specs.Channel.{Channel, new_channel}
-use Rattle.channel_core.specs.Rosters as rosters
+use Rattle.channel_model.specs.Rosters as rosters
 use Rattle.channel_core.specs.StandsFor.{StandsFor}
 use Rattle.channel_core.specs.RunSteps.{AreAlike, new_run}
 use Rattle.channel_core.specs.RunShown.{AreHeld, Changed, IsWhole, entry_at, roster_of, rosters_shown, shown, stream_ticket, ticket_at, recv_ticket, closed_ticket}

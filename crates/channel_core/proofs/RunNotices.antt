@@ -4,22 +4,22 @@ use Rattle.std.specs.Prelude.{option_and_then, option_map}
 use Rattle.std.specs.Map.{keys_of}
 use Rattle.channel_core.specs.declared.operations.Operation.{Operation as Started}
 use Rattle.channel_core.specs.declared.operations.Operation.TheVariants.{Send, Recv, Closed}
-use Rattle.channel_core.specs.declared.step.Who.TheVariants.{Op, Receiver}
+use Rattle.channel_model.specs.declared.step.Who.TheVariants.{Op, Receiver}
 use Rattle.channel_core.specs.Channel.{Channel}
-use Rattle.channel_core.specs.Operations.{Operation}
+use Rattle.channel_model.specs.Operations.{Operation}
 use Rattle.channel_core.specs.StandsFor.{RunView}
 use Rattle.channel_core.specs.RunSteps.{notice_of_operation, notice_shown}
 use Rattle.channel_core.proofs.Entries.{operation_in-entry_at}
 use Rattle.event_list.specs.Keys.{is_among}
 use Rattle.event_list.specs.Waiting.{Waiting, keys, mark, untold_keys}
 use Rattle.event_list.proofs.Splits.{is_among-append}
-use Rattle.channel_core.specs.declared.step.Notice.{Notice}
-use Rattle.channel_core.specs.declared.step.Notice.TheVariants.{Absent, Told, Untold}
-use Rattle.channel_core.specs.Rosters.{Roster, is_told, notice_in}
+use Rattle.channel_model.specs.declared.step.Notice.{Notice}
+use Rattle.channel_model.specs.declared.step.Notice.TheVariants.{Absent, Told, Untold}
+use Rattle.channel_model.specs.Rosters.{Roster, is_told, notice_in}
 use Rattle.channel_core.specs.RunShown.{AreHeld, IsWhole, closed_ticket, entry_at, notice_at, notice_by_mark, operation_shown, recv_ticket, roster_of, send_ticket, shown, stream_ticket, ticket_at}
 use Rattle.channel_core.proofs.Holding.{Holds, absent-Holds, holds-refl, is_told-key, key_roster, keyed}
 use Rattle.channel_core.proofs.KeyedRosters.{notice_in-keyed}
-use Rattle.channel_core.proofs.NameLists.{is_among-take}
+use Rattle.channel_model.proofs.NameLists.{is_among-take}
 
 -- a ticket's mark is its name's notice
 pub notice-held : {W : Type 0} (ticket_of : ℕ → Option ℕ) (names : List ℕ) (list : Waiting W) → AreHeld ticket_of names list → (name : ℕ) (ticket : Option ℕ) → ticket_of name ≡ ticket

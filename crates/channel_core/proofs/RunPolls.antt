@@ -1,7 +1,7 @@
 -- Polls: what becomes of the operation or the stream, and of the channel.
 use Rattle.std.proofs.Common.{◌≡◌, ℕ, suc, List, [], ◌∷◌, ◌++◌, Bool, true, false, not, ◌||◌, ◌&&◌, cond, Some, None, Ok, Err, Option, inl, inr, refl, sym, ◌∙◌, ap, subst, length, drop, map, ◌==◌}
 use Rattle.std.proofs.lemmas.List.{length-map}
-use Rattle.channel_core.specs.Closing.{has_none}
+use Rattle.channel_model.specs.Closing.{has_none}
 use Rattle.channel_core.proofs.SameNames.{has_none-length}
 use Rattle.std.specs.Prelude.{Result, IfOk, OnErr, IsSome, option_map, is_some, option_and_then, slice_get, ◌⊎◌}
 use Rattle.std.specs.Map.{keys_of}
@@ -9,23 +9,23 @@ use Rattle.futures.specs.declared.task.Poll.{Poll as Polled}
 use Rattle.futures.specs.declared.task.Poll.TheVariants.{Ready, Pending}
 use Rattle.event_list.specs.Keys.{is_among}
 use Rattle.event_list.specs.Waiting.{Waiting, keys}
-use Rattle.channel_core.specs.declared.errors.SendError.{SendError}
-use Rattle.channel_core.specs.declared.errors.RecvError.{RecvError}
-use Rattle.channel_core.specs.declared.errors.OutOfMemory.{OutOfMemory as NoRoom}
-use Rattle.channel_core.specs.declared.step.Refusal.TheVariants.{OutOfMemory}
+use Rattle.channel_model.specs.declared.errors.SendError.{SendError}
+use Rattle.channel_model.specs.declared.errors.RecvError.{RecvError}
+use Rattle.channel_model.specs.declared.errors.OutOfMemory.{OutOfMemory as NoRoom}
+use Rattle.channel_model.specs.declared.step.Refusal.TheVariants.{OutOfMemory}
 use Rattle.channel_core.specs.declared.operations.Operation.{Operation as Started}
 use Rattle.channel_core.specs.declared.operations.Operation.TheVariants.{Send, Recv, Closed}
-use Rattle.channel_core.specs.declared.step.Step.{Step}
-use Rattle.channel_core.specs.declared.step.Step.TheVariants.{Poll}
-use Rattle.channel_core.specs.declared.step.Reply.{Reply}
-use Rattle.channel_core.specs.declared.step.Reply.TheVariants.{SendPolled, RecvPolled, ClosedPolled, Refused}
+use Rattle.channel_model.specs.declared.step.Step.{Step}
+use Rattle.channel_model.specs.declared.step.Step.TheVariants.{Poll}
+use Rattle.channel_model.specs.declared.step.Reply.{Reply}
+use Rattle.channel_model.specs.declared.step.Reply.TheVariants.{SendPolled, RecvPolled, ClosedPolled, Refused}
 use Rattle.channel_core.specs.Channel.{Channel, ClosedWaits, ClosedWants, RecvWaits, RecvWants, SendWaits, SendWants, accepting, oldest, polled_receive, receiving, taking, is_channel_full, polled_send, sending, sent}
-use Rattle.channel_core.specs.Tables.{OnReady, OnWait, closed_poll, recv_poll, send_poll}
-use Rattle.channel_core.specs.Replies.{is_pending}
+use Rattle.channel_model.specs.Tables.{OnReady, OnWait, closed_poll, recv_poll, send_poll}
+use Rattle.channel_model.specs.Replies.{is_pending}
 use Rattle.channel_core.specs.Tickets.{Waits, left, waits}
-use Rattle.channel_core.specs.Operations.{Operation, operation_in, with_finished}
-use Rattle.channel_core.specs.Operations as model
-use Rattle.channel_core.specs.Rosters.{Roster, Rosters, leave, wait}
+use Rattle.channel_model.specs.Operations.{Operation, operation_in, with_finished}
+use Rattle.channel_model.specs.Operations as model
+use Rattle.channel_model.specs.Rosters.{Roster, Rosters, leave, wait}
 use Rattle.channel_core.specs.StandsFor.{AreSameOperations, RunView}
 use Rattle.channel_core.specs.RunSteps.{AreAlike, IsMade, StepsTo, may_want_memory_in, polls_newcomer_in, refusal_in}
 use Rattle.channel_core.specs.RunShown.{Changed, IsWhole, closed_ticket, entry_at, operation_shown, recv_ticket, rosters_shown, send_ticket, shown, ticket_at}

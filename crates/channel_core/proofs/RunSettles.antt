@@ -1,19 +1,19 @@
 -- Settling a run, poll by poll.
 use Rattle.std.proofs.Common.{◌≡◌, ℕ, ◌<◌, List, [], ◌∷◌, ◌++◌, Some, refl, sym, ◌∙◌, ap, subst, length, map, take}
 use Rattle.std.specs.Prelude.{slice_get}
-use Rattle.channel_core.specs.declared.step.Kind.{Kind}
-use Rattle.channel_core.specs.declared.step.Step.{Step}
-use Rattle.channel_core.specs.declared.step.Step.TheVariants.{Poll, PollNext}
-use Rattle.channel_core.specs.declared.step.Reply.{Reply}
-use Rattle.channel_core.specs.Past.{Past}
-use Rattle.channel_core.specs.Replies.{due_reply}
-use Rattle.channel_core.specs.Rosters.{Roster, Rosters, told_names}
-use Rattle.channel_core.specs.Notices.{rosters}
-use Rattle.channel_core.specs.Polling.{EndsWell, IsQuiet, IsSettling, Settles, finished_polls, told_polls}
+use Rattle.channel_model.specs.declared.step.Kind.{Kind}
+use Rattle.channel_model.specs.declared.step.Step.{Step}
+use Rattle.channel_model.specs.declared.step.Step.TheVariants.{Poll, PollNext}
+use Rattle.channel_model.specs.declared.step.Reply.{Reply}
+use Rattle.channel_model.specs.Past.{Past}
+use Rattle.channel_model.specs.Replies.{due_reply}
+use Rattle.channel_model.specs.Rosters.{Roster, Rosters, told_names}
+use Rattle.channel_model.specs.Notices.{rosters}
+use Rattle.channel_model.specs.Polling.{EndsWell, IsQuiet, IsSettling, Settles, finished_polls, told_polls}
 use Rattle.channel_core.specs.StandsFor.{RunView, StandsFor}
 use Rattle.channel_core.specs.RunSteps.{after_step, reply_in}
-use Rattle.channel_core.proofs.Measure.{measure}
-use Rattle.channel_core.proofs.AnyOrder.{PollsTold, polls_told, measure-falls, told-allowed, first-Contains, IsFreePolling-IsSettling, EndsWell-IsFreePolling}
+use Rattle.channel_model.proofs.Measure.{measure}
+use Rattle.channel_model.proofs.AnyOrder.{PollsTold, polls_told, measure-falls, told-allowed, first-Contains, IsFreePolling-IsSettling, EndsWell-IsFreePolling}
 use Rattle.channel_core.proofs.RunAnswers.{reply_in-StandsFor}
 use Rattle.channel_core.proofs.Stepping.{StandsFor-step}
 

@@ -6,18 +6,18 @@ use Rattle.futures.specs.declared.task.Poll.{Poll as Polled}
 use Rattle.futures.specs.declared.task.Poll.TheVariants.{Ready, Pending}
 use Rattle.event_list.specs.Keys.{is_among}
 use Rattle.event_list.specs.Waiting.{Waiting}
-use Rattle.channel_core.specs.declared.errors.OutOfMemory.{OutOfMemory as NoRoom}
+use Rattle.channel_model.specs.declared.errors.OutOfMemory.{OutOfMemory as NoRoom}
 use Rattle.channel_core.specs.declared.operations.Operation.{Operation as Started}
-use Rattle.channel_core.specs.declared.step.Refusal.TheVariants.{OutOfMemory}
-use Rattle.channel_core.specs.declared.step.Step.{Step}
-use Rattle.channel_core.specs.declared.step.Step.TheVariants.{PollNext}
-use Rattle.channel_core.specs.declared.step.Reply.{Reply}
-use Rattle.channel_core.specs.declared.step.Reply.TheVariants.{NextPolled, Refused}
+use Rattle.channel_model.specs.declared.step.Refusal.TheVariants.{OutOfMemory}
+use Rattle.channel_model.specs.declared.step.Step.{Step}
+use Rattle.channel_model.specs.declared.step.Step.TheVariants.{PollNext}
+use Rattle.channel_model.specs.declared.step.Reply.{Reply}
+use Rattle.channel_model.specs.declared.step.Reply.TheVariants.{NextPolled, Refused}
 use Rattle.channel_core.specs.Channel.{Channel, NextWaits, NextWants, oldest, polled_stream, receiving, taking}
-use Rattle.channel_core.specs.Tables.{OnReady, OnWait, next_poll}
-use Rattle.channel_core.specs.Replies.{is_pending}
+use Rattle.channel_model.specs.Tables.{OnReady, OnWait, next_poll}
+use Rattle.channel_model.specs.Replies.{is_pending}
 use Rattle.channel_core.specs.Tickets.{Waits, left}
-use Rattle.channel_core.specs.Rosters.{Roster, Rosters, leave, wait}
+use Rattle.channel_model.specs.Rosters.{Roster, Rosters, leave, wait}
 use Rattle.channel_core.specs.StandsFor.{AreSameNames, RunView}
 use Rattle.channel_core.specs.RunSteps.{AreAlike, IsMade, StepsAsAllowed, StepsTo, polls_newcomer_in, refusal_in}
 use Rattle.channel_core.specs.RunShown.{Changed, IsWhole, entry_at, rosters_shown, shown, stream_ticket, ticket_at}

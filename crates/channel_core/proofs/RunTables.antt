@@ -3,7 +3,8 @@ use Rattle.std.proofs.Common.{rules, ◌≡◌, ℕ, suc, ◌+◌, ◌-◌, ◌<
 use Rattle.std.specs.Prelude.{is_some, nat_lt, option_and_then, option_map, Result, OnOk}
 use Rattle.std.specs.Result.{is_err}
 use Rattle.std.specs.Option.{option_flatten}
-use Rattle.channel_core.specs.Tables.{count_added, handle_limit, may_add, upgrade_answer, count_upgraded}
+use Rattle.channel_model.specs.Tables.{handle_limit}
+use Rattle.channel_core.specs.Counts.{count_added, may_add, upgrade_answer, count_upgraded}
 use Rattle.std.specs.Map.{keys_of}
 use Rattle.std.specs.Ordering.{is_eq, nat_cmp}
 use Rattle.std.proofs.lemmas.Bool.{eq-eqb, eqb-true, false≢true, ne_eqb}
@@ -13,17 +14,17 @@ use Rattle.event_list.proofs.Splits.{eqb_swap}
 use Rattle.channel_core.specs.declared.operations.Operation.{Operation as Started}
 use Rattle.channel_core.specs.Channel.{Channel, Change, ending, receiver_dropped_by, unchanged}
 use Rattle.channel_core.specs.Tickets.{handed_on, left}
-use Rattle.channel_core.specs.Closing.{has_none}
+use Rattle.channel_model.specs.Closing.{has_none}
 use Rattle.event_list.specs.Waiting.{told_all}
-use Rattle.channel_core.specs.declared.step.Step.TheVariants.{DropOp, DropReceiver}
+use Rattle.channel_model.specs.declared.step.Step.TheVariants.{DropOp, DropReceiver}
 use Rattle.channel_core.proofs.SameNames.{has_none-length, has_none-same}
 use Rattle.channel_core.proofs.MadeSteps.{closed_told, ended_told, own_left, made-drop_last_receiver, made-drop_last_receiver_closed, made-drop_op, made-drop_receiver}
-use Rattle.channel_core.specs.Handles.{without}
-use Rattle.channel_core.specs.Operations.{Operation, finished, names_of, operation_in, with_finished, without_operation}
-use Rattle.channel_core.specs.Rosters.{Rosters, hand_on, leave}
-use Rattle.channel_core.specs.declared.step.Step.{Step}
-use Rattle.channel_core.specs.declared.step.Reply.{Reply}
-use Rattle.channel_core.specs.declared.step.Reply.TheVariants.{Done}
+use Rattle.channel_model.specs.Handles.{without}
+use Rattle.channel_model.specs.Operations.{Operation, finished, names_of, operation_in, with_finished, without_operation}
+use Rattle.channel_model.specs.Rosters.{Rosters, hand_on, leave}
+use Rattle.channel_model.specs.declared.step.Step.{Step}
+use Rattle.channel_model.specs.declared.step.Reply.{Reply}
+use Rattle.channel_model.specs.declared.step.Reply.TheVariants.{Done}
 use Rattle.channel_core.specs.RunSteps.{IsMade}
 use Rattle.channel_core.specs.StandsFor.{AreSameNames, AreSameOperations, RunView}
 use Rattle.channel_core.specs.RunShown.{Changed, IsWhole, rosters_shown, shown, closed_ticket, entry_at, operation_shown, recv_ticket, send_ticket, stream_ticket, ticket_at}

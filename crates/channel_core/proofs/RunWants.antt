@@ -1,20 +1,20 @@
 -- Where a run may want memory, and who begins to wait.
 use Rattle.std.proofs.Common.{◌≡◌, ℕ, Bool, true, false, not, ◌||◌, Some, None, Option, refl, sym, ◌∙◌, ap}
 use Rattle.std.specs.Prelude.{is_some, is_none, ◌&&◌, option_and_then}
-use Rattle.channel_core.specs.declared.step.Kind.{Kind}
-use Rattle.channel_core.specs.declared.step.Refusal.{Refusal}
-use Rattle.channel_core.specs.declared.step.Refusal.TheVariants.{OutOfMemory}
-use Rattle.channel_core.specs.declared.step.Step.{Step}
-use Rattle.channel_core.specs.declared.step.Step.TheVariants.{Poll, PollNext}
-use Rattle.channel_core.specs.declared.step.Reply.{Reply}
+use Rattle.channel_model.specs.declared.step.Kind.{Kind}
+use Rattle.channel_model.specs.declared.step.Refusal.{Refusal}
+use Rattle.channel_model.specs.declared.step.Refusal.TheVariants.{OutOfMemory}
+use Rattle.channel_model.specs.declared.step.Step.{Step}
+use Rattle.channel_model.specs.declared.step.Step.TheVariants.{Poll, PollNext}
+use Rattle.channel_model.specs.declared.step.Reply.{Reply}
 use Rattle.event_list.specs.Keys.{is_among}
-use Rattle.channel_core.specs.Past.{Past}
-use Rattle.channel_core.specs.Operations.{Operation, awaiting_close, is_awaiting, is_finished_send, is_receive, is_unsent, operation_in, receiving, sending, unsent_message}
-use Rattle.channel_core.specs.Replies.{is_pending}
-use Rattle.channel_core.specs.Rosters.{Rosters}
+use Rattle.channel_model.specs.Past.{Past}
+use Rattle.channel_model.specs.Operations.{Operation, awaiting_close, is_awaiting, is_finished_send, is_receive, is_unsent, operation_in, receiving, sending, unsent_message}
+use Rattle.channel_model.specs.Replies.{is_pending}
+use Rattle.channel_model.specs.Rosters.{Rosters}
 use Rattle.channel_core.specs.StandsFor.{RunView, StandsFor}
 use Rattle.channel_core.specs.RunSteps.{Answers, IsMade, IsRefused, brings_message_in, makes_name_in, may_want_memory_in, polls_newcomer_in, refusal_in, reply_in}
-use Rattle.channel_core.proofs.WhoWaits.{AreLive-IsLegal}
+use Rattle.channel_model.proofs.WhoWaits.{AreLive-IsLegal}
 use Rattle.channel_core.proofs.WholeSteps.{Answers-StepsTo, StepsTo-made, StepsTo-wants, StepsTo-refused, not_refused}
 
 -- ---- the three outcomes, behind a past

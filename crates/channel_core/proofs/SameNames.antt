@@ -4,11 +4,11 @@ use Rattle.std.proofs.Math.Dec.{eqb-suc-zero}
 use Rattle.std.proofs.lemmas.Bool.{eqb-true, eq-eqb}
 use Rattle.std.proofs.lemmas.List.Folds.{list_any-append}
 use Rattle.event_list.specs.Keys.{AreDifferent, is_among}
-use Rattle.channel_core.specs.Handles.{without}
-use Rattle.channel_core.specs.Closing.{has_none}
+use Rattle.channel_model.specs.Handles.{without}
+use Rattle.channel_model.specs.Closing.{has_none}
 use Rattle.channel_core.specs.StandsFor.{AreSameNames}
-use Rattle.channel_core.proofs.NameLists.{is_among-without_same, without-absent, is_among-without, AreDifferent-without, length-without}
-use Rattle.channel_core.proofs.WhoWaits.{is_among-without_other}
+use Rattle.channel_model.proofs.NameLists.{is_among-without_same, without-absent, is_among-without, AreDifferent-without, length-without}
+use Rattle.channel_model.proofs.WhoWaits.{is_among-without_other}
 
 -- ---- who is among the rest
 

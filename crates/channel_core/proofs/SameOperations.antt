@@ -5,8 +5,8 @@ use Rattle.std.specs.Option.{option_map}
 use Rattle.std.specs.List.{list_any}
 use Rattle.std.proofs.lemmas.Bool.{eqb-true, eq-eqb}
 use Rattle.event_list.specs.Keys.{AreDifferent, is_among}
-use Rattle.channel_core.specs.Operations.{Operation, finished, names_of, with_finished, without_operation}
-use Rattle.channel_core.proofs.LookUps.{look_up, look_up-cons, look_up-other, look_up-without, look_up-with_finished}
+use Rattle.channel_model.specs.Operations.{Operation, finished, names_of, with_finished, without_operation}
+use Rattle.channel_model.proofs.LookUps.{look_up, look_up-cons, look_up-other, look_up-without, look_up-with_finished}
 use Rattle.channel_core.proofs.LiveNames.{is_some-look_up, names_of-without_operation}
 use Rattle.channel_core.specs.StandsFor.{AreSameNames, AreSameOperations}
 use Rattle.channel_core.proofs.SameNames.{AreSameNames-without, AreDifferent-AreSameNames}

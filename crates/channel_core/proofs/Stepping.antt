@@ -4,30 +4,30 @@ use Rattle.std.specs.Prelude.{option_and_then}
 use Rattle.std.proofs.Math.Seq.{drop-append_seam}
 use Rattle.std.proofs.lemmas.List.{drop-drop}
 use Rattle.futures.specs.declared.task.Poll.TheVariants.{Ready, Pending}
-use Rattle.channel_core.specs.declared.step.Kind.{Kind}
-use Rattle.channel_core.specs.declared.step.Step.{Step}
-use Rattle.channel_core.specs.declared.step.Step.TheVariants.{Close, CloneSender, CloneReceiver, CloneWeakSender, CloneWeakReceiver, DowngradeSender, DowngradeReceiver, UpgradeSender, UpgradeReceiver, DropSender, DropReceiver, DropWeakSender, DropWeakReceiver, StartSend, StartRecv, StartClosed, Poll, PollNext, DropOp}
-use Rattle.channel_core.specs.declared.step.Reply.{Reply}
-use Rattle.channel_core.specs.declared.step.Reply.TheVariants.{Upgraded, SendPolled}
+use Rattle.channel_model.specs.declared.step.Kind.{Kind}
+use Rattle.channel_model.specs.declared.step.Step.{Step}
+use Rattle.channel_model.specs.declared.step.Step.TheVariants.{Close, CloneSender, CloneReceiver, CloneWeakSender, CloneWeakReceiver, DowngradeSender, DowngradeReceiver, UpgradeSender, UpgradeReceiver, DropSender, DropReceiver, DropWeakSender, DropWeakReceiver, StartSend, StartRecv, StartClosed, Poll, PollNext, DropOp}
+use Rattle.channel_model.specs.declared.step.Reply.{Reply}
+use Rattle.channel_model.specs.declared.step.Reply.TheVariants.{Upgraded, SendPolled}
 use Rattle.event_list.specs.Keys.{is_among}
-use Rattle.channel_core.specs.Past.{Past}
-use Rattle.channel_core.specs.Handles.{live_receivers, live_senders, live_weak_receivers, live_weak_senders, without}
-use Rattle.channel_core.specs.Operations.{Operation, awaiting_close, is_finished_send, live_operations, receiving, sending, unsent_message}
-use Rattle.channel_core.specs.Messages.{accepted_by, accepted_messages, held_messages, received_by, taken_by, taken_messages, with_last}
-use Rattle.channel_core.specs.Closing.{has_no_receiver, has_none, is_closed}
-use Rattle.channel_core.specs.Replies.{due_reply}
-use Rattle.channel_core.specs.Refusals.{refusal_of}
-use Rattle.channel_core.specs.Rosters.{Rosters, wait}
-use Rattle.channel_core.specs.Notices.{after_accepting, after_closing, after_last_receiver, after_own_move, after_receiving, rosters}
-use Rattle.channel_core.specs.Legal.{IsAllowed, IsLegal}
-use Rattle.channel_core.specs.Covered.{IsCovered}
-use Rattle.channel_core.specs.Standing.{standing_of}
+use Rattle.channel_model.specs.Past.{Past}
+use Rattle.channel_model.specs.Handles.{live_receivers, live_senders, live_weak_receivers, live_weak_senders, without}
+use Rattle.channel_model.specs.Operations.{Operation, awaiting_close, is_finished_send, live_operations, receiving, sending, unsent_message}
+use Rattle.channel_model.specs.Messages.{accepted_by, accepted_messages, held_messages, received_by, taken_by, taken_messages, with_last}
+use Rattle.channel_model.specs.Closing.{has_no_receiver, has_none, is_closed}
+use Rattle.channel_model.specs.Replies.{due_reply}
+use Rattle.channel_model.specs.Refusals.{refusal_of}
+use Rattle.channel_model.specs.Rosters.{Rosters, wait}
+use Rattle.channel_model.specs.Notices.{after_accepting, after_closing, after_last_receiver, after_own_move, after_receiving, rosters}
+use Rattle.channel_model.specs.Legal.{IsAllowed, IsLegal}
+use Rattle.channel_model.specs.Covered.{IsCovered}
+use Rattle.channel_model.specs.Standing.{standing_of}
 use Rattle.channel_core.specs.StandsFor.{AreSameNames, AreSameOperations, RunView, StandsFor}
 use Rattle.channel_core.specs.RunSteps.{accepted_in, after_step, closed_after, closing_in, messages_after, operations_after, own_move_in, receivers_after, reply_in, rosters_after, senders_after, weak_receivers_after, weak_senders_after, without_first}
-use Rattle.channel_core.proofs.Conserved.{accepted_messages-IsLegal, count_of, length-with_last}
-use Rattle.channel_core.proofs.CoveredSteps.{IsCovered-IsLegal}
-use Rattle.channel_core.proofs.Unchanged.{is_closed-kept, after_closing-kept, after_last_receiver-kept}
-use Rattle.channel_core.proofs.WhoWaits.{Allowed, allowed, known_if_borrowed}
+use Rattle.channel_model.proofs.Conserved.{accepted_messages-IsLegal, count_of, length-with_last}
+use Rattle.channel_model.proofs.CoveredSteps.{IsCovered-IsLegal}
+use Rattle.channel_model.proofs.Unchanged.{is_closed-kept, after_closing-kept, after_last_receiver-kept}
+use Rattle.channel_model.proofs.WhoWaits.{Allowed, allowed, known_if_borrowed}
 use Rattle.channel_core.proofs.LiveNames.{live_senders-AreDifferent, live_receivers-AreDifferent, live_weak_senders-AreDifferent, live_weak_receivers-AreDifferent, live_operations-AreDifferent}
 use Rattle.channel_core.proofs.SameNames.{AreSameNames-added, AreSameNames-without, has_none-same}
 use Rattle.channel_core.proofs.SameOperations.{AreSameOperations-added, AreSameOperations-finished, AreSameOperations-without}

@@ -1,26 +1,26 @@
 -- A run that steps by what it shows gives each past that stands for it the answer that the past decides.
 use Rattle.std.proofs.Common.{◌≡◌, ◌⊎◌, inl, inr, [], ◌∷◌, true, false, not, Some, None, Option, refl, sym, ◌∙◌, ap, subst}
 use Rattle.std.specs.Prelude.{is_none, MatchOption, ◌&&◌, ◌||◌}
-use Rattle.channel_core.specs.declared.step.Kind.{Kind}
-use Rattle.channel_core.specs.declared.step.Refusal.{Refusal}
-use Rattle.channel_core.specs.declared.step.Refusal.TheVariants.{Unknown, Taken, Borrowed, TooMany, OutOfMemory}
-use Rattle.channel_core.specs.declared.step.Step.{Step}
-use Rattle.channel_core.specs.declared.step.Reply.{Reply}
-use Rattle.channel_core.specs.declared.step.Reply.TheVariants.{Refused}
-use Rattle.channel_core.specs.Past.{Past}
-use Rattle.channel_core.specs.Handles.{live_receivers, live_senders, live_weak_receivers, live_weak_senders}
-use Rattle.channel_core.specs.Operations.{live_operations}
-use Rattle.channel_core.specs.Capacity.{HasPositiveCapacity}
-use Rattle.channel_core.specs.Replies.{due_reply, is_pending}
-use Rattle.channel_core.specs.Refusals.{refusal_of}
-use Rattle.channel_core.specs.Memory.{may_want_memory}
-use Rattle.channel_core.specs.Answers.{IsAnswer, message_in, past_after}
-use Rattle.channel_core.specs.Legal.{IsAllowed}
+use Rattle.channel_model.specs.declared.step.Kind.{Kind}
+use Rattle.channel_model.specs.declared.step.Refusal.{Refusal}
+use Rattle.channel_model.specs.declared.step.Refusal.TheVariants.{Unknown, Taken, Borrowed, TooMany, OutOfMemory}
+use Rattle.channel_model.specs.declared.step.Step.{Step}
+use Rattle.channel_model.specs.declared.step.Reply.{Reply}
+use Rattle.channel_model.specs.declared.step.Reply.TheVariants.{Refused}
+use Rattle.channel_model.specs.Past.{Past}
+use Rattle.channel_model.specs.Handles.{live_receivers, live_senders, live_weak_receivers, live_weak_senders}
+use Rattle.channel_model.specs.Operations.{live_operations}
+use Rattle.channel_model.specs.Capacity.{HasPositiveCapacity}
+use Rattle.channel_model.specs.Replies.{due_reply, is_pending}
+use Rattle.channel_model.specs.Refusals.{refusal_of}
+use Rattle.channel_model.specs.Memory.{may_want_memory}
+use Rattle.channel_model.specs.Answers.{IsAnswer, message_in, past_after}
+use Rattle.channel_model.specs.Legal.{IsAllowed}
 use Rattle.channel_core.specs.StandsFor.{RunView, StandsFor}
 use Rattle.channel_core.specs.RunSteps.{Answers, AreAlike, IsMade, IsRefused, StepsTo, after_step, brings_message_in, is_borrowed_in, is_known_in, is_one_too_many_in, is_taken_in, makes_name_in, may_want_memory_in, new_run, polls_newcomer_in, refusal_in, reply_in}
 use Rattle.channel_core.proofs.SameNames.{AreSameNames-refl, AreSameNames-trans}
 use Rattle.channel_core.proofs.SameOperations.{AreSameOperations-refl, AreSameOperations-trans}
-use Rattle.channel_core.proofs.LegalAnswers.{due-longer, allowed_if_none}
+use Rattle.channel_model.proofs.LegalAnswers.{due-longer, allowed_if_none}
 use Rattle.channel_core.proofs.RunAnswers.{first_refusal, reply_in-StandsFor, refusal_in-StandsFor, may_want_memory_in-StandsFor}
 use Rattle.channel_core.proofs.Stepping.{allowed_step, StandsFor-step}
 

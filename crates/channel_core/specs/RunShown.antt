@@ -7,12 +7,12 @@ use Rattle.event_list.specs.Keys.{AreDifferent, is_among}
 use Rattle.event_list.specs.Waiting.{Waiting, keys, mark, told_count}
 use Rattle.channel_core.specs.declared.operations.Operation.{Operation as Started}
 use Rattle.channel_core.specs.declared.operations.Operation.TheVariants.{Send, Recv, Closed}
-use Rattle.channel_core.specs.declared.step.Notice.{Notice}
-use Rattle.channel_core.specs.declared.step.Notice.TheVariants.{Absent, Told, Untold}
+use Rattle.channel_model.specs.declared.step.Notice.{Notice}
+use Rattle.channel_model.specs.declared.step.Notice.TheVariants.{Absent, Told, Untold}
 use Rattle.channel_core.specs.Channel.{Channel}
-use Rattle.channel_core.specs.Operations.{Operation, awaiting_close, receiving, sending}
+use Rattle.channel_model.specs.Operations.{Operation, awaiting_close, receiving, sending}
 use Rattle.channel_core.specs.Tickets.{handed_on, left}
-use Rattle.channel_core.specs.Rosters.{Roster, Rosters}
+use Rattle.channel_model.specs.Rosters.{Roster, Rosters}
 use Rattle.channel_core.specs.StandsFor.{RunView}
 
 -- ---- tickets by name, and names by ticket

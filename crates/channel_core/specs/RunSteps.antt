@@ -3,31 +3,31 @@
 use Rattle.std.specs.Prelude.{◌≡◌, ◌⊎◌, MatchOption, ℕ, List, [], ◌∷◌, ◌++◌, Option, Some, None, Ok, Bool, true, false, not, ◌&&◌, ◌||◌, length, drop, nat_le, nat_lt, is_some, is_none, slice_get, option_and_then, if◌then◌else◌}
 use Rattle.std.specs.List.{list_any}
 use Rattle.futures.specs.declared.task.Poll.TheVariants.{Ready, Pending}
-use Rattle.channel_core.specs.declared.step.Kind.{Kind}
-use Rattle.channel_core.specs.declared.step.Who.{Who}
-use Rattle.channel_core.specs.declared.step.Who.TheVariants.{Op, Receiver}
-use Rattle.channel_core.specs.declared.step.Notice.{Notice}
-use Rattle.channel_core.specs.declared.step.Notice.TheVariants.{Absent}
-use Rattle.channel_core.specs.declared.step.Side.{Side}
-use Rattle.channel_core.specs.declared.step.Side.TheVariants.{Sender, Receiver}
-use Rattle.channel_core.specs.declared.step.Refusal.{Refusal}
-use Rattle.channel_core.specs.declared.step.Refusal.TheVariants.{Unknown, Taken, Borrowed, TooMany, OutOfMemory}
-use Rattle.channel_core.specs.declared.step.Step.{Step}
-use Rattle.channel_core.specs.declared.step.Step.TheVariants.{TrySend, ForceSend, TryRecv, Close, IsClosed, IsEmpty, IsFull, IsTerminated, Len, SenderCount, ReceiverCount, Capacity, CloneSender, CloneReceiver, CloneWeakSender, CloneWeakReceiver, DowngradeSender, DowngradeReceiver, UpgradeSender, UpgradeReceiver, DropSender, DropReceiver, DropWeakSender, DropWeakReceiver, StartSend, StartRecv, StartClosed, Poll, PollNext, DropOp}
-use Rattle.channel_core.specs.declared.step.Reply.{Reply}
-use Rattle.channel_core.specs.declared.step.Reply.TheVariants.{TrySent, Forced, Flag, Count, Capacity, Done, Upgraded, SendPolled, RecvPolled, ClosedPolled, NextPolled, Refused}
+use Rattle.channel_model.specs.declared.step.Kind.{Kind}
+use Rattle.channel_model.specs.declared.step.Who.{Who}
+use Rattle.channel_model.specs.declared.step.Who.TheVariants.{Op, Receiver}
+use Rattle.channel_model.specs.declared.step.Notice.{Notice}
+use Rattle.channel_model.specs.declared.step.Notice.TheVariants.{Absent}
+use Rattle.channel_model.specs.declared.step.Side.{Side}
+use Rattle.channel_model.specs.declared.step.Side.TheVariants.{Sender, Receiver}
+use Rattle.channel_model.specs.declared.step.Refusal.{Refusal}
+use Rattle.channel_model.specs.declared.step.Refusal.TheVariants.{Unknown, Taken, Borrowed, TooMany, OutOfMemory}
+use Rattle.channel_model.specs.declared.step.Step.{Step}
+use Rattle.channel_model.specs.declared.step.Step.TheVariants.{TrySend, ForceSend, TryRecv, Close, IsClosed, IsEmpty, IsFull, IsTerminated, Len, SenderCount, ReceiverCount, Capacity, CloneSender, CloneReceiver, CloneWeakSender, CloneWeakReceiver, DowngradeSender, DowngradeReceiver, UpgradeSender, UpgradeReceiver, DropSender, DropReceiver, DropWeakSender, DropWeakReceiver, StartSend, StartRecv, StartClosed, Poll, PollNext, DropOp}
+use Rattle.channel_model.specs.declared.step.Reply.{Reply}
+use Rattle.channel_model.specs.declared.step.Reply.TheVariants.{TrySent, Forced, Flag, Count, Capacity, Done, Upgraded, SendPolled, RecvPolled, ClosedPolled, NextPolled, Refused}
 use Rattle.event_list.specs.Keys.{is_among}
-use Rattle.channel_core.specs.Past.{Past}
-use Rattle.channel_core.specs.Handles.{without}
-use Rattle.channel_core.specs.Operations.{Operation, awaiting_close, borrows_receiver, borrows_sender, is_finished_send, operation_in, receiving, sending, unsent_message, with_finished, without_operation}
-use Rattle.channel_core.specs.Messages.{received_by, taken_by, with_last}
-use Rattle.channel_core.specs.Capacity.{capacity_of}
-use Rattle.channel_core.specs.Closing.{has_none}
-use Rattle.channel_core.specs.Replies.{force_send_reply, is_pending, poll_next_reply, poll_reply, try_recv_reply, try_send_reply}
-use Rattle.channel_core.specs.Tables.{handle_limit}
-use Rattle.channel_core.specs.Rosters.{Rosters, hand_on, leave, nobody, notice_in, wait, waits_anywhere}
-use Rattle.channel_core.specs.Notices.{after_accepting, after_closing, after_last_receiver, after_receiving}
-use Rattle.channel_core.specs.Answers.{IsAnswer, message_in, past_after}
+use Rattle.channel_model.specs.Past.{Past}
+use Rattle.channel_model.specs.Handles.{without}
+use Rattle.channel_model.specs.Operations.{Operation, awaiting_close, borrows_receiver, borrows_sender, is_finished_send, operation_in, receiving, sending, unsent_message, with_finished, without_operation}
+use Rattle.channel_model.specs.Messages.{received_by, taken_by, with_last}
+use Rattle.channel_model.specs.Capacity.{capacity_of}
+use Rattle.channel_model.specs.Closing.{has_none}
+use Rattle.channel_model.specs.Replies.{force_send_reply, is_pending, poll_next_reply, poll_reply, try_recv_reply, try_send_reply}
+use Rattle.channel_model.specs.Tables.{handle_limit}
+use Rattle.channel_model.specs.Rosters.{Rosters, hand_on, leave, nobody, notice_in, wait, waits_anywhere}
+use Rattle.channel_model.specs.Notices.{after_accepting, after_closing, after_last_receiver, after_receiving}
+use Rattle.channel_model.specs.Answers.{IsAnswer, message_in, past_after}
 use Rattle.channel_core.specs.StandsFor.{AreSameNames, AreSameOperations, RunView, StandsFor}
 
 -- ---- the reply

@@ -1,11 +1,11 @@
 -- What a list of steps comes to.
 use Rattle.std.specs.Prelude.{◌≡◌, List, [], ◌++◌}
-use Rattle.channel_core.specs.declared.step.Kind.{Kind}
-use Rattle.channel_core.specs.declared.step.Step.{Step}
-use Rattle.channel_core.specs.declared.step.Reply.{Reply}
-use Rattle.channel_core.specs.Past.{Past}
-use Rattle.channel_core.specs.Messages.{accepted_messages, taken_messages}
-use Rattle.channel_core.specs.Answers.{AreAnswers}
+use Rattle.channel_model.specs.declared.step.Kind.{Kind}
+use Rattle.channel_model.specs.declared.step.Step.{Step}
+use Rattle.channel_model.specs.declared.step.Reply.{Reply}
+use Rattle.channel_model.specs.Past.{Past}
+use Rattle.channel_model.specs.Messages.{accepted_messages, taken_messages}
+use Rattle.channel_model.specs.Answers.{AreAnswers}
 use Rattle.channel_core.specs.StandsFor.{RunView, StandsFor}
 
 -- There is a past of these steps: each reply is an answer behind the past of the steps before it, and the last past

@@ -1,16 +1,16 @@
 -- When a past stands for a run.
 use Rattle.std.specs.Prelude.{◌≡◌, ℕ, List, Option, Bool, length}
-use Rattle.channel_core.specs.declared.step.Kind.{Kind}
+use Rattle.channel_model.specs.declared.step.Kind.{Kind}
 use Rattle.event_list.specs.Keys.{is_among}
-use Rattle.channel_core.specs.Past.{Past}
-use Rattle.channel_core.specs.Handles.{live_receivers, live_senders, live_weak_receivers, live_weak_senders}
-use Rattle.channel_core.specs.Operations.{Operation, live_operations, operation_in}
-use Rattle.channel_core.specs.Messages.{held_messages}
-use Rattle.channel_core.specs.Capacity.{capacity_of}
-use Rattle.channel_core.specs.Closing.{is_closed}
-use Rattle.channel_core.specs.Rosters.{Rosters}
-use Rattle.channel_core.specs.Notices.{rosters}
-use Rattle.channel_core.specs.Legal.{IsLegal}
+use Rattle.channel_model.specs.Past.{Past}
+use Rattle.channel_model.specs.Handles.{live_receivers, live_senders, live_weak_receivers, live_weak_senders}
+use Rattle.channel_model.specs.Operations.{Operation, live_operations, operation_in}
+use Rattle.channel_model.specs.Messages.{held_messages}
+use Rattle.channel_model.specs.Capacity.{capacity_of}
+use Rattle.channel_model.specs.Closing.{is_closed}
+use Rattle.channel_model.specs.Rosters.{Rosters}
+use Rattle.channel_model.specs.Notices.{rosters}
+use Rattle.channel_model.specs.Legal.{IsLegal}
 
 -- What a run shows of itself, however it keeps it. Its names and operations may stand in any order.
 pub record RunView (T : Type 0) : Type 0 where

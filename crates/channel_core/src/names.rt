@@ -2,10 +2,10 @@
 ghost use Rattle.std.specs.Prelude.{◌≡◌, ◌++◌, ◌∷◌, [], length, false, true, suc, None, Some, is_some, ◌+◌, OnOk, OnErr, IfErr, IfNone};
 ghost use Rattle.std.specs.Map.{keys_of};
 ghost use Rattle.event_list.specs.Keys.{AreDifferent, is_among};
-ghost use Rattle.channel_core.specs.Handles.{without};
+ghost use Rattle.channel_model.specs.Handles.{without};
 ghost use Rattle.channel_core.specs.RunShown.{entry_at, Changed};
 
-use crate::errors::OutOfMemory;
+use channel_model::OutOfMemory;
 use std::alloc::Global;
 use std::collections::BTreeMap;
 use std::marker::Model;

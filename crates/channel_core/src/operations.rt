@@ -2,7 +2,7 @@
 ghost use Rattle.std.specs.Prelude.{◌≡◌};
 ghost use Rattle.std.specs.List.{list_any};
 ghost use Rattle.std.specs.BTreeMap.{values};
-ghost use Rattle.channel_core.specs.Operations.{borrows_receiver, borrows_sender, unsent_message};
+ghost use Rattle.channel_model.specs.Operations.{borrows_receiver, borrows_sender, unsent_message};
 ghost use Rattle.channel_core.specs.RunShown.{operation_shown};
 
 use event_list::Ticket;

@@ -2,7 +2,7 @@
 ghost use Rattle.std.specs.Prelude.{◌≡◌, ◌<◌, [], length, slice_get, Some, None, IfOk, IfErr, OnOk, OnErr};
 ghost use Rattle.channel_core.specs.Queue.{contents, push_reply, pushed, force_push_reply, force_pushed, popped, IsWithin};
 
-use crate::errors::{NoMemory, OutOfMemory};
+use channel_model::{NoMemory, OutOfMemory};
 use circular_buffer::HeapCircularBuffer;
 use std::alloc::Global;
 use std::collections::VecDeque;

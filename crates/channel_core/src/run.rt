@@ -1,23 +1,22 @@
 //! A channel with named handles and operations, and lists of steps by any parties.
 ghost use Rattle.std.specs.Prelude.{◌≡◌, ◌++◌, ℕ, [], true, Some, length, IfOk, IfErr};
-ghost use Rattle.channel_core.specs.declared.step.Kind.{Kind};
-ghost use Rattle.channel_core.specs.declared.step.Step.{Step};
-ghost use Rattle.channel_core.specs.Past.{Past};
+ghost use Rattle.channel_model.specs.declared.step.Kind.{Kind};
+ghost use Rattle.channel_model.specs.declared.step.Step.{Step};
+ghost use Rattle.channel_model.specs.Past.{Past};
 ghost use Rattle.channel_core.specs.Channel.{list_of};
-ghost use Rattle.channel_core.specs.Capacity.{HasPositiveCapacity};
-ghost use Rattle.channel_core.specs.Notices.{notice_of};
-ghost use Rattle.channel_core.specs.Answers.{IsAnswer, past_after};
+ghost use Rattle.channel_model.specs.Capacity.{HasPositiveCapacity};
+ghost use Rattle.channel_model.specs.Notices.{notice_of};
+ghost use Rattle.channel_model.specs.Answers.{IsAnswer, past_after};
 ghost use Rattle.channel_core.specs.StandsFor.{StandsFor};
 ghost use Rattle.channel_core.specs.Runs.{ComesTo};
 ghost use Rattle.event_list.specs.Keys.{is_among};
 ghost use Rattle.channel_core.specs.RunShown.{dropped, notice_at};
 ghost use Rattle.channel_core.specs.RunSteps.{is_handle_in, is_operation_in, StepsAsAllowed, StepsTo};
 
-use crate::errors::{NoMemory, OutOfMemory};
 use crate::names::{Names, put, take};
 use crate::operations::{Operation, is_receiver_borrowed, is_sender_borrowed};
 use crate::state::{Core, Group, HANDLE_LIMIT};
-use crate::step::{Kind, Notice, Refusal, Reply, Side, Step, Who};
+use channel_model::{Kind, NoMemory, Notice, OutOfMemory, Refusal, Reply, Side, Step, Who};
 use event_list::{Quiet, Ticket};
 use std::alloc::Global;
 use std::collections::BTreeMap;

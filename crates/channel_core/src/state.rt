@@ -3,13 +3,14 @@ ghost use Rattle.std.specs.Prelude.{◌≡◌, ◌<◌, ◌==◌, ◌&&◌, ◌+
 ghost use Rattle.std.specs.Bool.{OnTrue, OnFalse};
 ghost use Rattle.event_list.specs.Keys.{AreDifferent};
 ghost use Rattle.event_list.specs.Waiting.{RingsEach, keys, payloads, told_count, told_all, mark};
-ghost use Rattle.channel_core.specs.Tables.{OnReady, OnWait, try_send_answer, force_send_answer, try_recv_answer, send_poll, recv_poll, next_poll, closed_poll, may_add, count_added, upgrade_answer, count_upgraded};
+ghost use Rattle.channel_model.specs.Tables.{OnReady, OnWait, try_send_answer, force_send_answer, try_recv_answer, send_poll, recv_poll, next_poll, closed_poll};
+ghost use Rattle.channel_core.specs.Counts.{may_add, count_added, upgrade_answer, count_upgraded};
 ghost use Rattle.channel_core.specs.Tickets.{left, handed_on, rung_by_handing_on};
 ghost use Rattle.channel_core.specs.Channel.{new_channel, is_channel_full, oldest, GrowsWithMessages, list_of, sent, force_sent, received, closing, polled_receive, polled_stream, sender_dropped, receiver_dropped_by, polled_send, SendWaits, RecvWaits, NextWaits, ClosedWaits, SendWants, RecvWants, NextWants, ClosedWants};
 
-use crate::errors::{NoMemory, OutOfMemory, RecvError, SendError, TryRecvError, TrySendError};
 use crate::queue::Queue;
 use crate::waiting::{WaitLists, hand_on, leave, wait};
+use channel_model::{NoMemory, OutOfMemory, RecvError, SendError, TryRecvError, TrySendError};
 use event_list::{Bell, Ticket};
 use futures::task::Poll;
 use std::alloc::Global;
@@ -66,7 +67,7 @@ pub struct Core<T, W> {
 pub(crate) const HANDLE_LIMIT: usize = usize::MAX / 2;
 
 impl<T, W> Model for Core<T, W> {
-    ghost use Rattle.channel_core.specs.Covered.{IsCovered};
+    ghost use Rattle.channel_model.specs.Covered.{IsCovered};
     ghost use Rattle.channel_core.specs.Channel.{Channel, standing_of};
 
     ghost Value = { Channel T W };

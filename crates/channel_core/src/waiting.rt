@@ -3,8 +3,8 @@ ghost use Rattle.std.specs.Prelude.{◌≡◌, ◌++◌, None, OnErr, OnOk, fals
 ghost use Rattle.event_list.specs.Waiting.{RingsEach, nobody, payloads, told_one, told_all};
 ghost use Rattle.channel_core.specs.Tickets.{Waits, waits, left, handed_on, rung_by_handing_on, LosesAtMostOne};
 
-use crate::errors::OutOfMemory;
 use crate::state::Group;
+use channel_model::OutOfMemory;
 use event_list::{Bell, NoRoom, Ticket, WaitList};
 use std::alloc::Global;
 

@@ -1,8 +1,8 @@
 use Rattle.std.proofs.Common.{rules, ◌≡◌, ◌∙◌, ap}
 use Rattle.std.proofs.lemmas.Fn.{filter_same}
 use Rattle.event_list.specs.Keys.{is_among}
-use Rattle.channel_core.specs.Handles.{without}
-use Rattle.channel_core.proofs.NameLists.{AreDifferent-without, length-without}
+use Rattle.channel_model.specs.Handles.{without}
+use Rattle.channel_model.proofs.NameLists.{AreDifferent-without, length-without}
 use Rattle.channel_core.proofs.names.Names.remove.Goals as goal
 
 pub invariant_of-self : goal.invariant_of-self

@@ -2,10 +2,11 @@ use Rattle.std.proofs.Common.{rules, ◌≡◌, ◌∙◌, Some, None, true, fal
 use Rattle.std.proofs.lemmas.List.{length-map}
 use Rattle.std.specs.Prelude.{nat_lt, ◌&&◌}
 use Rattle.event_list.specs.Keys.{is_among}
-use Rattle.channel_core.specs.declared.step.Reply.{Reply}
-use Rattle.channel_core.specs.declared.step.Step.{Step}
+use Rattle.channel_model.specs.declared.step.Reply.{Reply}
+use Rattle.channel_model.specs.declared.step.Step.{Step}
 use Rattle.channel_core.specs.StandsFor.{RunView}
-use Rattle.channel_core.specs.Tables.{count_added, count_upgraded, handle_limit, upgrade_answer}
+use Rattle.channel_model.specs.Tables.{handle_limit}
+use Rattle.channel_core.specs.Counts.{count_added, count_upgraded, upgrade_answer}
 use Rattle.channel_core.specs.RunShown.{Changed, entry_at, shown}
 use Rattle.channel_core.proofs.Entries.{is_among-entry_at}
 use Rattle.channel_core.proofs.MadeSteps.{made-clone_receiver}

@@ -1,6 +1,6 @@
 use Rattle.std.proofs.Common.{rules, ◌≡◌, ◌∙◌, true, refl, sym, ap}
-use Rattle.channel_core.specs.declared.step.Step.{Step}
-use Rattle.channel_core.specs.declared.step.Reply.{Reply}
+use Rattle.channel_model.specs.declared.step.Step.{Step}
+use Rattle.channel_model.specs.declared.step.Reply.{Reply}
 use Rattle.channel_core.specs.RunShown.{shown}
 use Rattle.channel_core.specs.StandsFor.{RunView}
 use Rattle.channel_core.specs.RunSteps.{is_handle_in}

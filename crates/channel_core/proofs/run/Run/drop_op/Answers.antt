@@ -1,8 +1,8 @@
 use Rattle.std.proofs.Common.{rules, ◌≡◌, ◌∙◌, true, false, refl, sym, ap, Some, None}
 use Rattle.std.specs.Prelude.{is_some, Option}
 use Rattle.channel_core.specs.declared.operations.Operation.{Operation as Started}
-use Rattle.channel_core.specs.declared.step.Refusal.{Refusal}
-use Rattle.channel_core.specs.declared.step.Step.{Step}
+use Rattle.channel_model.specs.declared.step.Refusal.{Refusal}
+use Rattle.channel_model.specs.declared.step.Step.{Step}
 use Rattle.channel_core.specs.RunSteps.{is_operation_in}
 use Rattle.channel_core.specs.RunShown.{dropped, entry_at, shown}
 use Rattle.channel_core.proofs.Entries.{is_some-shown}

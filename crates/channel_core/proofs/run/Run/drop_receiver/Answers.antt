@@ -3,9 +3,9 @@ use Rattle.std.specs.Prelude.{is_some}
 use Rattle.std.specs.Option.{option_flatten}
 use Rattle.event_list.specs.Keys.{is_among}
 use Rattle.channel_core.specs.Channel.{receiver_dropped_by}
-use Rattle.channel_core.specs.Operations.{borrows_receiver}
-use Rattle.channel_core.specs.declared.step.Refusal.{Refusal}
-use Rattle.channel_core.specs.declared.step.Step.{Step}
+use Rattle.channel_model.specs.Operations.{borrows_receiver}
+use Rattle.channel_model.specs.declared.step.Refusal.{Refusal}
+use Rattle.channel_model.specs.declared.step.Step.{Step}
 use Rattle.channel_core.specs.StandsFor.{RunView}
 use Rattle.channel_core.specs.RunSteps.{is_borrowed_in}
 use Rattle.channel_core.specs.RunShown.{entry_at, shown, stream_ticket, ticket_at}

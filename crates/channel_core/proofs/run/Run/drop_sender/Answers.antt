@@ -1,9 +1,9 @@
 use Rattle.std.proofs.Common.{◌≡◌, ◌∙◌, true, false, refl, sym, length, suc}
 use Rattle.event_list.specs.Keys.{is_among}
-use Rattle.channel_core.specs.Handles.{without}
-use Rattle.channel_core.specs.Operations.{borrows_sender}
-use Rattle.channel_core.specs.declared.step.Refusal.{Refusal}
-use Rattle.channel_core.specs.declared.step.Step.{Step}
+use Rattle.channel_model.specs.Handles.{without}
+use Rattle.channel_model.specs.Operations.{borrows_sender}
+use Rattle.channel_model.specs.declared.step.Refusal.{Refusal}
+use Rattle.channel_model.specs.declared.step.Step.{Step}
 use Rattle.channel_core.specs.RunSteps.{is_borrowed_in}
 use Rattle.channel_core.specs.RunShown.{shown}
 use Rattle.channel_core.proofs.Entries.{list_any-shown}

@@ -1,7 +1,7 @@
 use Rattle.std.proofs.Common.{◌≡◌, ◌∙◌, true, refl, sym, ap}
 use Rattle.event_list.specs.Keys.{is_among}
-use Rattle.channel_core.specs.declared.step.Refusal.{Refusal}
-use Rattle.channel_core.specs.declared.step.Step.{Step}
+use Rattle.channel_model.specs.declared.step.Refusal.{Refusal}
+use Rattle.channel_model.specs.declared.step.Step.{Step}
 use Rattle.channel_core.specs.RunShown.{shown}
 use Rattle.channel_core.proofs.RunWants.{wants-message}
 use Rattle.channel_core.proofs.WholeSteps.{IsRefused-unchanged, StepsTo-made, StepsTo-wants, not_refused}

@@ -1,6 +1,6 @@
 use Rattle.std.proofs.Common.{◌∙◌, sym, ap}
 use Rattle.std.specs.Prelude.{is_some, Option}
-use Rattle.channel_core.specs.Operations.{Operation}
+use Rattle.channel_model.specs.Operations.{Operation}
 use Rattle.channel_core.proofs.Entries.{is_some-shown}
 use Rattle.channel_core.proofs.run.Run.has_operation.Goals as goal
 

@@ -1,6 +1,6 @@
 use Rattle.std.proofs.Common.{◌≡◌, ◌∙◌, ◌+◌, ◌∷◌, ◌++◌, [], ℕ, Option, Some, None, refl, sym, ap, length, subst}
 use Rattle.std.specs.Prelude.{List}
-use Rattle.channel_core.specs.Capacity.{capacity_of}
+use Rattle.channel_model.specs.Capacity.{capacity_of}
 use Rattle.channel_core.specs.Channel.{new_channel}
 use Rattle.channel_core.specs.RunShown.{Changed}
 use Rattle.channel_core.proofs.RunNew.{stands-new, whole-new}

@@ -1,7 +1,7 @@
 use Rattle.std.proofs.Common.{◌≡◌, ◌∙◌, ℕ, Some, None, Option, refl, sym, ap}
 use Rattle.std.specs.Prelude.{option_and_then}
 use Rattle.channel_core.specs.declared.operations.Operation.{Operation as Started}
-use Rattle.channel_core.specs.declared.step.Who.TheVariants.{Op, Receiver}
+use Rattle.channel_model.specs.declared.step.Who.TheVariants.{Op, Receiver}
 use Rattle.channel_core.specs.RunShown.{shown, stream_ticket}
 use Rattle.channel_core.proofs.RunFacts.{notice_shown-StandsFor}
 use Rattle.channel_core.proofs.RunNotices.{notice-closed, notice-none, notice-recv, notice-send, notice-stream}

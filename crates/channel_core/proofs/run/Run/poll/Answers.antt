@@ -2,9 +2,9 @@ use Rattle.std.proofs.Common.{rules, ◌≡◌, ◌∙◌, ℕ, Ok, Err, Some, N
 use Rattle.std.specs.Prelude.{Option, is_some, Result}
 use Rattle.channel_core.specs.declared.operations.Operation.{Operation as Started}
 use Rattle.channel_core.specs.declared.operations.Operation.TheVariants.{Send, Recv, Closed}
-use Rattle.channel_core.specs.declared.step.Refusal.{Refusal}
-use Rattle.channel_core.specs.declared.step.Reply.TheVariants.{SendPolled, RecvPolled, ClosedPolled}
-use Rattle.channel_core.specs.declared.step.Step.{Step}
+use Rattle.channel_model.specs.declared.step.Refusal.{Refusal}
+use Rattle.channel_model.specs.declared.step.Reply.TheVariants.{SendPolled, RecvPolled, ClosedPolled}
+use Rattle.channel_model.specs.declared.step.Step.{Step}
 use Rattle.channel_core.specs.RunShown.{entry_at, shown}
 use Rattle.channel_core.proofs.Entries.{is_some-shown}
 use Rattle.channel_core.proofs.RunPolls.{first_on_err, is_there, polled, polled-closed, polled-recv, polled-send}

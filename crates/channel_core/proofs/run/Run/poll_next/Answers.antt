@@ -1,8 +1,8 @@
 use Rattle.std.proofs.Common.{◌≡◌, ◌∙◌, true, false, refl, sym, ap, subst, None}
 use Rattle.event_list.specs.Keys.{is_among}
-use Rattle.channel_core.specs.Operations.{borrows_receiver}
-use Rattle.channel_core.specs.declared.step.Refusal.{Refusal}
-use Rattle.channel_core.specs.declared.step.Step.{Step}
+use Rattle.channel_model.specs.Operations.{borrows_receiver}
+use Rattle.channel_model.specs.declared.step.Refusal.{Refusal}
+use Rattle.channel_model.specs.declared.step.Step.{Step}
 use Rattle.channel_core.specs.StandsFor.{RunView}
 use Rattle.channel_core.specs.RunSteps.{is_borrowed_in, refusal_in}
 use Rattle.channel_core.specs.RunShown.{shown}

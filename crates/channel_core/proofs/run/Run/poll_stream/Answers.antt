@@ -2,7 +2,7 @@ use Rattle.std.proofs.Common.{◌≡◌, ◌∙◌, Some, None, true, false, ref
 use Rattle.std.specs.Prelude.{is_some, Option}
 use Rattle.event_list.specs.Keys.{is_among}
 use Rattle.channel_core.specs.StandsFor.{RunView}
-use Rattle.channel_core.specs.declared.step.Reply.TheVariants.{NextPolled}
+use Rattle.channel_model.specs.declared.step.Reply.TheVariants.{NextPolled}
 use Rattle.channel_core.specs.RunShown.{entry_at}
 use Rattle.channel_core.proofs.Entries.{is_among-entry_at}
 use Rattle.channel_core.proofs.RunPolls.{first_on_err, is_there, polled}

@@ -1,8 +1,8 @@
 use Rattle.std.proofs.Common.{◌≡◌, ◌∙◌, Some, None, true, false, refl, sym, ap}
 use Rattle.event_list.specs.Keys.{is_among}
 use Rattle.channel_core.specs.declared.operations.Operation.TheVariants.{Send}
-use Rattle.channel_core.specs.declared.step.Refusal.{Refusal}
-use Rattle.channel_core.specs.declared.step.Step.{Step}
+use Rattle.channel_model.specs.declared.step.Refusal.{Refusal}
+use Rattle.channel_model.specs.declared.step.Step.{Step}
 use Rattle.channel_core.specs.StandsFor.{RunView}
 use Rattle.channel_core.specs.RunSteps.{is_operation_in}
 use Rattle.channel_core.specs.RunShown.{entry_at, shown}

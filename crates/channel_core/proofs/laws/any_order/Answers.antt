@@ -1,5 +1,0 @@
-use Rattle.channel_core.proofs.AnyOrder.{EndsWell-IsFreePolling}
-use Rattle.channel_core.proofs.laws.any_order.Goals as goal
-
-pub returns : goal.returns
-returns g c = λ kind past polls legal free. EndsWell-IsFreePolling kind past polls legal free

@@ -1,5 +1,0 @@
-use Rattle.channel_core.proofs.Upgrades.{is_closed-Close}
-use Rattle.channel_core.proofs.laws.closes_once.Goals as goal
-
-pub returns : goal.returns
-returns g c = record { replied = λ kind past side reply legal. legal.1; closed = λ past side reply. is_closed-Close past side reply }

@@ -1,5 +1,0 @@
-use Rattle.channel_core.proofs.Conserved.{accepted_messages-IsLegal}
-use Rattle.channel_core.proofs.laws.conserved.Goals as goal
-
-pub returns : goal.returns
-returns g c = λ kind past legal. accepted_messages-IsLegal kind past legal

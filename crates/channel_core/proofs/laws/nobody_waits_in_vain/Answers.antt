@@ -1,5 +1,0 @@
-use Rattle.channel_core.proofs.CoveredSteps.{IsCovered-IsLegal}
-use Rattle.channel_core.proofs.laws.nobody_waits_in_vain.Goals as goal
-
-pub returns : goal.returns
-returns g c = λ kind past legal. IsCovered-IsLegal kind past legal

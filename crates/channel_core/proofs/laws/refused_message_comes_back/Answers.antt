@@ -1,5 +1,0 @@
-use Rattle.channel_core.proofs.ClosedStays.{ComesBack-IsLegal}
-use Rattle.channel_core.proofs.laws.refused_message_comes_back.Goals as goal
-
-pub returns : goal.returns
-returns g c = λ kind past step reply message legal back. ComesBack-IsLegal kind past step reply message legal back

@@ -1,6 +1,0 @@
-use Rattle.channel_core.proofs.CoveredSteps.{HasPositiveCapacity-IsLegal, Whole-IsLegal}
-use Rattle.channel_core.proofs.Settled.{IsDone-IsQuiet}
-use Rattle.channel_core.proofs.laws.settled_is_done.Goals as goal
-
-pub returns : goal.returns
-returns g c = λ kind past legal quiet. IsDone-IsQuiet kind past (HasPositiveCapacity-IsLegal kind past legal) (Whole-IsLegal kind past legal) quiet

@@ -1,5 +1,0 @@
-use Rattle.channel_core.proofs.Upgrades.{within-IsLegal}
-use Rattle.channel_core.proofs.laws.within_capacity.Goals as goal
-
-pub returns : goal.returns
-returns g c = λ capacity past legal. within-IsLegal capacity past legal

@@ -1,0 +1,24 @@
+mod RowsReplies
+mod Examples
+mod Script
+mod ScriptLemmas
+mod RowsSends
+mod RowsNotices
+mod RowsSettling
+mod RowsNames
+mod RowsOriginal
+pub mod Conserved
+pub mod NameLists
+pub mod RosterLemmas
+pub mod Measure
+pub mod Keeping
+pub mod CoveredSteps
+pub mod Unchanged
+pub mod Settled
+pub mod LookUps
+pub mod WhoWaits
+pub mod AnyOrder
+pub mod ClosedStays
+pub mod Upgrades
+pub mod LegalAnswers
+pub mod Settling

@@ -1,0 +1,62 @@
+-- Worked rows: lines with the answers that are expected, and what the definitions alone answer to them.
+use Rattle.std.specs.Prelude.{◌≡◌, ℕ, List, [], ◌∷◌, ◌++◌, Option, Some, None, length}
+use Rattle.channel_model.specs.declared.step.Kind.{Kind}
+use Rattle.channel_model.specs.declared.step.Who.{Who}
+use Rattle.channel_model.specs.declared.step.Notice.{Notice}
+use Rattle.channel_model.specs.declared.step.Refusal.{Refusal}
+use Rattle.channel_model.specs.declared.step.Step.{Step}
+use Rattle.channel_model.specs.declared.step.Reply.{Reply}
+use Rattle.channel_model.specs.declared.step.Reply.TheVariants.{Refused}
+use Rattle.channel_model.specs.Past.{Past}
+use Rattle.channel_model.specs.Replies.{due_reply}
+use Rattle.channel_model.specs.Refusals.{refusal_of}
+use Rattle.channel_model.specs.Notices.{notice_of}
+use Rattle.channel_model.specs.Answers.{message_in, past_after}
+use Rattle.channel_model.specs.Legal.{IsLegal}
+use Rattle.channel_model.specs.Polling.{finished_polls}
+use Rattle.channel_model.proofs.Settling.{settling_polls}
+
+-- A line, and what is expected of it: a step and its reply, somebody and the notice, settling with the number of
+-- its polls and those that were ready.
+pub data Line : Type 0 where
+  does : Step ℕ → Reply ℕ → Line
+  notes : Who → Notice → Line
+  settles : ℕ → List (Who × Reply ℕ) → Line
+
+-- the refusal, or else the reply that is due: what answers a step where no memory is wanted
+abbrev pub answer_of : Option Refusal → Option ℕ → Reply ℕ → Reply ℕ
+answer_of (Some refusal) message due = Refused refusal message
+answer_of None message due = due
+
+abbrev pub answer : Kind → Past ℕ → Step ℕ → Reply ℕ
+answer kind past step = answer_of (refusal_of past step) (message_in step) (due_reply kind past step)
+
+-- The lines with what the definitions answer to them.
+abbrev pub answered : Kind → Past ℕ → List Line → List Line
+answered kind past [] = []
+answered kind past (does step expected ∷ lines) =
+    does step (answer kind past step) ∷ answered kind (past_after past step (answer kind past step)) lines
+answered kind past (notes who expected ∷ lines) = notes who (notice_of past who) ∷ answered kind past lines
+answered kind past (settles expected finished ∷ lines) =
+    settles (length (settling_polls kind past)) (finished_polls (settling_polls kind past))
+    ∷ answered kind (settling_polls kind past ++ past) lines
+
+-- the past behind the lines
+abbrev pub past_behind : Kind → Past ℕ → List Line → Past ℕ
+past_behind kind past [] = past
+past_behind kind past (does step expected ∷ lines) = past_behind kind (past_after past step (answer kind past step)) lines
+past_behind kind past (notes who expected ∷ lines) = past_behind kind past lines
+past_behind kind past (settles expected finished ∷ lines) = past_behind kind (settling_polls kind past ++ past) lines
+
+-- A row: the kind of the channel, and the lines.
+pub record Row : Type 0 where
+  pub kind : Kind
+  pub lines : List Line
+
+-- Each answer is the expected one.
+abbrev pub IsRow : Row → Type 0
+IsRow row = answered row.kind [] row.lines ≡ row.lines
+
+-- The past behind the lines is one that can come about.
+abbrev pub EndsLegal : Row → Type 0
+EndsLegal row = IsLegal row.kind (past_behind row.kind [] row.lines)

@@ -1,0 +1,41 @@
+-- What answers a step, and a list of steps.
+use Rattle.std.specs.Prelude.{◌≡◌, ◌⊎◌, List, [], ◌∷◌, Option, Some, None, true, MatchOption}
+use Rattle.channel_model.specs.declared.step.Kind.{Kind}
+use Rattle.channel_model.specs.declared.step.Refusal.TheVariants.{OutOfMemory}
+use Rattle.channel_model.specs.declared.step.Step.{Step}
+use Rattle.channel_model.specs.declared.step.Step.TheVariants.{TrySend, ForceSend, StartSend}
+use Rattle.channel_model.specs.declared.step.Reply.{Reply}
+use Rattle.channel_model.specs.declared.step.Reply.TheVariants.{Refused}
+use Rattle.channel_model.specs.Past.{Past}
+use Rattle.channel_model.specs.Replies.{due_reply}
+use Rattle.channel_model.specs.Refusals.{refusal_of}
+use Rattle.channel_model.specs.Memory.{may_want_memory}
+
+-- The message that a refused step hands back.
+abbrev pub message_in : {T : Type 0} → Step T → Option T
+message_in (TrySend sender message) = Some message
+message_in (ForceSend sender message) = Some message
+message_in (StartSend op sender message) = Some message
+message_in step = None
+
+-- The reply is the refusal that applies; where none does, it is the one that is due, or want of memory where
+-- that is possible.
+abbrev pub IsAnswer : {T : Type 0} → Kind → Past T → Step T → Reply T → Type 0
+IsAnswer kind past step reply =
+    MatchOption (refusal_of past step)
+    ((reply ≡ due_reply kind past step)
+    ⊎ ((may_want_memory kind past step ≡ true) × (reply ≡ Refused OutOfMemory (message_in step))))
+    (λ refusal. reply ≡ Refused refusal (message_in step))
+
+-- The past after a step with this reply: a refused one isn't added.
+abbrev pub past_after : {T : Type 0} → Past T → Step T → Reply T → Past T
+past_after past step (Refused refusal message) = past
+past_after past step reply = (step, reply) ∷ past
+
+-- Each step, in order, was answered behind the past that those before it left, and this is the past after all
+-- of them.
+abbrev pub AreAnswers : {T : Type 0} → Kind → Past T → List (Step T) → List (Reply T) → Past T → Type 0
+AreAnswers kind past [] [] after = after ≡ past
+AreAnswers kind past (step ∷ steps) (reply ∷ replies) after =
+    IsAnswer kind past step reply × AreAnswers kind (past_after past step reply) steps replies after
+AreAnswers kind past steps replies after = ⊥

@@ -1,0 +1,28 @@
+-- When a channel is closed, and when it has no receiver.
+use Rattle.std.specs.Prelude.{[], ◌∷◌, List, Bool, true, false, ◌||◌}
+use Rattle.channel_model.specs.declared.step.Step.{Step}
+use Rattle.channel_model.specs.declared.step.Step.TheVariants.{Close}
+use Rattle.channel_model.specs.Past.{Past}
+use Rattle.channel_model.specs.Handles.{live_senders, live_receivers}
+
+-- a closing by hand, by either side
+abbrev pub is_close : {T : Type 0} → Step T → Bool
+is_close (Close side) = true
+is_close step = false
+
+-- the list is empty
+abbrev pub has_none : {X : Type 0} → List X → Bool
+has_none [] = true
+has_none (first ∷ rest) = false
+
+-- At some moment of the past somebody closed it by hand, or no sender was live, or no receiver was.
+-- So a closed channel stays closed.
+abbrev pub is_closed : {T : Type 0} → Past T → Bool
+is_closed [] = false
+is_closed (pair ∷ past) =
+    is_closed past || is_close pair.0
+    || has_none (live_senders (pair ∷ past)) || has_none (live_receivers (pair ∷ past))
+
+-- No receiver is live. Such a channel is closed; one that was closed by hand may have receivers still.
+abbrev pub has_no_receiver : {T : Type 0} → Past T → Bool
+has_no_receiver past = has_none (live_receivers past)

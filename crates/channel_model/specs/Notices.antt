@@ -1,0 +1,79 @@
+-- The rule of notices: who waits behind a past, and who of them was told.
+use Rattle.std.specs.Prelude.{[], ◌∷◌, Option, Some, None, Bool, true, false, if◌then◌else◌}
+use Rattle.futures.specs.declared.task.Poll.TheVariants.{Ready, Pending}
+use Rattle.channel_model.specs.declared.step.Who.{Who}
+use Rattle.channel_model.specs.declared.step.Who.TheVariants.{Op, Receiver}
+use Rattle.channel_model.specs.declared.step.Notice.{Notice}
+use Rattle.channel_model.specs.declared.step.Step.{Step}
+use Rattle.channel_model.specs.declared.step.Step.TheVariants.{Poll, PollNext, DropOp, DropReceiver}
+use Rattle.channel_model.specs.declared.step.Reply.{Reply}
+use Rattle.channel_model.specs.declared.step.Reply.TheVariants.{SendPolled, RecvPolled, ClosedPolled, NextPolled}
+use Rattle.event_list.specs.Keys.{is_among}
+use Rattle.channel_model.specs.Past.{Past}
+use Rattle.channel_model.specs.Operations.{is_finished_send, operation_of}
+use Rattle.channel_model.specs.Messages.{accepted_by, received_by}
+use Rattle.channel_model.specs.Closing.{has_no_receiver, is_closed}
+use Rattle.channel_model.specs.Rosters.{Rosters, hand_on, notice_in, tell_all, tell_one, leave, nobody, wait}
+
+-- ---- First the entry of the one who acts is moved.
+
+-- Whose poll is ready leaves. Whose poll is pending goes last, untold, or keeps its place if it waits untold
+-- already; for a finished send nothing changes. Whoever is given up leaves, and a told send or receive hands
+-- its notice on. With a receiver its stream leaves.
+abbrev pub after_own_move : {T : Type 0} → Past T → Step T → Reply T → Rosters → Rosters
+after_own_move past (Poll op) (SendPolled (Ready result)) all = record all { sends = leave op all.sends }
+after_own_move past (Poll op) (SendPolled Pending) all =
+    if is_finished_send (operation_of past op) then all else record all { sends = wait op all.sends }
+after_own_move past (Poll op) (RecvPolled (Ready result)) all = record all { receives = leave op all.receives }
+after_own_move past (Poll op) (RecvPolled Pending) all = record all { receives = wait op all.receives }
+after_own_move past (Poll op) (ClosedPolled (Ready done)) all = record all { closeds = leave op all.closeds }
+after_own_move past (Poll op) (ClosedPolled Pending) all = record all { closeds = wait op all.closeds }
+after_own_move past (PollNext receiver) (NextPolled (Ready item)) all = record all { streams = leave receiver all.streams }
+after_own_move past (PollNext receiver) (NextPolled Pending) all = record all { streams = wait receiver all.streams }
+after_own_move past (DropOp op) reply all =
+    record all { sends = hand_on op all.sends; receives = hand_on op all.receives; closeds = leave op all.closeds }
+after_own_move past (DropReceiver receiver) reply all = record all { streams = leave receiver all.streams }
+after_own_move past step reply all = all
+
+-- ---- Then the others are told.
+
+-- A message was accepted: one receive and all streams are told.
+abbrev pub after_accepting : {T : Type 0} → (accepted : Option T) → Rosters → Rosters
+after_accepting (Some message) all = record all { receives = tell_one all.receives; streams = tell_all all.streams }
+after_accepting None all = all
+
+-- A message was received: one send is told. A displaced message leaves no place free and tells no send; the
+-- forced one, for which it made room, was accepted and tells one receive and all streams.
+abbrev pub after_receiving : {T : Type 0} → (received : Option T) → Rosters → Rosters
+after_receiving (Some message) all = record all { sends = tell_one all.sends }
+after_receiving None all = all
+
+-- The step closed the channel, by hand or with the last handle of a side: all sends, receives and streams are told.
+abbrev pub after_closing : (closed_before closed_now : Bool) → Rosters → Rosters
+after_closing false true all =
+    record all { sends = tell_all all.sends; receives = tell_all all.receives; streams = tell_all all.streams }
+after_closing before now all = all
+
+-- The step ended the last receiver: all closed operations are told, also where the channel was closed before.
+abbrev pub after_last_receiver : (none_before none_now : Bool) → Rosters → Rosters
+after_last_receiver false true all = record all { closeds = tell_all all.closeds }
+after_last_receiver before now all = all
+
+-- Who waits behind this past, and who was told: first the own entry is moved, then the others are told.
+-- On a new channel nobody waits.
+abbrev pub rosters : {T : Type 0} → Past T → Rosters
+rosters [] = record { sends = nobody; receives = nobody; streams = nobody; closeds = nobody }
+rosters ((step, reply) ∷ past) =
+    after_last_receiver (has_no_receiver past) (has_no_receiver ((step, reply) ∷ past))
+    (after_closing (is_closed past) (is_closed ((step, reply) ∷ past))
+    (after_receiving (received_by reply)
+    (after_accepting (accepted_by past step reply)
+    (after_own_move past step reply (rosters past)))))
+
+-- Whether somebody waits, and was told. An operation is in one roster at most.
+abbrev pub notice_of : {T : Type 0} → Past T → Who → Notice
+notice_of past (Op op) =
+    if is_among op (rosters past).sends.names then notice_in op (rosters past).sends
+    else if is_among op (rosters past).receives.names then notice_in op (rosters past).receives
+    else notice_in op (rosters past).closeds
+notice_of past (Receiver receiver) = notice_in receiver (rosters past).streams
