@@ -3,7 +3,6 @@ ghost use Rattle.std.specs.Prelude.{◌≡◌, ◌<◌, ℕ, List, [], ◌∷◌
 use super::*;
 use futures::task::Poll;
 use std::alloc::Global;
-use std::error::Error;
 use std::marker::Model;
 use std::process::Abort;
 use std::test::Fail;
@@ -387,82 +386,6 @@ fn a_queue_without_a_bound(rt: HostRuntime) -> Result<(), Fail> {
         (Some(1), 1, None)
     );
     Ok(())
-}
-
-/// Looks at the texts of an error through the bound that callers have.
-fn reads<E: Error>(
-    rt: &impl Abort,
-    alloc: Global,
-    error: &E,
-    text: &str,
-    debug: &str,
-) -> Result<(), Fail> {
-    assert!(rt; format!(in alloc; "{error}")?.as_str() == text, "{text}");
-    assert!(rt;
-        format!(in alloc; "{error:?}")?.as_str() == debug,
-        "{debug}"
-    );
-    Ok(())
-}
-
-#[test]
-fn texts_of_errors_with_a_message(rt: HostRuntime) -> Result<(), Fail> {
-    let alloc = rt.alloc();
-    let closed = "sending into a closed channel";
-    reads(&rt, alloc, &SendError(1), closed, "SendError(..)")?;
-    reads(
-        &rt,
-        alloc,
-        &TrySendError::Full(1),
-        "sending into a full channel",
-        "Full(..)",
-    )?;
-    reads(&rt, alloc, &TrySendError::Closed(1), closed, "Closed(..)")?;
-    reads(&rt, alloc, &NoMemory(1), "out of memory", "NoMemory(..)")
-}
-
-#[test]
-fn texts_of_other_errors(rt: HostRuntime) -> Result<(), Fail> {
-    let alloc = rt.alloc();
-    let ended = "receiving from an empty and closed channel";
-    reads(&rt, alloc, &RecvError, ended, "RecvError")?;
-    reads(
-        &rt,
-        alloc,
-        &TryRecvError::Empty,
-        "receiving from an empty channel",
-        "Empty",
-    )?;
-    reads(&rt, alloc, &TryRecvError::Closed, ended, "Closed")?;
-    reads(&rt, alloc, &OutOfMemory, "out of memory", "OutOfMemory")?;
-    reads(
-        &rt,
-        alloc,
-        &MakeError::OutOfMemory,
-        "out of memory",
-        "OutOfMemory",
-    )?;
-    reads(
-        &rt,
-        alloc,
-        &MakeError::NoStamps,
-        "no stamp is left",
-        "NoStamps",
-    )?;
-    reads(
-        &rt,
-        alloc,
-        &CloneError::TooMany,
-        "too many handles",
-        "TooMany",
-    )?;
-    reads(
-        &rt,
-        alloc,
-        &CloneError::OutOfMemory,
-        "out of memory",
-        "OutOfMemory",
-    )
 }
 
 /// A copy and a clone of an error, through the bounds that callers have.
