@@ -36,11 +36,13 @@ use Rattle.channel_model.proofs.WhoWaits.{or_right, AreLive-IsLegal}
 
 -- ---- the numbers
 
-waiting-accepting : {T : Type 0} (accepted : Option T) (all : Rosters) → waiting_in (after_accepting accepted all) ≡ waiting_in all
+waiting-accepting : {T : Type 0} (accepted : Option T) (all : Rosters)
+    → waiting_in (after_accepting accepted all) ≡ waiting_in all
 waiting-accepting (Some message) all = refl
 waiting-accepting None all = refl
 
-waiting-receiving : {T : Type 0} (received : Option T) (all : Rosters) → waiting_in (after_receiving received all) ≡ waiting_in all
+waiting-receiving : {T : Type 0} (received : Option T) (all : Rosters)
+    → waiting_in (after_receiving received all) ≡ waiting_in all
 waiting-receiving (Some message) all = refl
 waiting-receiving None all = refl
 
@@ -49,24 +51,34 @@ waiting-closing false true all = refl
 waiting-closing false false all = refl
 waiting-closing true now all = refl
 
-waiting-last_receiver : (before now : Bool) (all : Rosters) → waiting_in (after_last_receiver before now all) ≡ waiting_in all
+waiting-last_receiver : (before now : Bool) (all : Rosters)
+    → waiting_in (after_last_receiver before now all) ≡ waiting_in all
 waiting-last_receiver false true all = refl
 waiting-last_receiver false false all = refl
 waiting-last_receiver true now all = refl
 
 pub told-waiting : (all : Rosters) → AreSound all → told_in all ≤ waiting_in all
 told-waiting all sound =
-    let a = sound.sends.within in let b = sound.receives.within in let c = sound.streams.within in let d = sound.closeds.within in omega arith
+    let a = sound.sends.within in let b = sound.receives.within in let c = sound.streams.within in
+    let d = sound.closeds.within in omega arith
 
 -- whoever is polled has left
-ready-falls : {T : Type 0} (past : Past T) (step : Step T) (reply : Reply T) → waiting_in (rosters past) ≡ suc (waiting_in (after_own_move past step reply (rosters past))) → 0 < told_in (rosters past)
+ready-falls : {T : Type 0} (past : Past T) (step : Step T) (reply : Reply T)
+    → waiting_in (rosters past) ≡ suc (waiting_in (after_own_move past step reply (rosters past)))
+    → 0 < told_in (rosters past)
     → measure (rosters ((step, reply) ∷ past)) < measure (rosters past)
 ready-falls past step reply fewer some =
     measure-ready (rosters past) (rosters ((step, reply) ∷ past))
     (fewer ∙ ap suc (sym
-    (waiting-last_receiver (has_no_receiver past) (has_no_receiver ((step, reply) ∷ past)) (after_closing (is_closed past) (is_closed ((step, reply) ∷ past)) (after_receiving (received_by reply) (after_accepting (accepted_by past step reply) (after_own_move past step reply (rosters past)))))
-    ∙ waiting-closing (is_closed past) (is_closed ((step, reply) ∷ past)) (after_receiving (received_by reply) (after_accepting (accepted_by past step reply) (after_own_move past step reply (rosters past))))
-    ∙ waiting-receiving (received_by reply) (after_accepting (accepted_by past step reply) (after_own_move past step reply (rosters past)))
+    (waiting-last_receiver (has_no_receiver past) (has_no_receiver ((step, reply) ∷ past))
+    (after_closing (is_closed past) (is_closed ((step, reply) ∷ past))
+    (after_receiving (received_by reply) (after_accepting (accepted_by past step reply)
+    (after_own_move past step reply (rosters past)))))
+    ∙ waiting-closing (is_closed past) (is_closed ((step, reply) ∷ past))
+    (after_receiving (received_by reply) (after_accepting (accepted_by past step reply)
+    (after_own_move past step reply (rosters past))))
+    ∙ waiting-receiving (received_by reply) (after_accepting (accepted_by past step reply)
+    (after_own_move past step reply (rosters past)))
     ∙ waiting-accepting (accepted_by past step reply) (after_own_move past step reply (rosters past)))))
     (told-waiting (rosters ((step, reply) ∷ past)) (rosters-AreSound ((step, reply) ∷ past)))
     some
@@ -76,7 +88,8 @@ pub record LeavesTold (before after : Roster) : Type 0 where
   pub fewer : length before.names ≡ suc (length after.names)
   pub some : 0 < before.told
 
-leave-told : (name : ℕ) (roster : Roster) → IsSound roster → is_told name roster ≡ true → LeavesTold roster (leave name roster)
+leave-told : (name : ℕ) (roster : Roster) → IsSound roster → is_told name roster ≡ true
+    → LeavesTold roster (leave name roster)
 leave-told name roster sound told = go (left name roster sound)
   where
     go : Left roster name → LeavesTold roster (leave name roster)
@@ -85,83 +98,130 @@ leave-told name roster sound told = go (left name roster sound)
     go (nobody_left e f t n) = cc
 
 -- a poll that is pending changes the rosters by its own move alone
-in_vain : {T : Type 0} (kind : Kind) (past : Past T) (step : Step T) (reply : Reply T) (own : Rosters) → IsCovered (standing_of kind past) → is_close step ≡ false
-    → live_senders ((step, reply) ∷ past) ≡ live_senders past → live_receivers ((step, reply) ∷ past) ≡ live_receivers past
-    → after_receiving (received_by reply) (after_accepting (accepted_by past step reply) (after_own_move past step reply (rosters past))) ≡ own
+in_vain : {T : Type 0} (kind : Kind) (past : Past T) (step : Step T) (reply : Reply T) (own : Rosters)
+    → IsCovered (standing_of kind past) → is_close step ≡ false
+    → live_senders ((step, reply) ∷ past) ≡ live_senders past
+    → live_receivers ((step, reply) ∷ past) ≡ live_receivers past
+    → after_receiving (received_by reply) (after_accepting (accepted_by past step reply)
+    (after_own_move past step reply (rosters past))) ≡ own
     → measure own < measure (rosters past) → measure (rosters ((step, reply) ∷ past)) < measure (rosters past)
 in_vain kind past step reply own covered open_still same_senders same_receivers moved less =
-    subst (λ (all : Rosters). measure all < measure (rosters past)) (sym (rosters-kept kind past step reply covered open_still same_senders same_receivers ∙ moved)) less
+    subst (λ (all : Rosters). measure all < measure (rosters past))
+    (sym (rosters-kept kind past step reply covered open_still same_senders same_receivers ∙ moved)) less
 
 -- ---- each kind of poll
 
-poll_recv-falls : {T : Type 0} (kind : Kind) (past : Past T) (op : ℕ) (oldest : Option T) (closed : Bool) → IsCovered (standing_of kind past) → is_closed past ≡ closed → is_told op (rosters past).receives ≡ true
+poll_recv-falls : {T : Type 0} (kind : Kind) (past : Past T) (op : ℕ) (oldest : Option T) (closed : Bool)
+    → IsCovered (standing_of kind past) → is_closed past ≡ closed → is_told op (rosters past).receives ≡ true
     → measure (rosters ((Poll op, poll_recv_reply oldest closed) ∷ past)) < measure (rosters past)
 poll_recv-falls kind past op (Some message) closed covered c told =
     let leaves = leave-told op (rosters past).receives (rosters-AreSound past).receives told in
-    ready-falls past (Poll op) (RecvPolled (Ready (Ok message))) (let a = leaves.fewer in omega arith) (let b = leaves.some in omega arith)
+    ready-falls past (Poll op) (RecvPolled (Ready (Ok message))) (let a = leaves.fewer in omega arith)
+    (let b = leaves.some in omega arith)
 poll_recv-falls kind past op None true covered c told =
     let leaves = leave-told op (rosters past).receives (rosters-AreSound past).receives told in
-    ready-falls past (Poll op) (RecvPolled (Ready (Err (record {})))) (let a = leaves.fewer in omega arith) (let b = leaves.some in omega arith)
+    ready-falls past (Poll op) (RecvPolled (Ready (Err (record {})))) (let a = leaves.fewer in omega arith)
+    (let b = leaves.some in omega arith)
 poll_recv-falls kind past op None false covered c told =
     let on = wait-told op (rosters past).receives (rosters-AreSound past).receives told in
-    let own : Rosters = record { sends = (rosters past).sends; receives = wait op (rosters past).receives; streams = (rosters past).streams; closeds = (rosters past).closeds } in
+    let own : Rosters = record {
+      sends = (rosters past).sends;
+      receives = wait op (rosters past).receives;
+      streams = (rosters past).streams;
+      closeds = (rosters past).closeds;
+    } in
     let less : measure own < measure (rosters past) = rw on.names (let t = on.told in omega arith) in
     in_vain kind past (Poll op) (RecvPolled Pending) own covered refl refl refl refl less
 
-poll_next-falls : {T : Type 0} (kind : Kind) (past : Past T) (receiver : ℕ) (oldest : Option T) (closed : Bool) → IsCovered (standing_of kind past) → is_closed past ≡ closed → is_told receiver (rosters past).streams ≡ true
+poll_next-falls : {T : Type 0} (kind : Kind) (past : Past T) (receiver : ℕ) (oldest : Option T) (closed : Bool)
+    → IsCovered (standing_of kind past) → is_closed past ≡ closed → is_told receiver (rosters past).streams ≡ true
     → measure (rosters ((PollNext receiver, poll_next_reply oldest closed) ∷ past)) < measure (rosters past)
 poll_next-falls kind past receiver (Some message) closed covered c told =
     let leaves = leave-told receiver (rosters past).streams (rosters-AreSound past).streams told in
-    ready-falls past (PollNext receiver) (NextPolled (Ready (Some message))) (let a = leaves.fewer in omega arith) (let b = leaves.some in omega arith)
+    ready-falls past (PollNext receiver) (NextPolled (Ready (Some message))) (let a = leaves.fewer in omega arith)
+    (let b = leaves.some in omega arith)
 poll_next-falls kind past receiver None true covered c told =
     let leaves = leave-told receiver (rosters past).streams (rosters-AreSound past).streams told in
-    ready-falls past (PollNext receiver) (NextPolled (Ready None)) (let a = leaves.fewer in omega arith) (let b = leaves.some in omega arith)
+    ready-falls past (PollNext receiver) (NextPolled (Ready None)) (let a = leaves.fewer in omega arith)
+    (let b = leaves.some in omega arith)
 poll_next-falls kind past receiver None false covered c told =
     let on = wait-told receiver (rosters past).streams (rosters-AreSound past).streams told in
-    let own : Rosters = record { sends = (rosters past).sends; receives = (rosters past).receives; streams = wait receiver (rosters past).streams; closeds = (rosters past).closeds } in
+    let own : Rosters = record {
+      sends = (rosters past).sends;
+      receives = (rosters past).receives;
+      streams = wait receiver (rosters past).streams;
+      closeds = (rosters past).closeds;
+    } in
     let less : measure own < measure (rosters past) = rw on.names (let t = on.told in omega arith) in
     in_vain kind past (PollNext receiver) (NextPolled Pending) own covered refl refl refl refl less
 
-poll_closed-falls : {T : Type 0} (kind : Kind) (past : Past T) (op : ℕ) (no_receiver : Bool) → IsCovered (standing_of kind past) → is_told op (rosters past).closeds ≡ true
+poll_closed-falls : {T : Type 0} (kind : Kind) (past : Past T) (op : ℕ) (no_receiver : Bool)
+    → IsCovered (standing_of kind past) → is_told op (rosters past).closeds ≡ true
     → measure (rosters ((Poll op, poll_closed_reply no_receiver) ∷ past)) < measure (rosters past)
 poll_closed-falls kind past op true covered told =
     let leaves = leave-told op (rosters past).closeds (rosters-AreSound past).closeds told in
-    ready-falls past (Poll op) (ClosedPolled (Ready tt)) (let a = leaves.fewer in omega arith) (let b = leaves.some in omega arith)
+    ready-falls past (Poll op) (ClosedPolled (Ready tt)) (let a = leaves.fewer in omega arith)
+    (let b = leaves.some in omega arith)
 poll_closed-falls kind past op false covered told =
     let on = wait-told op (rosters past).closeds (rosters-AreSound past).closeds told in
-    let own : Rosters = record { sends = (rosters past).sends; receives = (rosters past).receives; streams = (rosters past).streams; closeds = wait op (rosters past).closeds } in
+    let own : Rosters = record {
+      sends = (rosters past).sends;
+      receives = (rosters past).receives;
+      streams = (rosters past).streams;
+      closeds = wait op (rosters past).closeds;
+    } in
     let less : measure own < measure (rosters past) = rw on.names (let t = on.told in omega arith) in
     in_vain kind past (Poll op) (ClosedPolled Pending) own covered refl refl refl refl less
 
-poll_send-falls : {T : Type 0} (kind : Kind) (past : Past T) (op sender : ℕ) (message : T) (closed full : Bool) → operation_of past op ≡ Some (sending sender (Some message)) → IsCovered (standing_of kind past) → is_closed past ≡ closed → is_told op (rosters past).sends ≡ true
+poll_send-falls : {T : Type 0} (kind : Kind) (past : Past T) (op sender : ℕ) (message : T) (closed full : Bool)
+    → operation_of past op ≡ Some (sending sender (Some message)) → IsCovered (standing_of kind past)
+    → is_closed past ≡ closed → is_told op (rosters past).sends ≡ true
     → measure (rosters ((Poll op, poll_send_reply (Some message) closed full) ∷ past)) < measure (rosters past)
 poll_send-falls kind past op sender message true full o covered c told =
     let leaves = leave-told op (rosters past).sends (rosters-AreSound past).sends told in
-    ready-falls past (Poll op) (SendPolled (Ready (Err (send_error message)))) (let a = leaves.fewer in omega arith) (let b = leaves.some in omega arith)
+    ready-falls past (Poll op) (SendPolled (Ready (Err (send_error message)))) (let a = leaves.fewer in omega arith)
+    (let b = leaves.some in omega arith)
 poll_send-falls kind past op sender message false false o covered c told =
     let leaves = leave-told op (rosters past).sends (rosters-AreSound past).sends told in
-    ready-falls past (Poll op) (SendPolled (Ready (Ok tt))) (let a = leaves.fewer in omega arith) (let b = leaves.some in omega arith)
+    ready-falls past (Poll op) (SendPolled (Ready (Ok tt))) (let a = leaves.fewer in omega arith)
+    (let b = leaves.some in omega arith)
 poll_send-falls kind past op sender message false true o covered c told =
     let on = wait-told op (rosters past).sends (rosters-AreSound past).sends told in
-    let own : Rosters = record { sends = wait op (rosters past).sends; receives = (rosters past).receives; streams = (rosters past).streams; closeds = (rosters past).closeds } in
+    let own : Rosters = record {
+      sends = wait op (rosters past).sends;
+      receives = (rosters past).receives;
+      streams = (rosters past).streams;
+      closeds = (rosters past).closeds;
+    } in
     let less : measure own < measure (rosters past) = rw on.names (let t = on.told in omega arith) in
-    in_vain kind past (Poll op) (SendPolled Pending) own covered refl refl refl (ap (λ finished. cond finished (rosters past) own) (ap is_finished_send o)) less
+    in_vain kind past (Poll op) (SendPolled Pending) own covered refl refl refl
+    (ap (λ finished. cond finished (rosters past) own) (ap is_finished_send o)) less
 
 -- ---- whoever is told
 
-poll-falls : {T : Type 0} (kind : Kind) (past : Past T) (op : ℕ) (operation : Option (Operation T)) → operation_of past op ≡ operation → IsCovered (standing_of kind past)
-    → ((is_told op (rosters past).receives ≡ true) × (is_receive operation ≡ true)) ⊎ (((is_told op (rosters past).sends ≡ true) × (is_unsent operation ≡ true)) ⊎ ((is_told op (rosters past).closeds ≡ true) × (is_awaiting operation ≡ true)))
-    → measure (rosters ((Poll op, poll_reply operation (is_closed past) (has_no_receiver past) (is_full kind past) (oldest_message past)) ∷ past)) < measure (rosters past)
-poll-falls kind past op (Some (receiving receiver)) o covered (inl told) = poll_recv-falls kind past op (oldest_message past) (is_closed past) covered refl told.0
+poll-falls : {T : Type 0} (kind : Kind) (past : Past T) (op : ℕ) (operation : Option (Operation T))
+    → operation_of past op ≡ operation → IsCovered (standing_of kind past)
+    → ((is_told op (rosters past).receives ≡ true) × (is_receive operation ≡ true))
+    ⊎ (((is_told op (rosters past).sends ≡ true) × (is_unsent operation ≡ true))
+    ⊎ ((is_told op (rosters past).closeds ≡ true) × (is_awaiting operation ≡ true)))
+    → measure (rosters ((
+      Poll op,
+      poll_reply operation (is_closed past) (has_no_receiver past) (is_full kind past)
+          (oldest_message past),
+    ) ∷ past)) < measure (rosters past)
+poll-falls kind past op (Some (receiving receiver)) o covered (inl told) =
+    poll_recv-falls kind past op (oldest_message past) (is_closed past) covered refl told.0
 poll-falls kind past op (Some (sending sender message)) o covered (inl told) = let no = told.1 in cc
 poll-falls kind past op (Some (awaiting_close sender)) o covered (inl told) = let no = told.1 in cc
 poll-falls kind past op None o covered (inl told) = let no = told.1 in cc
-poll-falls kind past op (Some (sending sender (Some message))) o covered (inr (inl told)) = poll_send-falls kind past op sender message (is_closed past) (is_full kind past) o covered refl told.0
+poll-falls kind past op (Some (sending sender (Some message))) o covered (inr (inl told)) =
+    poll_send-falls kind past op sender message (is_closed past) (is_full kind past) o covered refl told.0
 poll-falls kind past op (Some (sending sender None)) o covered (inr (inl told)) = let no = told.1 in cc
 poll-falls kind past op (Some (receiving receiver)) o covered (inr (inl told)) = let no = told.1 in cc
 poll-falls kind past op (Some (awaiting_close sender)) o covered (inr (inl told)) = let no = told.1 in cc
 poll-falls kind past op None o covered (inr (inl told)) = let no = told.1 in cc
-poll-falls kind past op (Some (awaiting_close sender)) o covered (inr (inr told)) = poll_closed-falls kind past op (has_no_receiver past) covered told.0
+poll-falls kind past op (Some (awaiting_close sender)) o covered (inr (inr told)) =
+    poll_closed-falls kind past op (has_no_receiver past) covered told.0
 poll-falls kind past op (Some (sending sender message)) o covered (inr (inr told)) = let no = told.1 in cc
 poll-falls kind past op (Some (receiving receiver)) o covered (inr (inr told)) = let no = told.1 in cc
 poll-falls kind past op None o covered (inr (inr told)) = let no = told.1 in cc
@@ -174,12 +234,15 @@ told_among name roster told = go (is_among name roster.names) refl
     go false e = let no : is_told name roster ≡ false = is_among-take roster.told name roster.names e in cc
 
 -- the step polls one of these
-among_polls : {T : Type 0} (poll : ℕ → Step T) (names : List ℕ) (step : Step T) → Contains (map poll names) step → (name : ℕ) × (step ≡ poll name) × (is_among name names ≡ true)
+among_polls : {T : Type 0} (poll : ℕ → Step T) (names : List ℕ) (step : Step T) → Contains (map poll names) step
+    → (name : ℕ) × (step ≡ poll name) × (is_among name names ≡ true)
 among_polls poll [] step (k, below, is) = absurd (omega arith)
-among_polls poll (first ∷ names) step (zero, below, is) = (first, sym is, ap (λ same. same || is_among first names) (eq-eqb first first refl))
+among_polls poll (first ∷ names) step (zero, below, is) =
+    (first, sym is, ap (λ same. same || is_among first names) (eq-eqb first first refl))
 among_polls poll (first ∷ names) step (suc k, below, is) = later (among_polls poll names step (k, omega arith, is))
   where
-    later : (name : ℕ) × (step ≡ poll name) × (is_among name names ≡ true) → (name : ℕ) × (step ≡ poll name) × (is_among name (first ∷ names) ≡ true)
+    later : (name : ℕ) × (step ≡ poll name) × (is_among name names ≡ true)
+        → (name : ℕ) × (step ≡ poll name) × (is_among name (first ∷ names) ≡ true)
     later (name, e, among) = (name, e, or_right (first == name) (is_among name names) among)
 
 -- a poll of somebody who was told: which step it is, and of whom
@@ -217,64 +280,90 @@ polls_told {T} all step found = last (Contains-append_cases ((receives ++ stream
     last (inr c) = let one = among_polls Poll (told_names all.closeds) step c in a_closed one.0 one.1 one.2
 
 -- each poll of a told one lowers the measure
-pub measure-falls : {T : Type 0} (kind : Kind) (past : Past T) (step : Step T) → IsLegal kind past → PollsTold (rosters past) step → measure (rosters ((step, due_reply kind past step) ∷ past)) < measure (rosters past)
+pub measure-falls : {T : Type 0} (kind : Kind) (past : Past T) (step : Step T) → IsLegal kind past
+    → PollsTold (rosters past) step → measure (rosters ((step, due_reply kind past step) ∷ past)) < measure
+    (rosters past)
 measure-falls {T} kind past step legal (a_receive op e told) =
     subst (λ (s : Step T). measure (rosters ((s, due_reply kind past s) ∷ past)) < measure (rosters past)) (sym e)
-    (poll-falls kind past op (operation_of past op) refl (IsCovered-IsLegal kind past legal) (inl (told, (AreLive-IsLegal kind past legal).receives op (told_among op (rosters past).receives told))))
+    (poll-falls kind past op (operation_of past op) refl (IsCovered-IsLegal kind past legal)
+    (inl (told, (AreLive-IsLegal kind past legal).receives op (told_among op (rosters past).receives told))))
 measure-falls {T} kind past step legal (a_stream receiver e told) =
     subst (λ (s : Step T). measure (rosters ((s, due_reply kind past s) ∷ past)) < measure (rosters past)) (sym e)
-    (poll_next-falls kind past receiver (oldest_message past) (is_closed past) (IsCovered-IsLegal kind past legal) refl told)
+    (poll_next-falls kind past receiver (oldest_message past) (is_closed past)
+    (IsCovered-IsLegal kind past legal) refl told)
 measure-falls {T} kind past step legal (a_send op e told) =
     subst (λ (s : Step T). measure (rosters ((s, due_reply kind past s) ∷ past)) < measure (rosters past)) (sym e)
-    (poll-falls kind past op (operation_of past op) refl (IsCovered-IsLegal kind past legal) (inr (inl (told, (AreLive-IsLegal kind past legal).sends op (told_among op (rosters past).sends told)))))
+    (poll-falls kind past op (operation_of past op) refl (IsCovered-IsLegal kind past legal)
+    (inr (inl (told, (AreLive-IsLegal kind past legal).sends op (told_among op (rosters past).sends told)))))
 measure-falls {T} kind past step legal (a_closed op e told) =
     subst (λ (s : Step T). measure (rosters ((s, due_reply kind past s) ∷ past)) < measure (rosters past)) (sym e)
-    (poll-falls kind past op (operation_of past op) refl (IsCovered-IsLegal kind past legal) (inr (inr (told, (AreLive-IsLegal kind past legal).closeds op (told_among op (rosters past).closeds told)))))
+    (poll-falls kind past op (operation_of past op) refl (IsCovered-IsLegal kind past legal)
+    (inr (inr (told, (AreLive-IsLegal kind past legal).closeds op (told_among op (rosters past).closeds told)))))
 
 -- ---- polls of told ones are allowed
 
-known_if : {T : Type 0} (operation : Option (Operation T)) → (is_unsent operation ≡ true) ⊎ ((is_receive operation ≡ true) ⊎ (is_awaiting operation ≡ true)) → is_some operation ≡ true
+known_if : {T : Type 0} (operation : Option (Operation T))
+    → (is_unsent operation ≡ true) ⊎ ((is_receive operation ≡ true) ⊎ (is_awaiting operation ≡ true))
+    → is_some operation ≡ true
 known_if (Some operation) which = refl
 known_if None (inl e) = cc
 known_if None (inr (inl e)) = cc
 known_if None (inr (inr e)) = cc
 
-poll-allowed : {T : Type 0} (past : Past T) (op : ℕ) → is_some (operation_of past op) ≡ true → IsAllowed {T = T} (Poll op) (refusal_of past (Poll op))
+poll-allowed : {T : Type 0} (past : Past T) (op : ℕ) → is_some (operation_of past op) ≡ true
+    → IsAllowed {T = T} (Poll op) (refusal_of past (Poll op))
 poll-allowed past op known = ap (λ known. cond (not known) (Some Unknown) None) known
 
-poll_next-allowed : {T : Type 0} (past : Past T) (receiver : ℕ) → is_among receiver (live_receivers past) ≡ true → IsAllowed {T = T} (PollNext receiver) (refusal_of past (PollNext receiver))
-poll_next-allowed past receiver known = go (is_among receiver (live_receivers past)) known (is_borrowed past (PollNext receiver))
+poll_next-allowed : {T : Type 0} (past : Past T) (receiver : ℕ) → is_among receiver (live_receivers past) ≡ true
+    → IsAllowed {T = T} (PollNext receiver) (refusal_of past (PollNext receiver))
+poll_next-allowed past receiver known = go (is_among receiver (live_receivers past)) known
+    (is_borrowed past (PollNext receiver))
   where
-    go : (known : Bool) → known ≡ true → (borrowed : Bool) → (cond (not known) (Some Unknown) (cond borrowed (Some Borrowed) None) ≡ None) ⊎ (cond (not known) (Some Unknown) (cond borrowed (Some Borrowed) None) ≡ Some Borrowed)
+    go : (known : Bool) → known ≡ true → (borrowed : Bool)
+        → (cond (not known) (Some Unknown) (cond borrowed (Some Borrowed) None) ≡ None)
+        ⊎ (cond (not known) (Some Unknown) (cond borrowed (Some Borrowed) None) ≡ Some Borrowed)
     go true e true = inr refl
     go true e false = inl refl
     go false e borrowed = cc
 
-pub told-allowed : {T : Type 0} (kind : Kind) (past : Past T) (step : Step T) → IsLegal kind past → PollsTold (rosters past) step → IsAllowed step (refusal_of past step)
+pub told-allowed : {T : Type 0} (kind : Kind) (past : Past T) (step : Step T) → IsLegal kind past
+    → PollsTold (rosters past) step → IsAllowed step (refusal_of past step)
 told-allowed {T} kind past step legal (a_receive op e told) =
-    subst (λ (s : Step T). IsAllowed s (refusal_of past s)) (sym e) (poll-allowed past op (known_if (operation_of past op) (inr (inl ((AreLive-IsLegal kind past legal).receives op (told_among op (rosters past).receives told))))))
+    subst (λ (s : Step T). IsAllowed s (refusal_of past s)) (sym e)
+    (poll-allowed past op (known_if (operation_of past op)
+    (inr (inl ((AreLive-IsLegal kind past legal).receives op (told_among op (rosters past).receives told))))))
 told-allowed {T} kind past step legal (a_stream receiver e told) =
-    subst (λ (s : Step T). IsAllowed s (refusal_of past s)) (sym e) (poll_next-allowed past receiver ((AreLive-IsLegal kind past legal).streams receiver (told_among receiver (rosters past).streams told)))
+    subst (λ (s : Step T). IsAllowed s (refusal_of past s)) (sym e)
+    (poll_next-allowed past receiver ((AreLive-IsLegal kind past legal).streams receiver
+    (told_among receiver (rosters past).streams told)))
 told-allowed {T} kind past step legal (a_send op e told) =
-    subst (λ (s : Step T). IsAllowed s (refusal_of past s)) (sym e) (poll-allowed past op (known_if (operation_of past op) (inl ((AreLive-IsLegal kind past legal).sends op (told_among op (rosters past).sends told)))))
+    subst (λ (s : Step T). IsAllowed s (refusal_of past s)) (sym e)
+    (poll-allowed past op (known_if (operation_of past op)
+    (inl ((AreLive-IsLegal kind past legal).sends op (told_among op (rosters past).sends told)))))
 told-allowed {T} kind past step legal (a_closed op e told) =
-    subst (λ (s : Step T). IsAllowed s (refusal_of past s)) (sym e) (poll-allowed past op (known_if (operation_of past op) (inr (inr ((AreLive-IsLegal kind past legal).closeds op (told_among op (rosters past).closeds told))))))
+    subst (λ (s : Step T). IsAllowed s (refusal_of past s)) (sym e)
+    (poll-allowed past op (known_if (operation_of past op)
+    (inr (inr ((AreLive-IsLegal kind past legal).closeds op (told_among op (rosters past).closeds told))))))
 
 -- ---- a whole free polling
 
-pub IsLegal-IsFreePolling : {T : Type 0} (kind : Kind) (past polls : Past T) → IsLegal kind past → IsFreePolling kind past polls → IsLegal kind (polls ++ past)
+pub IsLegal-IsFreePolling : {T : Type 0} (kind : Kind) (past polls : Past T) → IsLegal kind past
+    → IsFreePolling kind past polls → IsLegal kind (polls ++ past)
 IsLegal-IsFreePolling kind past [] legal free = legal
 IsLegal-IsFreePolling kind past ((step, reply) ∷ polls) legal free =
     let before = IsLegal-IsFreePolling kind past polls legal free.0 in
     (before, free.2, told-allowed kind (polls ++ past) step before (polls_told (rosters (polls ++ past)) step free.1))
 
-pub measure-IsFreePolling : {T : Type 0} (kind : Kind) (past polls : Past T) → IsLegal kind past → IsFreePolling kind past polls → length polls + measure (rosters (polls ++ past)) ≤ measure (rosters past)
+pub measure-IsFreePolling : {T : Type 0} (kind : Kind) (past polls : Past T) → IsLegal kind past
+    → IsFreePolling kind past polls → length polls + measure (rosters (polls ++ past)) ≤ measure (rosters past)
 measure-IsFreePolling kind past [] legal free = omega arith
 measure-IsFreePolling {T} kind past ((step, reply) ∷ polls) legal free =
     let before = IsLegal-IsFreePolling kind past polls legal free.0 in
     let rest = measure-IsFreePolling kind past polls legal free.0 in
     let falls = measure-falls kind (polls ++ past) step before (polls_told (rosters (polls ++ past)) step free.1) in
-    let falls' : measure (rosters ((step, reply) ∷ (polls ++ past))) < measure (rosters (polls ++ past)) = subst (λ (r : Reply T). measure (rosters ((step, r) ∷ (polls ++ past))) < measure (rosters (polls ++ past))) (sym free.2) falls in
+    let falls' : measure (rosters ((step, reply) ∷ (polls ++ past))) < measure (rosters (polls ++ past)) =
+    subst (λ (r : Reply T). measure (rosters ((step, r) ∷ (polls ++ past))) < measure (rosters (polls ++ past)))
+    (sym free.2) falls in
     omega arith
 
 twice_pairs : (count : ℕ) → 2 * (pairs count + count) ≡ count * (count + 1)
@@ -285,13 +374,16 @@ pub within_most : (polls waiting : ℕ) → polls ≤ pairs waiting + waiting �
 within_most polls waiting le = let twice = twice_pairs waiting in omega arith
 
 -- Behind a past that can come about.
-pub EndsWell-IsFreePolling : {T : Type 0} (kind : Kind) (past polls : Past T) → IsLegal kind past → IsFreePolling kind past polls → EndsWell kind past polls
+pub EndsWell-IsFreePolling : {T : Type 0} (kind : Kind) (past polls : Past T) → IsLegal kind past
+    → IsFreePolling kind past polls → EndsWell kind past polls
 EndsWell-IsFreePolling kind past polls legal free =
     record {
       bounded = within_most (length polls) (waiting_in (rosters past))
-          (let a = measure-IsFreePolling kind past polls legal free in let b = told-waiting (rosters past) (rosters-AreSound past) in omega arith);
+          (let a = measure-IsFreePolling kind past polls legal free in
+          let b = told-waiting (rosters past) (rosters-AreSound past) in omega arith);
       legal = IsLegal-IsFreePolling kind past polls legal free;
-      settled = IsSettled-IsQuiet kind (polls ++ past) (Whole-IsLegal kind (polls ++ past) (IsLegal-IsFreePolling kind past polls legal free));
+      settled = IsSettled-IsQuiet kind (polls ++ past)
+          (Whole-IsLegal kind (polls ++ past) (IsLegal-IsFreePolling kind past polls legal free));
     }
 
 pub first-Contains : {X : Type 0} (items : List X) (item : X) → slice_get items 0 ≡ Some item → Contains items item
@@ -299,7 +391,12 @@ first-Contains [] item e = cc
 first-Contains (first ∷ items) item e = (0, omega arith, (let same : first ≡ item = cc in same))
 
 -- settling is one of these orders
-pub IsFreePolling-IsSettling : {T : Type 0} (kind : Kind) (past polls : Past T) → IsSettling kind past polls → IsFreePolling kind past polls
+pub IsFreePolling-IsSettling : {T : Type 0} (kind : Kind) (past polls : Past T) → IsSettling kind past polls
+    → IsFreePolling kind past polls
 IsFreePolling-IsSettling kind past [] settling = tt
-IsFreePolling-IsSettling kind past ((step, reply) ∷ polls) settling =
-    (IsFreePolling-IsSettling kind past polls settling.0, first-Contains (told_polls (rosters (polls ++ past))) step settling.1, settling.2)
+IsFreePolling-IsSettling kind past ((step, reply) ∷ polls) settling = (
+  IsFreePolling-IsSettling kind past polls settling.0,
+  first-Contains
+      (told_polls (rosters (polls ++ past))) step settling.1,
+  settling.2,
+)

@@ -1,4 +1,5 @@
--- Worked examples that are no scripts: want of memory, messages without size, the limit of handles, the bound of settling.
+-- Worked examples that are no scripts: want of memory, messages without size, the limit of handles, the bound of
+-- settling.
 use Rattle.std.proofs.Common.{◌≡◌, ℕ, refl, inr, [], ◌∷◌, Ok, None, true, false, arith}
 use Rattle.std.specs.Prelude.{◌^◌, ◌-◌, nat_lt}
 use Rattle.futures.specs.declared.task.Poll.TheVariants.{Ready, Pending}
@@ -33,8 +34,10 @@ unfolding receive_started
 refused_wait_is_absent = refl
 
 first_wait_with_memory :
-    answered Unbounded receive_started (does (Poll 0) (RecvPolled Pending) ∷ does (TrySend 0 5) (TrySent (Ok tt)) ∷ notes (Op 0) Told ∷ does (Poll 0) (RecvPolled (Ready (Ok 5))) ∷ [])
-    ≡ does (Poll 0) (RecvPolled Pending) ∷ does (TrySend 0 5) (TrySent (Ok tt)) ∷ notes (Op 0) Told ∷ does (Poll 0) (RecvPolled (Ready (Ok 5))) ∷ []
+    answered Unbounded receive_started (does (Poll 0) (RecvPolled Pending) ∷ does (TrySend 0 5) (TrySent (Ok tt))
+    ∷ notes (Op 0) Told ∷ does (Poll 0) (RecvPolled (Ready (Ok 5))) ∷ [])
+    ≡ does (Poll 0) (RecvPolled Pending) ∷ does (TrySend 0 5) (TrySent (Ok tt)) ∷ notes (Op 0) Told
+    ∷ does (Poll 0) (RecvPolled (Ready (Ok 5))) ∷ []
 unfolding receive_started
 first_wait_with_memory = refl
 
@@ -43,7 +46,9 @@ second_wait_wants_none : may_want_memory Unbounded ((Poll 0, RecvPolled Pending)
 unfolding receive_started
 second_wait_wants_none = refl
 
-told_in_vain_wants_none : may_want_memory Unbounded ((TryRecv 0, Received (Ok 5)) ∷ (TrySend 0 5, TrySent (Ok tt)) ∷ (Poll 0, RecvPolled Pending) ∷ receive_started) (Poll 0) ≡ false
+told_in_vain_wants_none : may_want_memory Unbounded
+    ((TryRecv 0, Received (Ok 5)) ∷ (TrySend 0 5, TrySent (Ok tt)) ∷ (Poll 0, RecvPolled Pending) ∷ receive_started)
+    (Poll 0) ≡ false
 unfolding receive_started
 told_in_vain_wants_none = refl
 
@@ -75,7 +80,8 @@ unfolding full_and_started
 ready_send_wants_none = refl
 
 -- a finished send waits nowhere and takes none
-finished_send_wants_none : may_want_memory (Bounded 2) ((Poll 0, SendPolled (Ready (Ok tt))) ∷ full_and_started) (Poll 0) ≡ false
+finished_send_wants_none : may_want_memory (Bounded 2) ((Poll 0, SendPolled (Ready (Ok tt))) ∷ full_and_started)
+    (Poll 0) ≡ false
 unfolding full_and_started
 finished_send_wants_none = refl
 
@@ -94,7 +100,8 @@ upgrade_may_want : may_want_memory {T = ℕ} (Bounded 1) ((DowngradeSender 0 0, 
 upgrade_may_want = refl
 
 -- an upgrade on a closed channel makes no name
-closed_upgrade_wants_none : may_want_memory {T = ℕ} (Bounded 1) ((Close (Sender 0), Flag true) ∷ (DowngradeSender 0 0, Done) ∷ []) (UpgradeSender 0 1) ≡ false
+closed_upgrade_wants_none : may_want_memory {T = ℕ} (Bounded 1)
+    ((Close (Sender 0), Flag true) ∷ (DowngradeSender 0 0, Done) ∷ []) (UpgradeSender 0 1) ≡ false
 closed_upgrade_wants_none = refl
 
 giving_up_wants_none : may_want_memory {T = ℕ} (Bounded 1) [] (DropSender 0) ≡ false
@@ -108,7 +115,9 @@ units : IsLegal (Bounded 2)
     ∷ (IsFull (Sender 0), Flag true) ∷ (IsEmpty (Sender 0), Flag false) ∷ (Len (Sender 0), Count 2)
     ∷ (TrySend 0 tt, TrySent (Ok tt)) ∷ (TrySend 0 tt, TrySent (Ok tt)) ∷ [])
 units =
-    let two : IsLegal {T = Unit {0}} (Bounded 2) ((TrySend 0 tt, TrySent (Ok tt)) ∷ (TrySend 0 tt, TrySent (Ok tt)) ∷ []) = (((λ capacity e. let same : 2 ≡ capacity = cc in omega arith), refl, refl), refl, refl) in
+    let two : IsLegal {T = Unit {0}} (Bounded 2)
+    ((TrySend 0 tt, TrySent (Ok tt)) ∷ (TrySend 0 tt, TrySent (Ok tt)) ∷ []) =
+    (((λ capacity e. let same : 2 ≡ capacity = cc in omega arith), refl, refl), refl, refl) in
     (((((((two, refl, refl), refl, refl), refl, refl), refl, refl), refl, refl), refl, refl), refl, refl)
 
 -- ---- the limit of handles
@@ -124,14 +133,33 @@ above_the_limit = refl
 
 two_wait : Past ℕ
 two_wait =
-    (TryRecv 0, Received (Ok 1)) ∷ (Poll 1, SendPolled Pending) ∷ (StartSend 1 0 2, Done) ∷ (TrySend 0 1, TrySent (Ok tt))
+    (TryRecv 0, Received (Ok 1)) ∷ (Poll 1, SendPolled Pending) ∷ (StartSend 1 0 2, Done)
+    ∷ (TrySend 0 1, TrySent (Ok tt))
     ∷ (Poll 0, RecvPolled Pending) ∷ (StartRecv 0 0, Done) ∷ []
 
 two_wait-IsLegal : IsLegal (Bounded 1) two_wait
 unfolding two_wait
-two_wait-IsLegal = (((((((λ capacity e. let same : 1 ≡ capacity = cc in omega arith), refl, refl), refl, refl), refl, refl), refl, refl), refl, refl), refl, refl)
+two_wait-IsLegal = (
+  (
+    (
+      (
+        (((λ capacity e. let same : 1 ≡ capacity = cc in omega arith), refl, refl), refl, refl),
+        refl,
+        refl,
+      ),
+      refl,
+      refl,
+    ),
+    refl,
+    refl,
+  ),
+  refl,
+  refl,
+)
 
-three_polls : Settles (Bounded 1) two_wait ((Poll 0, RecvPolled (Ready (Ok 2))) ∷ (Poll 1, SendPolled (Ready (Ok tt))) ∷ (Poll 0, RecvPolled Pending) ∷ []) 3 ((Op 1, SendPolled (Ready (Ok tt))) ∷ (Op 0, RecvPolled (Ready (Ok 2))) ∷ [])
+three_polls : Settles (Bounded 1) two_wait
+    ((Poll 0, RecvPolled (Ready (Ok 2))) ∷ (Poll 1, SendPolled (Ready (Ok tt))) ∷ (Poll 0, RecvPolled Pending) ∷ []) 3
+    ((Op 1, SendPolled (Ready (Ok tt))) ∷ (Op 0, RecvPolled (Ready (Ok 2))) ∷ [])
 unfolding two_wait
 three_polls = Settles-IsLegal (Bounded 1) two_wait two_wait-IsLegal
 

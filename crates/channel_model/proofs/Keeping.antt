@@ -24,25 +24,31 @@ pub Enough-fewer : (count fewer : ℕ) (roster : Roster) → fewer ≤ count →
 Enough-fewer count fewer roster le enough untold = let before : count ≤ roster.told = enough untold in omega arith
 
 -- one leaves, told or not, and one fewer is wanted
-pub Enough-leave : (name count : ℕ) (roster : Roster) → IsSound roster → Enough count roster → Enough (count - 1) (leave name roster)
+pub Enough-leave : (name count : ℕ) (roster : Roster) → IsSound roster → Enough count roster
+    → Enough (count - 1) (leave name roster)
 Enough-leave name count roster sound enough = go (left name roster sound)
   where
     go : Left roster name → Enough (count - 1) (leave name roster)
     go (told_left e t n) untold = let before : count ≤ roster.told = enough (omega arith) in omega arith
     go (untold_left e f t n w) untold = let before : count ≤ roster.told = enough (omega arith) in omega arith
-    go (nobody_left e f t n) untold = let same : length (leave name roster).names ≡ length roster.names = ap length n in let before : count ≤ roster.told = enough (omega arith) in omega arith
+    go (nobody_left e f t n) untold = let same : length (leave name roster).names ≡ length roster.names = ap length n in
+        let before : count ≤ roster.told = enough (omega arith) in omega arith
 
 -- one is given up, and hands its notice on
-pub Enough-hand_on : (name count : ℕ) (roster : Roster) → IsSound roster → Enough count roster → Enough count (hand_on name roster)
+pub Enough-hand_on : (name count : ℕ) (roster : Roster) → IsSound roster → Enough count roster
+    → Enough count (hand_on name roster)
 Enough-hand_on name count roster sound enough = go (is_told name roster) refl (left name roster sound)
   where
-    go : (told : Bool) → is_told name roster ≡ told → Left roster name → Enough count (cond told (tell_one (leave name roster)) (leave name roster))
+    go : (told : Bool) → is_told name roster ≡ told → Left roster name
+        → Enough count (cond told (tell_one (leave name roster)) (leave name roster))
     go true told (told_left e t n) untold = let before : count ≤ roster.told = enough (omega arith) in omega arith
     go true told (untold_left e f t n w) untold = cc
     go true told (nobody_left e f t n) untold = cc
     go false told (told_left e t n) untold = cc
-    go false told (untold_left e f t n w) untold = let before : count ≤ roster.told = enough (omega arith) in omega arith
-    go false told (nobody_left e f t n) untold = let same : length (leave name roster).names ≡ length roster.names = ap length n in let before : count ≤ roster.told = enough (omega arith) in omega arith
+    go false told (untold_left e f t n w) untold = let before : count ≤ roster.told =
+        enough (omega arith) in omega arith
+    go false told (nobody_left e f t n) untold = let same : length (leave name roster).names ≡ length roster.names =
+        ap length n in let before : count ≤ roster.told = enough (omega arith) in omega arith
 
 -- a poll in vain: none are wanted
 pub Enough-none : (roster : Roster) → Enough 0 roster
@@ -54,7 +60,8 @@ IsAllTold-leave name roster sound all = go (left name roster sound)
     go : Left roster name → IsAllTold (leave name roster)
     go (told_left e t n) = omega arith
     go (untold_left e f t n w) = omega arith
-    go (nobody_left e f t n) = let same : length (leave name roster).names ≡ length roster.names = ap length n in omega arith
+    go (nobody_left e f t n) = let same : length (leave name roster).names ≡ length roster.names =
+        ap length n in omega arith
 
 pub IsAllTold-tell_all : (roster : Roster) → IsAllTold (tell_all roster)
 IsAllTold-tell_all roster = omega arith
@@ -62,7 +69,8 @@ IsAllTold-tell_all roster = omega arith
 pub IsAllTold-tell_one : (roster : Roster) → IsAllTold roster → IsAllTold (tell_one roster)
 IsAllTold-tell_one roster all = omega arith
 
-pub IsAllTold-hand_on : (name : ℕ) (roster : Roster) → IsSound roster → IsAllTold roster → IsAllTold (hand_on name roster)
+pub IsAllTold-hand_on : (name : ℕ) (roster : Roster) → IsSound roster → IsAllTold roster
+    → IsAllTold (hand_on name roster)
 IsAllTold-hand_on name roster sound all = go (is_told name roster)
   where
     go : (told : Bool) → IsAllTold (cond told (tell_one (leave name roster)) (leave name roster))
@@ -80,7 +88,8 @@ HasUntold-leave name roster sound untold = go (left name roster sound)
     go : Left roster name → HasUntold roster
     go (told_left e t n) = omega arith
     go (untold_left e f t n w) = omega arith
-    go (nobody_left e f t n) = let same : length (leave name roster).names ≡ length roster.names = ap length n in omega arith
+    go (nobody_left e f t n) = let same : length (leave name roster).names ≡ length roster.names =
+        ap length n in omega arith
 
 -- where nobody waits nobody leaves
 pub names-leave : (name : ℕ) (roster : Roster) → roster.names ≡ [] → (leave name roster).names ≡ []

@@ -33,7 +33,8 @@ without-absent name (first ∷ names) absent =
     (ap (λ rest. first ∷ rest) (without-absent name names (right_false (first == name) (is_among name names) absent)))
 
 -- a name that isn't there isn't there without another one
-pub is_among-without : (other name : ℕ) (names : List ℕ) → is_among other names ≡ false → is_among other (without name names) ≡ false
+pub is_among-without : (other name : ℕ) (names : List ℕ) → is_among other names ≡ false
+    → is_among other (without name names) ≡ false
 is_among-without other name [] absent = refl
 is_among-without other name (first ∷ names) absent =
     go (first == name) (is_among-without other name names (right_false (first == other) (is_among other names) absent))
@@ -41,21 +42,25 @@ is_among-without other name (first ∷ names) absent =
     go : (same : Bool) → is_among other (without name names) ≡ false
         → is_among other (cond (not same) (first ∷ without name names) (without name names)) ≡ false
     go true rest = rest
-    go false rest = both_false (first == other) (is_among other (without name names)) (left_false (first == other) (is_among other names) absent) rest
+    go false rest = both_false (first == other) (is_among other (without name names))
+        (left_false (first == other) (is_among other names) absent) rest
 
 pub AreDifferent-without : (name : ℕ) (names : List ℕ) → AreDifferent names → AreDifferent (without name names)
 AreDifferent-without name [] once = tt
 AreDifferent-without name (first ∷ names) once = go (first == name) (AreDifferent-without name names once.1)
   where
-    go : (same : Bool) → AreDifferent (without name names) → AreDifferent (cond (not same) (first ∷ without name names) (without name names))
+    go : (same : Bool) → AreDifferent (without name names)
+        → AreDifferent (cond (not same) (first ∷ without name names) (without name names))
     go true rest = rest
     go false rest = (is_among-without first name names once.0, rest)
 
-pub length-without : (name : ℕ) (names : List ℕ) → AreDifferent names → is_among name names ≡ true → length names ≡ suc (length (without name names))
+pub length-without : (name : ℕ) (names : List ℕ) → AreDifferent names → is_among name names ≡ true
+    → length names ≡ suc (length (without name names))
 length-without name [] once among = cc
 length-without name (first ∷ names) once among = go (first == name) refl (λ rest. length-without name names once.1 rest)
   where
-    go : (same : Bool) → (first == name) ≡ same → (is_among name names ≡ true → length names ≡ suc (length (without name names)))
+    go : (same : Bool) → (first == name) ≡ same
+        → (is_among name names ≡ true → length names ≡ suc (length (without name names)))
         → suc (length names) ≡ suc (length (cond (not same) (first ∷ without name names) (without name names)))
     go true e shorter =
         let absent : is_among name names ≡ false = rw (← eqb-true first name e) once.0 in
@@ -65,22 +70,27 @@ length-without name (first ∷ names) once among = go (first == name) refl (λ r
         ap suc (shorter rest)
 
 -- as many of the first as don't have the name still stand first
-pub le-length-without : (count name : ℕ) (names : List ℕ) → count ≤ length names → is_among name (take count names) ≡ false → count ≤ length (without name names)
+pub le-length-without : (count name : ℕ) (names : List ℕ) → count ≤ length names
+    → is_among name (take count names) ≡ false → count ≤ length (without name names)
 le-length-without zero name names within absent = zero-le
 le-length-without (suc count) name [] within absent = within
 le-length-without (suc count) name (first ∷ names) within absent =
     rw (left_false (first == name) (is_among name (take count names)) absent)
-    (suc-le-suc (le-length-without count name names (omega arith) (right_false (first == name) (is_among name (take count names)) absent)))
+    (suc-le-suc (le-length-without count name names (omega arith)
+    (right_false (first == name) (is_among name (take count names)) absent)))
 
-pub is_among-take : (count name : ℕ) (names : List ℕ) → is_among name names ≡ false → is_among name (take count names) ≡ false
+pub is_among-take : (count name : ℕ) (names : List ℕ) → is_among name names ≡ false
+    → is_among name (take count names) ≡ false
 is_among-take zero name names absent = refl
 is_among-take (suc count) name [] absent = refl
 is_among-take (suc count) name (first ∷ names) absent =
-    both_false (first == name) (is_among name (take count names)) (left_false (first == name) (is_among name names) absent)
+    both_false (first == name) (is_among name (take count names))
+    (left_false (first == name) (is_among name names) absent)
     (is_among-take count name names (right_false (first == name) (is_among name names) absent))
 
 -- a name that isn't there comes last
-pub AreDifferent-arrive : (name : ℕ) (names : List ℕ) → AreDifferent names → is_among name names ≡ false → AreDifferent (names ++ name ∷ [])
+pub AreDifferent-arrive : (name : ℕ) (names : List ℕ) → AreDifferent names → is_among name names ≡ false
+    → AreDifferent (names ++ name ∷ [])
 AreDifferent-arrive name [] once absent = (refl, tt)
 AreDifferent-arrive name (first ∷ names) once absent = (
   list_any-append (λ other. other == first) names (name ∷ [])

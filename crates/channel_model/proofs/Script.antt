@@ -44,7 +44,8 @@ answered kind past (settles expected finished ∷ lines) =
 -- the past behind the lines
 abbrev pub past_behind : Kind → Past ℕ → List Line → Past ℕ
 past_behind kind past [] = past
-past_behind kind past (does step expected ∷ lines) = past_behind kind (past_after past step (answer kind past step)) lines
+past_behind kind past (does step expected ∷ lines) =
+    past_behind kind (past_after past step (answer kind past step)) lines
 past_behind kind past (notes who expected ∷ lines) = past_behind kind past lines
 past_behind kind past (settles expected finished ∷ lines) = past_behind kind (settling_polls kind past ++ past) lines
 

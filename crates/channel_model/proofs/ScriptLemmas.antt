@@ -23,14 +23,20 @@ use Rattle.channel_model.proofs.Script.{Line, does, notes, settles, answer_of, a
 pub answer-IsAnswer : (kind : Kind) (past : Past ℕ) (step : Step ℕ) → IsAnswer kind past step (answer kind past step)
 answer-IsAnswer kind past step = go (refusal_of past step)
   where
-    go : (refusal : Option Refusal) → MatchOption refusal ((answer_of refusal (message_in step) (due_reply kind past step) ≡ due_reply kind past step) ⊎ ((may_want_memory kind past step ≡ true) × (answer_of refusal (message_in step) (due_reply kind past step) ≡ Refused OutOfMemory (message_in step)))) (λ found. answer_of refusal (message_in step) (due_reply kind past step) ≡ Refused found (message_in step))
+    go : (refusal : Option Refusal) → MatchOption refusal
+        ((answer_of refusal (message_in step) (due_reply kind past step) ≡ due_reply kind past step)
+        ⊎ ((may_want_memory kind past step ≡ true)
+        × (answer_of refusal (message_in step) (due_reply kind past step) ≡ Refused OutOfMemory (message_in step))))
+        (λ found. answer_of refusal (message_in step) (due_reply kind past step) ≡ Refused found (message_in step))
     go (Some refusal) = refl
     go None = inl refl
 
-pub IsLegal-past_behind : (kind : Kind) (past : Past ℕ) (lines : List Line) → IsLegal kind past → IsLegal kind (past_behind kind past lines)
+pub IsLegal-past_behind : (kind : Kind) (past : Past ℕ) (lines : List Line) → IsLegal kind past
+    → IsLegal kind (past_behind kind past lines)
 IsLegal-past_behind kind past [] legal = legal
 IsLegal-past_behind kind past (does step expected ∷ lines) legal =
-    IsLegal-past_behind kind (past_after past step (answer kind past step)) lines (IsLegal-IsAnswer kind past step (answer kind past step) legal (answer-IsAnswer kind past step))
+    IsLegal-past_behind kind (past_after past step (answer kind past step)) lines
+    (IsLegal-IsAnswer kind past step (answer kind past step) legal (answer-IsAnswer kind past step))
 IsLegal-past_behind kind past (notes who expected ∷ lines) legal = IsLegal-past_behind kind past lines legal
 IsLegal-past_behind kind past (settles expected finished ∷ lines) legal =
     IsLegal-past_behind kind (settling_polls kind past ++ past) lines (IsComplete-IsLegal kind past legal).legal

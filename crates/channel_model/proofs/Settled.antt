@@ -51,49 +51,60 @@ nobody_live [] e = refl
 nobody_live (first ∷ rest) e = cc
 
 -- no closed operation waits where no receiver is live
-no_closed_waits : {T : Type 0} (kind : Kind) (past : Past T) → Whole kind past → IsQuiet (rosters past) → has_no_receiver past ≡ true → (rosters past).closeds.names ≡ []
+no_closed_waits : {T : Type 0} (kind : Kind) (past : Past T) → Whole kind past → IsQuiet (rosters past)
+    → has_no_receiver past ≡ true → (rosters past).closeds.names ≡ []
 no_closed_waits kind past covered quiet none =
     nobody_untold (rosters past).closeds quiet.closeds
-    (λ untold. let some : 0 < length (live_receivers past) = covered.closeds untold in let zero = nobody_live (live_receivers past) none in omega arith)
+    (λ untold. let some : 0 < length (live_receivers past) = covered.closeds untold in
+    let zero = nobody_live (live_receivers past) none in omega arith)
 
 -- by whether the channel is closed
-on_closed : {T : Type 0} (kind : Kind) (past : Past T) → Whole kind past → IsQuiet (rosters past) → is_closed past ≡ true → IsIdle kind past
+on_closed : {T : Type 0} (kind : Kind) (past : Past T) → Whole kind past → IsQuiet (rosters past)
+    → is_closed past ≡ true → IsIdle kind past
 on_closed kind past covered quiet c =
     let all : AreAllTold (rosters past) = covered.told c in
     record {
-      receives = λ e. nobody_untold (rosters past).receives quiet.receives (λ untold. let told = all.receives in omega arith);
-      streams = λ e. nobody_untold (rosters past).streams quiet.streams (λ untold. let told = all.streams in omega arith);
+      receives = λ e. nobody_untold (rosters past).receives quiet.receives
+          (λ untold. let told = all.receives in omega arith);
+      streams = λ e. nobody_untold (rosters past).streams quiet.streams
+          (λ untold. let told = all.streams in omega arith);
       sends = λ e. nobody_untold (rosters past).sends quiet.sends (λ untold. let told = all.sends in omega arith);
       closeds = no_closed_waits kind past covered quiet;
     }
 
-no_send_waits : {T : Type 0} (kind : Kind) (past : Past T) → Whole kind past → IsQuiet (rosters past) → is_full kind past ≡ false → (rosters past).sends.names ≡ []
+no_send_waits : {T : Type 0} (kind : Kind) (past : Past T) → Whole kind past → IsQuiet (rosters past)
+    → is_full kind past ≡ false → (rosters past).sends.names ≡ []
 no_send_waits (Bounded capacity) past covered quiet f =
     nobody_untold (rosters past).sends quiet.sends
     (λ untold.
     let room : length (held_messages past) < capacity = leb-false capacity (length (held_messages past)) f in
-    let enough : capacity - length (held_messages past) ≤ (rosters past).sends.told = covered.sends capacity refl untold in
+    let enough : capacity - length (held_messages past) ≤ (rosters past).sends.told =
+    covered.sends capacity refl untold in
     let none = quiet.sends in
     omega arith)
 no_send_waits Unbounded past covered quiet f = covered.unbounded refl
 
-on_open : {T : Type 0} (kind : Kind) (past : Past T) → Whole kind past → IsQuiet (rosters past) → is_closed past ≡ false → IsIdle kind past
+on_open : {T : Type 0} (kind : Kind) (past : Past T) → Whole kind past → IsQuiet (rosters past) → is_closed past ≡ false
+    → IsIdle kind past
 on_open kind past covered quiet c =
     record {
       receives = λ e. nobody_untold (rosters past).receives quiet.receives (λ untold.
-          let some : 0 < length (held_messages past) = some_held (held_messages past) (either (is_closed past) (has_none (held_messages past)) e c) in
+          let some : 0 < length (held_messages past) =
+          some_held (held_messages past) (either (is_closed past) (has_none (held_messages past)) e c) in
           let enough : length (held_messages past) ≤ (rosters past).receives.told = covered.receives untold in
           let none = quiet.receives in
           omega arith);
       streams = λ e. nobody_untold (rosters past).streams quiet.streams (λ untold.
-          let some : 0 < length (held_messages past) = some_held (held_messages past) (either (is_closed past) (has_none (held_messages past)) e c) in
+          let some : 0 < length (held_messages past) =
+          some_held (held_messages past) (either (is_closed past) (has_none (held_messages past)) e c) in
           let empty = (covered.streams untold).0 in
           omega arith);
       sends = λ e. no_send_waits kind past covered quiet (either (is_closed past) (is_full kind past) e c);
       closeds = no_closed_waits kind past covered quiet;
     }
 
-pub IsIdle-IsQuiet : {T : Type 0} (kind : Kind) (past : Past T) → Whole kind past → IsQuiet (rosters past) → IsIdle kind past
+pub IsIdle-IsQuiet : {T : Type 0} (kind : Kind) (past : Past T) → Whole kind past → IsQuiet (rosters past)
+    → IsIdle kind past
 IsIdle-IsQuiet kind past covered quiet = go (is_closed past) refl
   where
     go : (closed : Bool) → is_closed past ≡ closed → IsIdle kind past
@@ -103,7 +114,8 @@ IsIdle-IsQuiet kind past covered quiet = go (is_closed past) refl
 -- ---- by name
 
 -- nobody is among nobody
-nobody_among : (name : ℕ) (names : List ℕ) (test : Bool) → (test ≡ true → names ≡ []) → (is_among name names && test) ≡ false
+nobody_among : (name : ℕ) (names : List ℕ) (test : Bool) → (test ≡ true → names ≡ [])
+    → (is_among name names && test) ≡ false
 nobody_among name names true none = ap (λ (n : List ℕ). is_among name n && true) (none refl)
 nobody_among name names false none = go (is_among name names)
   where
@@ -116,18 +128,23 @@ none_of a b c e f g = rw (e, f, g) refl
 
 pub IsSettled-IsIdle : {T : Type 0} (kind : Kind) (past : Past T) → IsIdle kind past → IsSettled kind past
 IsSettled-IsIdle kind past idle (Op op) =
-    none_of (is_among op (rosters past).sends.names && can_send kind past) (is_among op (rosters past).receives.names && can_receive past) (is_among op (rosters past).closeds.names && has_no_receiver past)
+    none_of (is_among op (rosters past).sends.names && can_send kind past)
+    (is_among op (rosters past).receives.names && can_receive past)
+    (is_among op (rosters past).closeds.names && has_no_receiver past)
     (nobody_among op (rosters past).sends.names (can_send kind past) idle.sends)
     (nobody_among op (rosters past).receives.names (can_receive past) idle.receives)
     (nobody_among op (rosters past).closeds.names (has_no_receiver past) idle.closeds)
-IsSettled-IsIdle kind past idle (Receiver receiver) = nobody_among receiver (rosters past).streams.names (can_receive past) idle.streams
+IsSettled-IsIdle kind past idle (Receiver receiver) =
+    nobody_among receiver (rosters past).streams.names (can_receive past) idle.streams
 
-pub IsSettled-IsQuiet : {T : Type 0} (kind : Kind) (past : Past T) → Whole kind past → IsQuiet (rosters past) → IsSettled kind past
+pub IsSettled-IsQuiet : {T : Type 0} (kind : Kind) (past : Past T) → Whole kind past → IsQuiet (rosters past)
+    → IsSettled kind past
 IsSettled-IsQuiet kind past whole quiet = IsSettled-IsIdle kind past (IsIdle-IsQuiet kind past whole quiet)
 
 -- ---- no send beside a receive
 
-full-some : {T : Type 0} (kind : Kind) (past : Past T) → HasPositiveCapacity kind → is_full kind past ≡ true → 0 < length (held_messages past)
+full-some : {T : Type 0} (kind : Kind) (past : Past T) → HasPositiveCapacity kind → is_full kind past ≡ true
+    → 0 < length (held_messages past)
 full-some (Bounded capacity) past some full =
     let most : capacity ≤ length (held_messages past) = leb-true capacity (length (held_messages past)) full in
     let one : 0 < capacity = some capacity refl in
@@ -143,7 +160,8 @@ or_not true none e = refl
 or_not false none e = ap not e
 
 -- where a send waits and nobody is told, a message is held
-sends_wait : {T : Type 0} (kind : Kind) (past : Past T) → HasPositiveCapacity kind → IsIdle kind past → 0 < length (rosters past).sends.names → can_receive past ≡ true
+sends_wait : {T : Type 0} (kind : Kind) (past : Past T) → HasPositiveCapacity kind → IsIdle kind past
+    → 0 < length (rosters past).sends.names → can_receive past ≡ true
 sends_wait {T} kind past some idle waits = go (is_closed past) refl (is_full kind past) refl
   where
     nobody : can_send kind past ≡ true → ⊥
@@ -151,10 +169,12 @@ sends_wait {T} kind past some idle waits = go (is_closed past) refl (is_full kin
 
     go : (closed : Bool) → is_closed past ≡ closed → (full : Bool) → is_full kind past ≡ full → can_receive past ≡ true
     go true c full f = ap (λ closed. closed || not (has_none (held_messages past))) c
-    go false c true f = or_not (is_closed past) (has_none (held_messages past)) (messages-some (held_messages past) (full-some kind past some f))
+    go false c true f = or_not (is_closed past) (has_none (held_messages past))
+        (messages-some (held_messages past) (full-some kind past some f))
     go false c false f = absurd (nobody (or_not (is_closed past) (is_full kind past) f))
 
-pub IsDone-IsQuiet : {T : Type 0} (kind : Kind) (past : Past T) → HasPositiveCapacity kind → Whole kind past → IsQuiet (rosters past) → IsDone past
+pub IsDone-IsQuiet : {T : Type 0} (kind : Kind) (past : Past T) → HasPositiveCapacity kind → Whole kind past
+    → IsQuiet (rosters past) → IsDone past
 IsDone-IsQuiet kind past some whole quiet =
     let idle = IsIdle-IsQuiet kind past whole quiet in
     record {

@@ -36,7 +36,8 @@ right_none : {X : Type 0} (items others : List X) → items ++ others ≡ [] →
 right_none [] others e = e
 right_none (first ∷ items) others e = cc
 
-nobody_told : {Y : Type 0} (poll : ℕ → Y) (roster : Roster) → roster.told ≤ length roster.names → map poll (told_names roster) ≡ [] → roster.told ≡ 0
+nobody_told : {Y : Type 0} (poll : ℕ → Y) (roster : Roster) → roster.told ≤ length roster.names
+    → map poll (told_names roster) ≡ [] → roster.told ≡ 0
 nobody_told {Y} poll roster within none = go roster.told roster.names within none
   where
     go : (told : ℕ) (names : List ℕ) → told ≤ length names → map poll (take told names) ≡ [] → told ≡ 0
@@ -44,14 +45,21 @@ nobody_told {Y} poll roster within none = go roster.told roster.names within non
     go (suc told) [] within none = omega arith
     go (suc told) (name ∷ names) within none = cc
 
-IsQuiet-no_first : {T : Type 0} (past : Past T) → slice_get (told_polls {T = T} (rosters past)) 0 ≡ None → IsQuiet (rosters past)
+IsQuiet-no_first : {T : Type 0} (past : Past T) → slice_get (told_polls {T = T} (rosters past)) 0 ≡ None
+    → IsQuiet (rosters past)
 IsQuiet-no_first {T} past none =
     let sound = rosters-AreSound past in
     record {
-      receives = nobody_told Poll (rosters past).receives sound.receives.within (left_none receives streams (left_none (receives ++ streams) sends (left_none ((receives ++ streams) ++ sends) closeds all)));
-      streams = nobody_told PollNext (rosters past).streams sound.streams.within (right_none receives streams (left_none (receives ++ streams) sends (left_none ((receives ++ streams) ++ sends) closeds all)));
-      sends = nobody_told Poll (rosters past).sends sound.sends.within (right_none (receives ++ streams) sends (left_none ((receives ++ streams) ++ sends) closeds all));
-      closeds = nobody_told Poll (rosters past).closeds sound.closeds.within (right_none ((receives ++ streams) ++ sends) closeds all);
+      receives = nobody_told Poll (rosters past).receives sound.receives.within
+          (left_none receives streams (left_none (receives ++ streams) sends
+          (left_none ((receives ++ streams) ++ sends) closeds all)));
+      streams = nobody_told PollNext (rosters past).streams sound.streams.within
+          (right_none receives streams (left_none (receives ++ streams) sends
+          (left_none ((receives ++ streams) ++ sends) closeds all)));
+      sends = nobody_told Poll (rosters past).sends sound.sends.within
+          (right_none (receives ++ streams) sends (left_none ((receives ++ streams) ++ sends) closeds all));
+      closeds = nobody_told Poll (rosters past).closeds sound.closeds.within
+          (right_none ((receives ++ streams) ++ sends) closeds all);
     }
   where
     receives : List (Step T)
@@ -78,19 +86,33 @@ pub record IsComplete {T : Type 0} (kind : Kind) (past polls : Past T) : Type 0 
   pub quiet : IsQuiet (rosters (polls ++ past))
 
 no_measure : (all : Rosters) → measure all ≤ 0 → IsQuiet all
-no_measure all none = record { sends = omega arith; receives = omega arith; streams = omega arith; closeds = omega arith }
+no_measure all none = record {
+  sends = omega arith;
+  receives = omega arith;
+  streams = omega arith;
+  closeds = omega arith;
+}
 
-pub IsComplete-settling : {T : Type 0} (most : ℕ) (kind : Kind) (past polls : Past T) → IsSettling kind past polls → IsLegal kind (polls ++ past) → measure (rosters (polls ++ past)) ≤ most → IsComplete kind past (settling most kind past polls)
-IsComplete-settling zero kind past polls each legal few = record { each = each; legal = legal; quiet = no_measure (rosters (polls ++ past)) few }
+pub IsComplete-settling : {T : Type 0} (most : ℕ) (kind : Kind) (past polls : Past T) → IsSettling kind past polls
+    → IsLegal kind (polls ++ past) → measure (rosters (polls ++ past)) ≤ most
+    → IsComplete kind past (settling most kind past polls)
+IsComplete-settling zero kind past polls each legal few =
+    record { each = each; legal = legal; quiet = no_measure (rosters (polls ++ past)) few }
 IsComplete-settling {T} (suc most) kind past polls each legal few =
     go (slice_get (told_polls (rosters (polls ++ past))) 0) refl
-    (λ step first legal' fewer. IsComplete-settling most kind past ((step, due_reply kind (polls ++ past) step) ∷ polls) (each, first, refl) legal' fewer)
+    (λ step first legal' fewer. IsComplete-settling most kind past ((step, due_reply kind (polls ++ past) step) ∷ polls)
+    (each, first, refl) legal' fewer)
   where
-    told : (step : Step T) → slice_get (told_polls (rosters (polls ++ past))) 0 ≡ Some step → PollsTold (rosters (polls ++ past)) step
-    told step first = polls_told (rosters (polls ++ past)) step (first-Contains (told_polls (rosters (polls ++ past))) step first)
+    told : (step : Step T) → slice_get (told_polls (rosters (polls ++ past))) 0 ≡ Some step
+        → PollsTold (rosters (polls ++ past)) step
+    told step first = polls_told (rosters (polls ++ past)) step
+        (first-Contains (told_polls (rosters (polls ++ past))) step first)
 
     go : (found : Option (Step T)) → slice_get (told_polls (rosters (polls ++ past))) 0 ≡ found
-        → ((step : Step T) → slice_get (told_polls (rosters (polls ++ past))) 0 ≡ Some step → IsLegal kind ((step, due_reply kind (polls ++ past) step) ∷ (polls ++ past)) → measure (rosters ((step, due_reply kind (polls ++ past) step) ∷ (polls ++ past))) ≤ most → IsComplete kind past (settling most kind past ((step, due_reply kind (polls ++ past) step) ∷ polls)))
+        → ((step : Step T) → slice_get (told_polls (rosters (polls ++ past))) 0 ≡ Some step
+        → IsLegal kind ((step, due_reply kind (polls ++ past) step) ∷ (polls ++ past))
+        → measure (rosters ((step, due_reply kind (polls ++ past) step) ∷ (polls ++ past))) ≤ most
+        → IsComplete kind past (settling most kind past ((step, due_reply kind (polls ++ past) step) ∷ polls)))
         → IsComplete kind past (elim found [
           | None ↦ polls
           | Some step ↦ settling most kind past ((step, due_reply kind (polls ++ past) step) ∷ polls)
@@ -105,14 +127,27 @@ IsComplete-settling {T} (suc most) kind past polls each legal few =
 abbrev pub settling_polls : {T : Type 0} → Kind → Past T → Past T
 settling_polls kind past = settling (most_polls (waiting_in (rosters past))) kind past []
 
-pub IsComplete-IsLegal : {T : Type 0} (kind : Kind) (past : Past T) → IsLegal kind past → IsComplete kind past (settling_polls kind past)
+pub IsComplete-IsLegal : {T : Type 0} (kind : Kind) (past : Past T) → IsLegal kind past
+    → IsComplete kind past (settling_polls kind past)
 IsComplete-IsLegal kind past legal =
     IsComplete-settling (most_polls (waiting_in (rosters past))) kind past [] tt legal
-    (within_most (measure (rosters past)) (waiting_in (rosters past)) (let few = told-waiting (rosters past) (rosters-AreSound past) in omega arith))
+    (within_most (measure (rosters past)) (waiting_in (rosters past))
+    (let few = told-waiting (rosters past) (rosters-AreSound past) in omega arith))
 
 -- Behind each past that can come about these polls settle the channel.
-pub Settles-IsLegal : {T : Type 0} (kind : Kind) (past : Past T) → IsLegal kind past → Settles kind past (settling_polls kind past) (length (settling_polls kind past)) (finished_polls (settling_polls kind past))
+pub Settles-IsLegal : {T : Type 0} (kind : Kind) (past : Past T) → IsLegal kind past
+    → Settles kind past (settling_polls kind past) (length (settling_polls kind past))
+    (finished_polls (settling_polls kind past))
 Settles-IsLegal kind past legal =
     let complete = IsComplete-IsLegal kind past legal in
-    let ends : EndsWell kind past (settling_polls kind past) = EndsWell-IsFreePolling kind past (settling_polls kind past) legal (IsFreePolling-IsSettling kind past (settling_polls kind past) complete.each) in
-    record { each = complete.each; counted = refl; listed = refl; quiet = complete.quiet; settled = ends.settled complete.quiet; bounded = ends.bounded }
+    let ends : EndsWell kind past (settling_polls kind past) =
+    EndsWell-IsFreePolling kind past (settling_polls kind past) legal
+    (IsFreePolling-IsSettling kind past (settling_polls kind past) complete.each) in
+    record {
+      each = complete.each;
+      counted = refl;
+      listed = refl;
+      quiet = complete.quiet;
+      settled = ends.settled complete.quiet;
+      bounded = ends.bounded;
+    }

@@ -25,27 +25,36 @@ use Rattle.channel_model.specs.Legal.{IsAllowed, IsLegal}
 use Rattle.channel_model.specs.Laws.{AreLive}
 use Rattle.channel_model.proofs.LookUps.{look_up, look_up-other, look_up-without, look_up-with_finished, among-leave, among-hand_on, among-wait}
 
-AreLive-accepting : {T : Type 0} (past : Past T) (accepted : Option T) (all : Rosters) → AreLive past all → AreLive past (after_accepting accepted all)
-AreLive-accepting past (Some message) all live = record { sends = live.sends; receives = live.receives; closeds = live.closeds; streams = live.streams }
+AreLive-accepting : {T : Type 0} (past : Past T) (accepted : Option T) (all : Rosters) → AreLive past all
+    → AreLive past (after_accepting accepted all)
+AreLive-accepting past (Some message) all live =
+    record { sends = live.sends; receives = live.receives; closeds = live.closeds; streams = live.streams }
 AreLive-accepting past None all live = live
 
-AreLive-receiving : {T : Type 0} (past : Past T) (received : Option T) (all : Rosters) → AreLive past all → AreLive past (after_receiving received all)
-AreLive-receiving past (Some message) all live = record { sends = live.sends; receives = live.receives; closeds = live.closeds; streams = live.streams }
+AreLive-receiving : {T : Type 0} (past : Past T) (received : Option T) (all : Rosters) → AreLive past all
+    → AreLive past (after_receiving received all)
+AreLive-receiving past (Some message) all live =
+    record { sends = live.sends; receives = live.receives; closeds = live.closeds; streams = live.streams }
 AreLive-receiving past None all live = live
 
-AreLive-closing : {T : Type 0} (past : Past T) (before now : Bool) (all : Rosters) → AreLive past all → AreLive past (after_closing before now all)
-AreLive-closing past false true all live = record { sends = live.sends; receives = live.receives; closeds = live.closeds; streams = live.streams }
+AreLive-closing : {T : Type 0} (past : Past T) (before now : Bool) (all : Rosters) → AreLive past all
+    → AreLive past (after_closing before now all)
+AreLive-closing past false true all live =
+    record { sends = live.sends; receives = live.receives; closeds = live.closeds; streams = live.streams }
 AreLive-closing past false false all live = live
 AreLive-closing past true now all live = live
 
-AreLive-last_receiver : {T : Type 0} (past : Past T) (before now : Bool) (all : Rosters) → AreLive past all → AreLive past (after_last_receiver before now all)
-AreLive-last_receiver past false true all live = record { sends = live.sends; receives = live.receives; closeds = live.closeds; streams = live.streams }
+AreLive-last_receiver : {T : Type 0} (past : Past T) (before now : Bool) (all : Rosters) → AreLive past all
+    → AreLive past (after_last_receiver before now all)
+AreLive-last_receiver past false true all live =
+    record { sends = live.sends; receives = live.receives; closeds = live.closeds; streams = live.streams }
 AreLive-last_receiver past false false all live = live
 AreLive-last_receiver past true now all live = live
 
 -- ---- what an allowed step knows
 
-cond_none : {A : Type 0} (test : Bool) (some : A) (rest : Option A) → cond test (Some some) rest ≡ None → (test ≡ false) × (rest ≡ None)
+cond_none : {A : Type 0} (test : Bool) (some : A) (rest : Option A) → cond test (Some some) rest ≡ None
+    → (test ≡ false) × (rest ≡ None)
 cond_none true some rest e = cc
 cond_none false some rest e = (refl, e)
 
@@ -63,41 +72,59 @@ allowed past step e =
     let second = cond_none (is_taken past step) Taken _ first.1 in
     record { known = not_false (is_known past step) first.0; fresh = second.0 }
 
-pub known_if_borrowed : {T : Type 0} (past : Past T) (step : Step T) → refusal_of past step ≡ Some Borrowed → is_known past step ≡ true
+pub known_if_borrowed : {T : Type 0} (past : Past T) (step : Step T) → refusal_of past step ≡ Some Borrowed
+    → is_known past step ≡ true
 known_if_borrowed past step e = go (is_known past step) refl e
   where
-    go : (known : Bool) → is_known past step ≡ known → (if not known then Some Unknown else if is_taken past step then Some Taken else if is_borrowed past step then Some Borrowed else if is_one_too_many past step then Some TooMany else None) ≡ Some Borrowed → is_known past step ≡ true
+    go : (known : Bool) → is_known past step ≡ known
+        → (if not known then Some Unknown else if is_taken past step then Some Taken else if is_borrowed past step
+        then Some Borrowed else if is_one_too_many past step then Some TooMany else None) ≡ Some Borrowed
+        → is_known past step ≡ true
     go true k e = k
     go false k e = cc
 
 -- ---- names that differ
 
 -- two operations of different kinds have different names
-apart_by : {T : Type 0} (past : Past T) (test : Option (Operation T) → Bool) (op name : ℕ) → test (operation_of past name) ≡ true → test (operation_of past op) ≡ false → (op == name) ≡ false
+apart_by : {T : Type 0} (past : Past T) (test : Option (Operation T) → Bool) (op name : ℕ)
+    → test (operation_of past name) ≡ true → test (operation_of past op) ≡ false → (op == name) ≡ false
 apart_by {T} past test op name is isnt = go (op == name) refl
   where
     go : (same : Bool) → (op == name) ≡ same → (op == name) ≡ false
-    go true e = let equal : test (operation_of past op) ≡ test (operation_of past name) = ap (λ (n : ℕ). test (operation_of past n)) (eqb-true op name e) in cc
+    go true e = let equal : test (operation_of past op) ≡ test (operation_of past name) =
+        ap (λ (n : ℕ). test (operation_of past n)) (eqb-true op name e) in cc
     go false e = e
 
-same_by : {T : Type 0} (past : Past T) (test : Option (Operation T) → Bool) (op name : ℕ) → (op == name) ≡ true → test (operation_of past op) ≡ true → test (operation_of past name) ≡ true
+same_by : {T : Type 0} (past : Past T) (test : Option (Operation T) → Bool) (op name : ℕ) → (op == name) ≡ true
+    → test (operation_of past op) ≡ true → test (operation_of past name) ≡ true
 same_by {T} past test op name same is = ap (λ (n : ℕ). test (operation_of past n)) (sym (eqb-true op name same)) ∙ is
 
 -- none of the tests holds of no operation
-none_live : {T : Type 0} (operation : Option (Operation T)) → is_some operation ≡ false → (is_unsent operation ≡ false) × (is_receive operation ≡ false) × (is_awaiting operation ≡ false)
+none_live : {T : Type 0} (operation : Option (Operation T)) → is_some operation ≡ false
+    → (is_unsent operation ≡ false) × (is_receive operation ≡ false) × (is_awaiting operation ≡ false)
 none_live (Some operation) e = cc
 none_live None e = (refl, refl, refl)
 
 -- a step that starts an operation of a new name
-started : {T : Type 0} (past : Past T) (all : Rosters) (op : ℕ) (operation : Operation T) → is_some (operation_of past op) ≡ false → AreLive past all
-    → ((name : ℕ) → is_among name all.sends.names ≡ true → is_unsent (look_up name ((op, operation) ∷ live_operations past)) ≡ true)
-    × ((name : ℕ) → is_among name all.receives.names ≡ true → is_receive (look_up name ((op, operation) ∷ live_operations past)) ≡ true)
-    × ((name : ℕ) → is_among name all.closeds.names ≡ true → is_awaiting (look_up name ((op, operation) ∷ live_operations past)) ≡ true)
+started : {T : Type 0} (past : Past T) (all : Rosters) (op : ℕ) (operation : Operation T)
+    → is_some (operation_of past op) ≡ false → AreLive past all
+    → ((name : ℕ) → is_among name all.sends.names ≡ true
+    → is_unsent (look_up name ((op, operation) ∷ live_operations past)) ≡ true)
+    × ((name : ℕ) → is_among name all.receives.names ≡ true
+    → is_receive (look_up name ((op, operation) ∷ live_operations past)) ≡ true)
+    × ((name : ℕ) → is_among name all.closeds.names ≡ true
+    → is_awaiting (look_up name ((op, operation) ∷ live_operations past)) ≡ true)
 started {T} past all op operation fresh live =
     let none = none_live (operation_of past op) fresh in (
-      λ name among. ap (λ (found : Option (Operation T)). is_unsent found) (look_up-other name (op, operation) (live_operations past) (apart_by past is_unsent op name (live.sends name among) none.0)) ∙ live.sends name among,
-      λ name among. ap (λ (found : Option (Operation T)). is_receive found) (look_up-other name (op, operation) (live_operations past) (apart_by past is_receive op name (live.receives name among) none.1)) ∙ live.receives name among,
-      λ name among. ap (λ (found : Option (Operation T)). is_awaiting found) (look_up-other name (op, operation) (live_operations past) (apart_by past is_awaiting op name (live.closeds name among) none.2)) ∙ live.closeds name among,
+      λ name among. ap (λ (found : Option (Operation T)). is_unsent found)
+          (look_up-other name (op, operation) (live_operations past)
+          (apart_by past is_unsent op name (live.sends name among) none.0)) ∙ live.sends name among,
+      λ name among. ap (λ (found : Option (Operation T)). is_receive found)
+          (look_up-other name (op, operation) (live_operations past)
+          (apart_by past is_receive op name (live.receives name among) none.1)) ∙ live.receives name among,
+      λ name among. ap (λ (found : Option (Operation T)). is_awaiting found)
+          (look_up-other name (op, operation) (live_operations past)
+          (apart_by past is_awaiting op name (live.closeds name among) none.2)) ∙ live.closeds name among,
     )
 
 pub or_right : (a b : Bool) → b ≡ true → (a || b) ≡ true
@@ -105,102 +132,198 @@ or_right true b e = refl
 or_right false b e = e
 
 -- a name that isn't the one that leaves stays
-pub is_among-without_other : (left name : ℕ) (names : List ℕ) → (left == name) ≡ false → is_among name names ≡ true → is_among name (without left names) ≡ true
+pub is_among-without_other : (left name : ℕ) (names : List ℕ) → (left == name) ≡ false → is_among name names ≡ true
+    → is_among name (without left names) ≡ true
 is_among-without_other left name [] apart among = among
-is_among-without_other left name (first ∷ names) apart among = go (first == left) refl (λ rest. is_among-without_other left name names apart rest)
+is_among-without_other left name (first ∷ names) apart among =
+    go (first == left) refl (λ rest. is_among-without_other left name names apart rest)
   where
     skip : (same : Bool) → same ≡ false → (same || is_among name names) ≡ true → is_among name names ≡ true
     skip true e a = cc
     skip false e a = a
 
-    keep : (same : Bool) → (same || is_among name names) ≡ true → (is_among name names ≡ true → is_among name (without left names) ≡ true) → (same || is_among name (without left names)) ≡ true
+    keep : (same : Bool) → (same || is_among name names) ≡ true
+        → (is_among name names ≡ true → is_among name (without left names) ≡ true)
+        → (same || is_among name (without left names)) ≡ true
     keep true a rest = refl
     keep false a rest = rest a
 
-    go : (same : Bool) → (first == left) ≡ same → (is_among name names ≡ true → is_among name (without left names) ≡ true) → is_among name (cond (not same) (first ∷ without left names) (without left names)) ≡ true
+    go : (same : Bool) → (first == left) ≡ same
+        → (is_among name names ≡ true → is_among name (without left names) ≡ true)
+        → is_among name (cond (not same) (first ∷ without left names) (without left names)) ≡ true
     go true e rest = rest (skip (first == name) (rw (eqb-true first left e) apart) among)
     go false e rest = keep (first == name) among rest
 
 -- ---- step by step: whoever waits behind the own move
 
 OwnMoveIsLive : {T : Type 0} → Past T → Step T → Reply T → Type 0
-OwnMoveIsLive past step reply = AreLive past (rosters past) → AreLive ((step, reply) ∷ past) (after_own_move past step reply (rosters past))
+OwnMoveIsLive past step reply = AreLive past (rosters past)
+    → AreLive ((step, reply) ∷ past) (after_own_move past step reply (rosters past))
 
 -- the send was ready: it left, and is finished
-ready_send : {T : Type 0} (past : Past T) (op sender : ℕ) (message : Option T) (result : Result (Unit {0}) (SendError T)) → operation_of past op ≡ Some (sending sender message) → OwnMoveIsLive past (Poll op) (SendPolled (Ready result))
+ready_send : {T : Type 0} (past : Past T) (op sender : ℕ) (message : Option T)
+    (result : Result (Unit {0}) (SendError T)) → operation_of past op ≡ Some (sending sender message)
+    → OwnMoveIsLive past (Poll op) (SendPolled (Ready result))
 unfolding OwnMoveIsLive
 ready_send {T} past op sender message result o live =
     record {
       sends = λ name among.
           let stayed = among-leave op name (rosters past).sends among in
-          ap (λ (found : Option (Operation T)). is_unsent found) (look_up-with_finished op name (live_operations past) stayed.apart) ∙ live.sends name stayed.before;
+          ap (λ (found : Option (Operation T)). is_unsent found)
+          (look_up-with_finished op name (live_operations past) stayed.apart) ∙ live.sends name stayed.before;
       receives = λ name among.
-          ap (λ (found : Option (Operation T)). is_receive found) (look_up-with_finished op name (live_operations past) (apart_by past is_receive op name (live.receives name among) (ap is_receive o))) ∙ live.receives name among;
+          ap (λ (found : Option (Operation T)). is_receive found)
+          (look_up-with_finished op name (live_operations past)
+          (apart_by past is_receive op name (live.receives name among) (ap is_receive o)))
+          ∙ live.receives name among;
       closeds = λ name among.
-          ap (λ (found : Option (Operation T)). is_awaiting found) (look_up-with_finished op name (live_operations past) (apart_by past is_awaiting op name (live.closeds name among) (ap is_awaiting o))) ∙ live.closeds name among;
+          ap (λ (found : Option (Operation T)). is_awaiting found)
+          (look_up-with_finished op name (live_operations past)
+          (apart_by past is_awaiting op name (live.closeds name among) (ap is_awaiting o)))
+          ∙ live.closeds name among;
       streams = live.streams;
     }
 
-poll_send-live : {T : Type 0} (past : Past T) (op sender : ℕ) (message : Option T) (closed full : Bool) → operation_of past op ≡ Some (sending sender message) → OwnMoveIsLive past (Poll op) (poll_send_reply message closed full)
+poll_send-live : {T : Type 0} (past : Past T) (op sender : ℕ) (message : Option T) (closed full : Bool)
+    → operation_of past op ≡ Some (sending sender message)
+    → OwnMoveIsLive past (Poll op) (poll_send_reply message closed full)
 unfolding OwnMoveIsLive
-poll_send-live past op sender None closed full o live = go (is_finished_send (operation_of past op)) (ap is_finished_send o)
+poll_send-live past op sender None closed full o live =
+    go (is_finished_send (operation_of past op)) (ap is_finished_send o)
   where
-    go : (finished : Bool) → finished ≡ true → AreLive ((Poll op, SendPolled Pending) ∷ past) (cond finished (rosters past) (record { sends = wait op (rosters past).sends; receives = (rosters past).receives; streams = (rosters past).streams; closeds = (rosters past).closeds }))
+    go : (finished : Bool) → finished ≡ true
+        → AreLive ((Poll op, SendPolled Pending) ∷ past)
+        (cond finished (rosters past) (record {
+          sends = wait op (rosters past).sends;
+          receives = (rosters past).receives;
+          streams = (rosters past).streams;
+          closeds = (rosters past).closeds;
+        }))
     go true e = record { sends = live.sends; receives = live.receives; closeds = live.closeds; streams = live.streams }
     go false e = cc
 poll_send-live {T} past op sender (Some message) true full o live = ready_send past op sender (Some message) _ o live
 poll_send-live {T} past op sender (Some message) false false o live = ready_send past op sender (Some message) _ o live
-poll_send-live past op sender (Some message) false true o live = go (is_finished_send (operation_of past op)) (ap is_finished_send o)
+poll_send-live past op sender (Some message) false true o live =
+    go (is_finished_send (operation_of past op)) (ap is_finished_send o)
   where
-    either_way : (name : ℕ) → ((op == name) ≡ true) ⊎ (is_among name (rosters past).sends.names ≡ true) → is_unsent (operation_of past name) ≡ true
+    either_way : (name : ℕ) → ((op == name) ≡ true) ⊎ (is_among name (rosters past).sends.names ≡ true)
+        → is_unsent (operation_of past name) ≡ true
     either_way name (inl same) = same_by past is_unsent op name same (ap is_unsent o)
     either_way name (inr was) = live.sends name was
 
-    go : (finished : Bool) → finished ≡ false → AreLive ((Poll op, SendPolled Pending) ∷ past) (cond finished (rosters past) (record { sends = wait op (rosters past).sends; receives = (rosters past).receives; streams = (rosters past).streams; closeds = (rosters past).closeds }))
+    go : (finished : Bool) → finished ≡ false
+        → AreLive ((Poll op, SendPolled Pending) ∷ past)
+        (cond finished (rosters past) (record {
+          sends = wait op (rosters past).sends;
+          receives = (rosters past).receives;
+          streams = (rosters past).streams;
+          closeds = (rosters past).closeds;
+        }))
     go true e = cc
-    go false e = record { sends = λ name among. either_way name (among-wait op name (rosters past).sends among); receives = live.receives; closeds = live.closeds; streams = live.streams }
+    go false e = record {
+      sends = λ name among. either_way name (among-wait op name (rosters past).sends among);
+      receives = live.receives;
+      closeds = live.closeds;
+      streams = live.streams;
+    }
 
-poll_recv-live : {T : Type 0} (past : Past T) (op receiver : ℕ) (oldest : Option T) (closed : Bool) → operation_of past op ≡ Some (receiving receiver) → OwnMoveIsLive past (Poll op) (poll_recv_reply oldest closed)
+poll_recv-live : {T : Type 0} (past : Past T) (op receiver : ℕ) (oldest : Option T) (closed : Bool)
+    → operation_of past op ≡ Some (receiving receiver) → OwnMoveIsLive past (Poll op) (poll_recv_reply oldest closed)
 unfolding OwnMoveIsLive
 poll_recv-live past op receiver (Some message) closed o live =
-    record { sends = live.sends; receives = λ name among. live.receives name (among-leave op name (rosters past).receives among).before; closeds = live.closeds; streams = live.streams }
+    record {
+      sends = live.sends;
+      receives = λ name among. live.receives name
+          (among-leave op name (rosters past).receives among).before;
+      closeds = live.closeds;
+      streams = live.streams;
+    }
 poll_recv-live past op receiver None true o live =
-    record { sends = live.sends; receives = λ name among. live.receives name (among-leave op name (rosters past).receives among).before; closeds = live.closeds; streams = live.streams }
+    record {
+      sends = live.sends;
+      receives = λ name among. live.receives name
+          (among-leave op name (rosters past).receives among).before;
+      closeds = live.closeds;
+      streams = live.streams;
+    }
 poll_recv-live past op receiver None false o live =
-    record { sends = live.sends; receives = λ name among. either_way name (among-wait op name (rosters past).receives among); closeds = live.closeds; streams = live.streams }
+    record {
+      sends = live.sends;
+      receives = λ name among. either_way name
+          (among-wait op name (rosters past).receives among);
+      closeds = live.closeds;
+      streams = live.streams;
+    }
   where
-    either_way : (name : ℕ) → ((op == name) ≡ true) ⊎ (is_among name (rosters past).receives.names ≡ true) → is_receive (operation_of past name) ≡ true
+    either_way : (name : ℕ) → ((op == name) ≡ true) ⊎ (is_among name (rosters past).receives.names ≡ true)
+        → is_receive (operation_of past name) ≡ true
     either_way name (inl same) = same_by past is_receive op name same (ap is_receive o)
     either_way name (inr was) = live.receives name was
 
-poll_closed-live : {T : Type 0} (past : Past T) (op sender : ℕ) (no_receiver : Bool) → operation_of past op ≡ Some (awaiting_close sender) → OwnMoveIsLive past (Poll op) (poll_closed_reply no_receiver)
+poll_closed-live : {T : Type 0} (past : Past T) (op sender : ℕ) (no_receiver : Bool)
+    → operation_of past op ≡ Some (awaiting_close sender) → OwnMoveIsLive past (Poll op) (poll_closed_reply no_receiver)
 unfolding OwnMoveIsLive
 poll_closed-live past op sender true o live =
-    record { sends = live.sends; receives = live.receives; closeds = λ name among. live.closeds name (among-leave op name (rosters past).closeds among).before; streams = live.streams }
+    record {
+      sends = live.sends;
+      receives = live.receives;
+      closeds = λ name among. live.closeds name (among-leave op name (rosters past).closeds among).before;
+      streams = live.streams;
+    }
 poll_closed-live past op sender false o live =
-    record { sends = live.sends; receives = live.receives; closeds = λ name among. either_way name (among-wait op name (rosters past).closeds among); streams = live.streams }
+    record {
+      sends = live.sends;
+      receives = live.receives;
+      closeds = λ name among. either_way name (among-wait op name (rosters past).closeds among);
+      streams = live.streams;
+    }
   where
-    either_way : (name : ℕ) → ((op == name) ≡ true) ⊎ (is_among name (rosters past).closeds.names ≡ true) → is_awaiting (operation_of past name) ≡ true
+    either_way : (name : ℕ) → ((op == name) ≡ true) ⊎ (is_among name (rosters past).closeds.names ≡ true)
+        → is_awaiting (operation_of past name) ≡ true
     either_way name (inl same) = same_by past is_awaiting op name same (ap is_awaiting o)
     either_way name (inr was) = live.closeds name was
 
-poll-live : {T : Type 0} (past : Past T) (op : ℕ) (operation : Option (Operation T)) (closed no_receiver full : Bool) (oldest : Option T) → operation_of past op ≡ operation → OwnMoveIsLive past (Poll op) (poll_reply operation closed no_receiver full oldest)
+poll-live : {T : Type 0} (past : Past T) (op : ℕ) (operation : Option (Operation T)) (closed no_receiver full : Bool)
+    (oldest : Option T) → operation_of past op ≡ operation
+    → OwnMoveIsLive past (Poll op) (poll_reply operation closed no_receiver full oldest)
 unfolding OwnMoveIsLive
-poll-live past op (Some (sending sender message)) closed no_receiver full oldest o live = poll_send-live past op sender message closed full o live
-poll-live past op (Some (receiving receiver)) closed no_receiver full oldest o live = poll_recv-live past op receiver oldest closed o live
-poll-live past op (Some (awaiting_close sender)) closed no_receiver full oldest o live = poll_closed-live past op sender no_receiver o live
-poll-live past op None closed no_receiver full oldest o live = record { sends = live.sends; receives = live.receives; closeds = live.closeds; streams = live.streams }
+poll-live past op (Some (sending sender message)) closed no_receiver full oldest o live =
+    poll_send-live past op sender message closed full o live
+poll-live past op (Some (receiving receiver)) closed no_receiver full oldest o live =
+    poll_recv-live past op receiver oldest closed o live
+poll-live past op (Some (awaiting_close sender)) closed no_receiver full oldest o live =
+    poll_closed-live past op sender no_receiver o live
+poll-live past op None closed no_receiver full oldest o live =
+    record { sends = live.sends; receives = live.receives; closeds = live.closeds; streams = live.streams }
 
-poll_next-live : {T : Type 0} (past : Past T) (receiver : ℕ) (oldest : Option T) (closed : Bool) → is_among receiver (live_receivers past) ≡ true → OwnMoveIsLive past (PollNext receiver) (poll_next_reply oldest closed)
+poll_next-live : {T : Type 0} (past : Past T) (receiver : ℕ) (oldest : Option T) (closed : Bool)
+    → is_among receiver (live_receivers past) ≡ true
+    → OwnMoveIsLive past (PollNext receiver) (poll_next_reply oldest closed)
 unfolding OwnMoveIsLive
 poll_next-live past receiver (Some message) closed known live =
-    record { sends = live.sends; receives = live.receives; closeds = live.closeds; streams = λ name among. live.streams name (among-leave receiver name (rosters past).streams among).before }
+    record {
+      sends = live.sends;
+      receives = live.receives;
+      closeds = live.closeds;
+      streams = λ name among. live.streams name (among-leave receiver name (rosters past).streams among).before;
+    }
 poll_next-live past receiver None true known live =
-    record { sends = live.sends; receives = live.receives; closeds = live.closeds; streams = λ name among. live.streams name (among-leave receiver name (rosters past).streams among).before }
+    record {
+      sends = live.sends;
+      receives = live.receives;
+      closeds = live.closeds;
+      streams = λ name among. live.streams name (among-leave receiver name (rosters past).streams among).before;
+    }
 poll_next-live past receiver None false known live =
-    record { sends = live.sends; receives = live.receives; closeds = live.closeds; streams = λ name among. either_way name (among-wait receiver name (rosters past).streams among) }
+    record {
+      sends = live.sends;
+      receives = live.receives;
+      closeds = live.closeds;
+      streams = λ name among. either_way name (among-wait receiver name (rosters past).streams among);
+    }
   where
-    either_way : (name : ℕ) → ((receiver == name) ≡ true) ⊎ (is_among name (rosters past).streams.names ≡ true) → is_among name (live_receivers past) ≡ true
+    either_way : (name : ℕ) → ((receiver == name) ≡ true) ⊎ (is_among name (rosters past).streams.names ≡ true)
+        → is_among name (live_receivers past) ≡ true
     either_way name (inl same) = rw (← eqb-true receiver name same) known
     either_way name (inr was) = live.streams name was
 
@@ -210,13 +333,16 @@ drop_op-live {T} past op live =
     record {
       sends = λ name among.
           let stayed = among-hand_on op name (rosters past).sends among in
-          ap (λ (found : Option (Operation T)). is_unsent found) (look_up-without op name (live_operations past) stayed.apart) ∙ live.sends name stayed.before;
+          ap (λ (found : Option (Operation T)). is_unsent found)
+          (look_up-without op name (live_operations past) stayed.apart) ∙ live.sends name stayed.before;
       receives = λ name among.
           let stayed = among-hand_on op name (rosters past).receives among in
-          ap (λ (found : Option (Operation T)). is_receive found) (look_up-without op name (live_operations past) stayed.apart) ∙ live.receives name stayed.before;
+          ap (λ (found : Option (Operation T)). is_receive found)
+          (look_up-without op name (live_operations past) stayed.apart) ∙ live.receives name stayed.before;
       closeds = λ name among.
           let stayed = among-leave op name (rosters past).closeds among in
-          ap (λ (found : Option (Operation T)). is_awaiting found) (look_up-without op name (live_operations past) stayed.apart) ∙ live.closeds name stayed.before;
+          ap (λ (found : Option (Operation T)). is_awaiting found)
+          (look_up-without op name (live_operations past) stayed.apart) ∙ live.closeds name stayed.before;
       streams = live.streams;
     }
 
@@ -232,34 +358,67 @@ drop_receiver-live past receiver live =
           is_among-without_other receiver name (live_receivers past) stayed.apart (live.streams name stayed.before);
     }
 
-upgrade_receiver-live : {T : Type 0} (past : Past T) (of new : ℕ) (granted : Bool) → OwnMoveIsLive past (UpgradeReceiver of new) (Upgraded granted)
+upgrade_receiver-live : {T : Type 0} (past : Past T) (of new : ℕ) (granted : Bool)
+    → OwnMoveIsLive past (UpgradeReceiver of new) (Upgraded granted)
 unfolding OwnMoveIsLive
-upgrade_receiver-live past of new true live = record { sends = live.sends; receives = live.receives; closeds = live.closeds; streams = λ name among. or_right (new == name) (is_among name (live_receivers past)) (live.streams name among) }
-upgrade_receiver-live past of new false live = record { sends = live.sends; receives = live.receives; closeds = live.closeds; streams = live.streams }
+upgrade_receiver-live past of new true live =
+    record {
+      sends = live.sends;
+      receives = live.receives;
+      closeds = live.closeds;
+      streams = λ name among. or_right (new == name) (is_among name (live_receivers past)) (live.streams name among);
+    }
+upgrade_receiver-live past of new false live =
+    record { sends = live.sends; receives = live.receives; closeds = live.closeds; streams = live.streams }
 
-due-live : {T : Type 0} (kind : Kind) (past : Past T) (step : Step T) → IsAllowed step (refusal_of past step) → OwnMoveIsLive past step (due_reply kind past step)
+due-live : {T : Type 0} (kind : Kind) (past : Past T) (step : Step T) → IsAllowed step (refusal_of past step)
+    → OwnMoveIsLive past step (due_reply kind past step)
 unfolding OwnMoveIsLive
-due-live kind past (Poll op) may live = poll-live past op (operation_of past op) (is_closed past) (has_no_receiver past) (is_full kind past) (oldest_message past) refl live
-due-live kind past (PollNext receiver) (inl may) live = poll_next-live past receiver (oldest_message past) (is_closed past) (allowed past (PollNext receiver) may).known live
-due-live kind past (PollNext receiver) (inr may) live = poll_next-live past receiver (oldest_message past) (is_closed past) (known_if_borrowed past (PollNext receiver) may) live
+due-live kind past (Poll op) may live = poll-live past op (operation_of past op) (is_closed past) (has_no_receiver past)
+    (is_full kind past) (oldest_message past) refl live
+due-live kind past (PollNext receiver) (inl may) live =
+    poll_next-live past receiver (oldest_message past) (is_closed past)
+    (allowed past (PollNext receiver) may).known live
+due-live kind past (PollNext receiver) (inr may) live =
+    poll_next-live past receiver (oldest_message past) (is_closed past)
+    (known_if_borrowed past (PollNext receiver) may) live
 due-live kind past (DropOp op) may live = drop_op-live past op live
 due-live kind past (DropReceiver receiver) may live = drop_receiver-live past receiver live
-due-live kind past (CloneReceiver of new) may live = record { sends = live.sends; receives = live.receives; closeds = live.closeds; streams = λ name among. or_right (new == name) (is_among name (live_receivers past)) (live.streams name among) }
+due-live kind past (CloneReceiver of new) may live =
+    record {
+      sends = live.sends;
+      receives = live.receives;
+      closeds = live.closeds;
+      streams = λ name among. or_right (new == name) (is_among name (live_receivers past)) (live.streams name among);
+    }
 due-live kind past (UpgradeReceiver of new) may live = upgrade_receiver-live past of new (not (is_closed past)) live
 due-live kind past (StartSend op sender message) may live =
-    let rest = started past (rosters past) op (sending sender (Some message)) (allowed past (StartSend op sender message) may).fresh live in
+    let rest = started past (rosters past) op (sending sender (Some message))
+    (allowed past (StartSend op sender message) may).fresh live in
     record { sends = rest.0; receives = rest.1; closeds = rest.2; streams = live.streams }
 due-live kind past (StartRecv op receiver) may live =
-    let rest = started past (rosters past) op (receiving receiver) (allowed past (StartRecv op receiver) may).fresh live in
+    let rest = started past (rosters past) op (receiving receiver)
+    (allowed past (StartRecv op receiver) may).fresh live in
     record { sends = rest.0; receives = rest.1; closeds = rest.2; streams = live.streams }
 due-live kind past (StartClosed op sender) may live =
-    let rest = started past (rosters past) op (awaiting_close sender) (allowed past (StartClosed op sender) may).fresh live in
+    let rest = started past (rosters past) op (awaiting_close sender)
+    (allowed past (StartClosed op sender) may).fresh live in
     record { sends = rest.0; receives = rest.1; closeds = rest.2; streams = live.streams }
-due-live kind past step may live = record { sends = live.sends; receives = live.receives; closeds = live.closeds; streams = live.streams }
+due-live kind past step may live = record {
+  sends = live.sends;
+  receives = live.receives;
+  closeds = live.closeds;
+  streams = live.streams;
+}
 
 pub AreLive-IsLegal : {T : Type 0} (kind : Kind) (past : Past T) → IsLegal kind past → AreLive past (rosters past)
 unfolding OwnMoveIsLive
-AreLive-IsLegal kind [] legal = record { sends = λ name among. cc; receives = λ name among. cc; closeds = λ name among. cc; streams = λ name among. cc }
+AreLive-IsLegal kind [] legal = record {
+  sends = λ name among. cc;
+  receives = λ name among. cc;
+  closeds = λ name among. cc;
+  streams = λ name among. cc;
+}
 AreLive-IsLegal {T} kind ((step, reply) ∷ past) legal =
     AreLive-last_receiver ((step, reply) ∷ past) (has_no_receiver past) (has_no_receiver ((step, reply) ∷ past)) _
     (AreLive-closing ((step, reply) ∷ past) (is_closed past) (is_closed ((step, reply) ∷ past)) _

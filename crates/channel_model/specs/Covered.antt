@@ -30,7 +30,8 @@ pub record IsCovered (now : Standing) : Type 0 where
   -- beside an untold receive, each held message has a told one
   pub receives : 0 < now.receives.untold → now.held ≤ now.receives.told
   -- beside an untold send, each free place has a told one
-  pub sends : (capacity : ℕ) → now.capacity ≡ Some capacity → 0 < now.sends.untold → capacity ≤ now.held + now.sends.told
+  pub sends : (capacity : ℕ) → now.capacity ≡ Some capacity → 0 < now.sends.untold
+      → capacity ≤ now.held + now.sends.told
   -- without a capacity no send waits
   pub unbounded : now.capacity ≡ None → now.sends.told + now.sends.untold ≡ 0
   -- an untold stream waits on an empty and open channel

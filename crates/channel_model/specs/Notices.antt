@@ -28,7 +28,8 @@ after_own_move past (Poll op) (RecvPolled (Ready result)) all = record all { rec
 after_own_move past (Poll op) (RecvPolled Pending) all = record all { receives = wait op all.receives }
 after_own_move past (Poll op) (ClosedPolled (Ready done)) all = record all { closeds = leave op all.closeds }
 after_own_move past (Poll op) (ClosedPolled Pending) all = record all { closeds = wait op all.closeds }
-after_own_move past (PollNext receiver) (NextPolled (Ready item)) all = record all { streams = leave receiver all.streams }
+after_own_move past (PollNext receiver) (NextPolled (Ready item)) all =
+    record all { streams = leave receiver all.streams }
 after_own_move past (PollNext receiver) (NextPolled Pending) all = record all { streams = wait receiver all.streams }
 after_own_move past (DropOp op) reply all =
     record all { sends = hand_on op all.sends; receives = hand_on op all.receives; closeds = leave op all.closeds }

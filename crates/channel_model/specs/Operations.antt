@@ -28,7 +28,8 @@ with_finished op operations = map (λ entry. if entry.0 == op then (entry.0, fin
 -- The operations that were started and not given up since, each with its name. A new channel has none.
 abbrev pub live_operations : {T : Type 0} → Past T → List (ℕ × Operation T)
 live_operations [] = []
-live_operations ((StartSend op sender message, reply) ∷ past) = (op, sending sender (Some message)) ∷ live_operations past
+live_operations ((StartSend op sender message, reply) ∷ past) =
+    (op, sending sender (Some message)) ∷ live_operations past
 live_operations ((StartRecv op receiver, reply) ∷ past) = (op, receiving receiver) ∷ live_operations past
 live_operations ((StartClosed op sender, reply) ∷ past) = (op, awaiting_close sender) ∷ live_operations past
 live_operations ((Poll op, SendPolled (Ready result)) ∷ past) = with_finished op (live_operations past)

@@ -69,7 +69,8 @@ finished_polls [] = []
 finished_polls ((step, reply) ∷ polls) = with_last (finished_polls polls) (finished_by step reply)
 
 -- What settling answers: these polls settled the channel, and were so many.
-pub record Settles {T : Type 0} (kind : Kind) (past polls : Past T) (count : ℕ) (finished : List (Who × Reply T)) : Type 0 where
+pub record Settles {T : Type 0} (kind : Kind) (past polls : Past T) (count : ℕ)
+    (finished : List (Who × Reply T)) : Type 0 where
   pub each : IsSettling kind past polls
   pub counted : count ≡ length polls
   pub listed : finished ≡ finished_polls polls

@@ -103,7 +103,8 @@ abbrev pub is_one_too_many : {T : Type 0} → Past T → Step T → Bool
 is_one_too_many past (CloneSender of new) = nat_lt handle_limit (length (live_senders past))
 is_one_too_many past (CloneReceiver of new) = nat_lt handle_limit (length (live_receivers past))
 is_one_too_many past (UpgradeSender of new) = not (is_closed past) && nat_lt handle_limit (length (live_senders past))
-is_one_too_many past (UpgradeReceiver of new) = not (is_closed past) && nat_lt handle_limit (length (live_receivers past))
+is_one_too_many past (UpgradeReceiver of new) =
+    not (is_closed past) && nat_lt handle_limit (length (live_receivers past))
 is_one_too_many past step = false
 
 -- The first refusal that applies: a name that isn't live, then a new name that is live, then a handle

@@ -39,7 +39,8 @@ abbrev pub poll_closed_reply : {T : Type 0} (no_receiver : Bool) → Reply T
 poll_closed_reply no_receiver = ClosedPolled (closed_poll no_receiver)
 
 -- By the kind of the operation. Where none has this name the step is refused, and isn't made.
-abbrev pub poll_reply : {T : Type 0} (operation : Option (Operation T)) (closed no_receiver full : Bool) (oldest : Option T)
+abbrev pub poll_reply : {T : Type 0} (operation : Option (Operation T)) (closed no_receiver full : Bool)
+    (oldest : Option T)
     → Reply T
 poll_reply (Some (sending sender message)) closed no_receiver full oldest = poll_send_reply message closed full
 poll_reply (Some (receiving receiver)) closed no_receiver full oldest = poll_recv_reply oldest closed

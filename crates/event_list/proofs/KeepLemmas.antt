@@ -21,31 +21,41 @@ there {P = P} is holds = subst (λ r. OnSome r P) is holds
 
 module _ {W : Type 0} where
   -- what the fields keep while the value is seen as this list
-  pub opened : {slab : Slab (Entry W)} {ends : Ends} {len told : ℕ} {list : Waiting W} → Keeps slab ends len told (shown slab ends len told) → shown slab ends len told ≡ list → Keeps slab ends len told list
+  pub opened : {slab : Slab (Entry W)} {ends : Ends} {len told : ℕ} {list : Waiting W}
+      → Keeps slab ends len told (shown slab ends len told) → shown slab ends len told ≡ list
+      → Keeps slab ends len told list
   opened {slab} {ends} {len} {told} keeps view = subst (Keeps slab ends len told) view keeps
 
   -- the fields show the list that they keep
-  pub shows : {slab : Slab (Entry W)} {ends : Ends} {len told : ℕ} {list : Waiting W} → Keeps slab ends len told list → shown slab ends len told ≡ list
+  pub shows : {slab : Slab (Entry W)} {ends : Ends} {len told : ℕ} {list : Waiting W} → Keeps slab ends len told list
+      → shown slab ends len told ≡ list
   shows {slab} {ends} {len} {told} {list} keeps = Keeps-shown slab ends len told list keeps
 
   -- so the value may be closed over them
-  pub closed : {slab : Slab (Entry W)} {ends : Ends} {len told : ℕ} {list : Waiting W} → Keeps slab ends len told list → Keeps slab ends len told (shown slab ends len told)
+  pub closed : {slab : Slab (Entry W)} {ends : Ends} {len told : ℕ} {list : Waiting W} → Keeps slab ends len told list
+      → Keeps slab ends len told (shown slab ends len told)
   closed {slab} {ends} {len} {told} keeps = subst (Keeps slab ends len told) (sym (shows keeps)) keeps
 
   -- one entry leaves with its key, and no other
-  pub loses : {slab : Slab (Entry W)} {ends : Ends} {len told : ℕ} {list : Waiting W} (key : ℕ) → Keeps slab ends len told list → LosesOne list key
+  pub loses : {slab : Slab (Entry W)} {ends : Ends} {len told : ℕ} {list : Waiting W} (key : ℕ)
+      → Keeps slab ends len told list → LosesOne list key
   loses {list = list} key keeps = loses_one list key keeps.links.different
 
   -- what the entries say of a key is its mark
-  pub marked : {slab : Slab (Entry W)} {ends : Ends} {len told key name : ℕ} {list : Waiting W} {result : Option Bool} → Keeps slab ends len told list → key ≡ name → result ≡ option_map (λ entry. is_told entry.notice) (get slab key) → result ≡ mark list name
-  marked {slab} {ends} {key = key} {list = list} keeps same is = is ∙ mark_is slab ends list key keeps.links ∙ ap (mark list) same
+  pub marked : {slab : Slab (Entry W)} {ends : Ends} {len told key name : ℕ} {list : Waiting W} {result : Option Bool}
+      → Keeps slab ends len told list → key ≡ name → result ≡ option_map (λ entry. is_told entry.notice) (get slab key)
+      → result ≡ mark list name
+  marked {slab} {ends} {key = key} {list = list} keeps same is = is ∙ mark_is slab ends list key keeps.links
+      ∙ ap (mark list) same
 
-  chain_same : (old new : Slab (Entry W)) (before behind : Option ℕ) (xs : List (ℕ × Notice W)) → ((key : ℕ) → get new key ≡ get old key) → IsChain old before xs behind → IsChain new before xs behind
+  chain_same : (old new : Slab (Entry W)) (before behind : Option ℕ) (xs : List (ℕ × Notice W))
+      → ((key : ℕ) → get new key ≡ get old key) → IsChain old before xs behind → IsChain new before xs behind
   chain_same old new before behind [] same h = tt
   chain_same old new before behind (x ∷ xs) same h = (same x.0 ∙ h.0, chain_same old new (Some x.0) behind xs same h.1)
 
   -- more room changes nothing
-  pub keeps_same : {old new : Slab (Entry W)} {ends : Ends} {len told : ℕ} {list : Waiting W} → new.slots ≡ old.slots → Keeps old ends len told list → Keeps new ends len told list
+  pub keeps_same : {old new : Slab (Entry W)} {ends : Ends} {len told : ℕ} {list : Waiting W} → new.slots ≡ old.slots
+      → Keeps old ends len told list → Keeps new ends len told list
   keeps_same {old} {new} {ends} {list = list} slots keeps =
       let same : (key : ℕ) → get new key ≡ get old key = λ key. rw slots refl in
       let linked : IsLinked new ends list = record {
@@ -59,11 +69,15 @@ module _ {W : Type 0} where
       record { links = linked; counted = keeps.counted; total = keeps.total; held = rw slots keeps.held }
 
   -- nor does a look
-  pub keeps_unread : {old new : Slab (Entry W)} {ends : Ends} {len told : ℕ} {list : Waiting W} → new ≡ old → Keeps old ends len told list → Keeps new ends len told list
-  keeps_unread {ends = ends} {len} {told} {list} same keeps = subst (λ (s : Slab (Entry W)). Keeps s ends len told list) (sym same) keeps
+  pub keeps_unread : {old new : Slab (Entry W)} {ends : Ends} {len told : ℕ} {list : Waiting W} → new ≡ old
+      → Keeps old ends len told list → Keeps new ends len told list
+  keeps_unread {ends = ends} {len} {told} {list} same keeps =
+      subst (λ (s : Slab (Entry W)). Keeps s ends len told list) (sym same) keeps
 
   -- a new entry goes last
-  pub keeps_joined : {old new : Slab (Entry W)} {ends left : Ends} {len told : ℕ} {list : Waiting W} (key : ℕ) (payload : W) → Keeps old ends len told list → IsLinked new left (joined list key payload) → slab_len new ≡ slab_len old + 1 → Keeps new left (len + 1) told (joined list key payload)
+  pub keeps_joined : {old new : Slab (Entry W)} {ends left : Ends} {len told : ℕ} {list : Waiting W} (key : ℕ)
+      (payload : W) → Keeps old ends len told list → IsLinked new left (joined list key payload)
+      → slab_len new ≡ slab_len old + 1 → Keeps new left (len + 1) told (joined list key payload)
   keeps_joined {list = list} key payload keeps linked held =
       record {
         links = linked;
@@ -73,29 +87,51 @@ module _ {W : Type 0} where
       }
 
   -- how many are left of a list once a told key has left it
-  told_left : (slab : Slab (Entry W)) (ends : Ends) (list : Waiting W) (key : ℕ) → IsLinked slab ends list → mark list key ≡ Some true → (length (without list key).told + 1 ≡ length list.told) × (length (without list key).untold ≡ length list.untold)
+  told_left : (slab : Slab (Entry W)) (ends : Ends) (list : Waiting W) (key : ℕ) → IsLinked slab ends list
+      → mark list key ≡ Some true → (length (without list key).told + 1 ≡ length list.told)
+      × (length (without list key).untold ≡ length list.untold)
   told_left slab ends list key linked marked =
       let at = told_entry slab ends list key linked (told_from_mark list key marked) in
       let is = without_told list key at.front at.back at.cut in (
-        omega (arith, ap (λ (v : Waiting W). length v.told) is, ap length at.cut.is_here, length-append at.front at.back, length-append at.front (key ∷ at.back)),
+        omega (
+          arith,
+          ap (λ (v : Waiting W). length v.told) is,
+          ap length at.cut.is_here,
+          length-append at.front
+              at.back,
+          length-append at.front (key ∷ at.back),
+        ),
         ap (λ (v : Waiting W). length v.untold) is,
       )
 
   -- and once an untold one has
-  untold_left : (slab : Slab (Entry W)) (ends : Ends) (list : Waiting W) (key : ℕ) → IsLinked slab ends list → mark list key ≡ Some false → (length (without list key).told ≡ length list.told) × (length (without list key).untold + 1 ≡ length list.untold)
+  untold_left : (slab : Slab (Entry W)) (ends : Ends) (list : Waiting W) (key : ℕ) → IsLinked slab ends list
+      → mark list key ≡ Some false → (length (without list key).told ≡ length list.told)
+      × (length (without list key).untold + 1 ≡ length list.untold)
   untold_left slab ends list key linked marked =
       let at = untold_entry slab ends list key linked (untold_from_mark list key marked).1 in
       let is = without_untold list key at.payload at.front at.back at.cut in (
         ap (λ (v : Waiting W). length v.told) is,
-        omega (arith, ap (λ (v : Waiting W). length v.untold) is, ap length at.cut.is_here, length-append at.front at.back, length-append at.front ((key, at.payload) ∷ at.back)),
+        omega (
+          arith,
+          ap (λ (v : Waiting W). length v.untold) is,
+          ap length at.cut.is_here,
+          length-append at.front
+              at.back,
+          length-append at.front ((key, at.payload) ∷ at.back),
+        ),
       )
 
   -- somebody is told where a told key is in the list
-  pub some_told : {slab : Slab (Entry W)} {ends : Ends} {len told : ℕ} {list : Waiting W} (key : ℕ) → Keeps slab ends len told list → mark list key ≡ Some true → 0 < told
-  some_told {slab} {ends} {list = list} key keeps marked = omega (arith, keeps.counted, (told_left slab ends list key keeps.links marked).0)
+  pub some_told : {slab : Slab (Entry W)} {ends : Ends} {len told : ℕ} {list : Waiting W} (key : ℕ)
+      → Keeps slab ends len told list → mark list key ≡ Some true → 0 < told
+  some_told {slab} {ends} {list = list} key keeps marked =
+      omega (arith, keeps.counted, (told_left slab ends list key keeps.links marked).0)
 
   -- a told key leaves
-  pub keeps_without_told : {old new : Slab (Entry W)} {ends left : Ends} {len told : ℕ} {list : Waiting W} (key : ℕ) → Keeps old ends len told list → mark list key ≡ Some true → IsLinked new left (without list key) → slab_len new + 1 ≡ slab_len old → Keeps new left (len - 1) (told - 1) (without list key)
+  pub keeps_without_told : {old new : Slab (Entry W)} {ends left : Ends} {len told : ℕ} {list : Waiting W} (key : ℕ)
+      → Keeps old ends len told list → mark list key ≡ Some true → IsLinked new left (without list key)
+      → slab_len new + 1 ≡ slab_len old → Keeps new left (len - 1) (told - 1) (without list key)
   keeps_without_told {old} {ends = ends} {list = list} key keeps marked linked held =
       let sizes = told_left old ends list key keeps.links marked in
       record {
@@ -106,7 +142,9 @@ module _ {W : Type 0} where
       }
 
   -- an untold key leaves
-  pub keeps_without_untold : {old new : Slab (Entry W)} {ends left : Ends} {len told : ℕ} {list : Waiting W} (key : ℕ) → Keeps old ends len told list → mark list key ≡ Some false → IsLinked new left (without list key) → slab_len new + 1 ≡ slab_len old → Keeps new left (len - 1) told (without list key)
+  pub keeps_without_untold : {old new : Slab (Entry W)} {ends left : Ends} {len told : ℕ} {list : Waiting W} (key : ℕ)
+      → Keeps old ends len told list → mark list key ≡ Some false → IsLinked new left (without list key)
+      → slab_len new + 1 ≡ slab_len old → Keeps new left (len - 1) told (without list key)
   keeps_without_untold {old} {ends = ends} {list = list} key keeps marked linked held =
       let sizes = untold_left old ends list key keeps.links marked in
       record {
@@ -117,21 +155,36 @@ module _ {W : Type 0} where
       }
 
   -- a told key leaves, and comes again as the last one, untold
-  pub keeps_moved : {old new : Slab (Entry W)} {ends left : Ends} {len told at : ℕ} {list : Waiting W} (key : ℕ) (payload : W) → Keeps old ends len told list → mark list key ≡ Some true → at ≡ key → IsLinked new left (joined (without list key) at payload) → slab_len new ≡ slab_len old → Keeps new left len (told - 1) (renewed list key payload)
+  pub keeps_moved : {old new : Slab (Entry W)} {ends left : Ends} {len told at : ℕ} {list : Waiting W} (key : ℕ)
+      (payload : W) → Keeps old ends len told list → mark list key ≡ Some true → at ≡ key
+      → IsLinked new left (joined (without list key) at payload) → slab_len new ≡ slab_len old
+      → Keeps new left len (told - 1) (renewed list key payload)
   keeps_moved {old} {new} {ends} {left} {list = list} key payload keeps marked same linked held =
       let sizes = told_left old ends list key keeps.links marked in
       rw (told_from_mark list key marked) (record {
         links = subst (λ (k : ℕ). IsLinked new left (joined (without list key) k payload)) same linked;
         counted = omega (arith, keeps.counted, sizes.0);
-        total = omega (arith, keeps.total, sizes.0, sizes.1, length-append (without list key).untold ((key, payload) ∷ []));
+        total = omega (
+          arith,
+          keeps.total,
+          sizes.0,
+          sizes.1,
+          length-append (without list key).untold
+              ((key, payload) ∷ []),
+        );
         held = omega (arith, keeps.held, held);
       })
 
   -- an untold key keeps its place, with another payload
-  pub keeps_repaid : {old new : Slab (Entry W)} {ends : Ends} {len told : ℕ} {list : Waiting W} (key : ℕ) (payload : W) → Keeps old ends len told list → mark list key ≡ Some false → Rewrites old new key (option_map (with_notice (Untold payload)) (get old key)) → Keeps new ends len told (renewed list key payload)
+  pub keeps_repaid : {old new : Slab (Entry W)} {ends : Ends} {len told : ℕ} {list : Waiting W} (key : ℕ) (payload : W)
+      → Keeps old ends len told list → mark list key ≡ Some false
+      → Rewrites old new key (option_map (with_notice (Untold payload)) (get old key))
+      → Keeps new ends len told (renewed list key payload)
   keeps_repaid {old} {new} {ends} {list = list} key payload keeps marked writes =
       let marks = untold_from_mark list key marked in
-      let size : length (map (λ (entry : ℕ × W). cond (entry.0 == key) (key, payload) entry) list.untold) ≡ length list.untold = length-map list.untold (λ (entry : ℕ × W). cond (entry.0 == key) (key, payload) entry) in
+      let size : length (map (λ (entry : ℕ × W). cond (entry.0 == key) (key, payload) entry) list.untold)
+      ≡ length list.untold = length-map list.untold
+      (λ (entry : ℕ × W). cond (entry.0 == key) (key, payload) entry) in
       record {
         links = linked_renewed old new ends list key payload keeps.links marked writes;
         counted = rw marks.0 keeps.counted;
@@ -139,10 +192,12 @@ module _ {W : Type 0} where
         held = keeps.held ∙ sym writes.held;
       }
 
-  absent_from_mark : (list : Waiting W) (key : ℕ) → mark list key ≡ None → (is_among key list.told ≡ false) × (is_among key (untold_keys list) ≡ false)
+  absent_from_mark : (list : Waiting W) (key : ℕ) → mark list key ≡ None
+      → (is_among key list.told ≡ false) × (is_among key (untold_keys list) ≡ false)
   absent_from_mark list key h = by_tests (is_among key list.told) (is_among key (untold_keys list)) h
     where
-      by_tests : (told untold : Bool) → cond told (Some true) (cond untold (Some false) None) ≡ None → (told ≡ false) × (untold ≡ false)
+      by_tests : (told untold : Bool) → cond told (Some true) (cond untold (Some false) None) ≡ None
+          → (told ≡ false) × (untold ≡ false)
       by_tests true untold h = absurd (cc)
       by_tests false true h = absurd (cc)
       by_tests false false h = (refl, refl)
@@ -153,10 +208,13 @@ module _ {W : Type 0} where
 
   -- nor does it where it is to wait again
   pub renewed_none : {list : Waiting W} (key : ℕ) (payload : W) → mark list key ≡ None → renewed list key payload ≡ list
-  renewed_none {list} key payload h = let parts = absent_from_mark list key h in renewed_absent list key payload parts.0 parts.1
+  renewed_none {list} key payload h = let parts = absent_from_mark list key h in
+      renewed_absent list key payload parts.0 parts.1
 
   -- a key that isn't in the list leaves
-  pub keeps_untouched : {old new : Slab (Entry W)} {ends left : Ends} {len told : ℕ} {list : Waiting W} (key : ℕ) → Keeps old ends len told list → mark list key ≡ None → IsLinked new left (without list key) → new ≡ old → Keeps new left len told list
+  pub keeps_untouched : {old new : Slab (Entry W)} {ends left : Ends} {len told : ℕ} {list : Waiting W} (key : ℕ)
+      → Keeps old ends len told list → mark list key ≡ None → IsLinked new left (without list key) → new ≡ old
+      → Keeps new left len told list
   keeps_untouched {old} {new} {ends} {left} key keeps marked linked same =
       record {
         links = subst (IsLinked new left) (without_none key marked) linked;
@@ -166,41 +224,68 @@ module _ {W : Type 0} where
       }
 
   -- a key that was in the list waits again, with its payload
-  pub waits_again : {after : Waiting W} (list : Waiting W) (key : ℕ) (payload : W) (told : Bool) → AreDifferent (keys list) → mark list key ≡ Some told → after ≡ renewed list key payload → IsWaiting after key payload
+  pub waits_again : {after : Waiting W} (list : Waiting W) (key : ℕ) (payload : W) (told : Bool)
+      → AreDifferent (keys list) → mark list key ≡ Some told → after ≡ renewed list key payload
+      → IsWaiting after key payload
   waits_again list key payload told different marked is =
-      subst (λ (v : Waiting W). IsWaiting v key payload) (sym is) (renewed_waits list key payload different (ap is_some marked))
+      subst (λ (v : Waiting W). IsWaiting v key payload) (sym is)
+      (renewed_waits list key payload different (ap is_some marked))
 
   -- a new key waits, with its payload
-  pub waits_newly : {after : Waiting W} (list : Waiting W) (key : ℕ) (payload : W) → is_among key (keys list) ≡ false → after ≡ joined list key payload → IsWaiting after key payload
+  pub waits_newly : {after : Waiting W} (list : Waiting W) (key : ℕ) (payload : W) → is_among key (keys list) ≡ false
+      → after ≡ joined list key payload → IsWaiting after key payload
   waits_newly list key payload absent is =
       subst (λ (v : Waiting W). IsWaiting v key payload) (sym is) (joined_waits list key payload absent)
 
   -- what telling the entry at the cursor does: the first untold one has this payload, and is told now
-  pub record TellsFirst (new : Slab (Entry W)) (ends : Ends) (len told : ℕ) (list : Waiting W) (payload : W) : Type 0 where
+  pub record TellsFirst (new : Slab (Entry W)) (ends : Ends) (len told : ℕ) (list : Waiting W)
+      (payload : W) : Type 0 where
     pub rest : List W
     pub payloads_are : payloads list ≡ payload ∷ rest
     pub keeps : Keeps new ends len (told + 1) (told_one list)
 
   -- the list, once its first untold one is told
-  told_one_is : (slab : Slab (Entry W)) (ends : Ends) (list : Waiting W) (key : ℕ) (first : FirstUntold slab ends list key) → told_one list ≡ record { told = list.told ++ key ∷ []; untold = first.rest }
+  told_one_is : (slab : Slab (Entry W)) (ends : Ends) (list : Waiting W) (key : ℕ)
+      (first : FirstUntold slab ends list key)
+      → told_one list ≡ record { told = list.told ++ key ∷ []; untold = first.rest }
   told_one_is slab ends list key first = rw first.untold refl
 
   some_pair : (one other : W × Option ℕ) → Some one ≡ Some other → (one.0 ≡ other.0) × (one.1 ≡ other.1)
   some_pair one other h = let same : one ≡ other = (cc) in (ap (λ p. p.0) same, ap (λ p. p.1) same)
 
   -- so it is where the entries answer with this payload
-  pub tells_first : {old new : Slab (Entry W)} {ends : Ends} {len told key : ℕ} {list : Waiting W} {payload : W} {behind : Option ℕ} {result : Option (W × Option ℕ)} → Keeps old ends len told list → ends.cursor ≡ Some key → result ≡ option_and_then payload_at (get old key) → result ≡ Some (payload, behind) → Rewrites old new key (option_map (with_notice Told) (get old key)) → TellsFirst new (record ends { cursor = behind }) len told list payload
+  pub tells_first : {old new : Slab (Entry W)} {ends : Ends} {len told key : ℕ} {list : Waiting W} {payload : W}
+      {behind : Option ℕ} {result : Option (W × Option ℕ)} → Keeps old ends len told list → ends.cursor ≡ Some key
+      → result ≡ option_and_then payload_at (get old key) → result ≡ Some (payload, behind)
+      → Rewrites old new key (option_map (with_notice Told) (get old key))
+      → TellsFirst new (record ends { cursor = behind }) len told list payload
   tells_first {old} {new} {ends} {len} {told} {key} {list} {payload} {behind} keeps at gives is writes =
       let first = first_untold old ends list key keeps.links at in
-      let answer = some_pair (payload, behind) (first.payload, first_key (map untold_item first.rest) None) (sym is ∙ gives ∙ ap (option_and_then payload_at) first.entry) in
+      let answer = some_pair (payload, behind) (first.payload, first_key (map untold_item first.rest) None)
+      (sym is ∙ gives ∙ ap (option_and_then payload_at) first.entry) in
       let left = told_one_is old ends list key first in
       record {
         rest = map (λ (entry : ℕ × W). entry.1) first.rest;
-        payloads_are = ap (map (λ (entry : ℕ × W). entry.1)) first.untold ∙ ap (λ (w : W). w ∷ map (λ (entry : ℕ × W). entry.1) first.rest) (sym answer.0);
+        payloads_are = ap (map (λ (entry : ℕ × W). entry.1)) first.untold
+            ∙ ap (λ (w : W). w ∷ map (λ (entry : ℕ × W). entry.1) first.rest) (sym answer.0);
         keeps = record {
           links = linked_told_one old new ends list key behind first keeps.links answer.1 writes;
-          counted = omega (arith, keeps.counted, ap (λ (v : Waiting W). length v.told) left, length-append list.told (key ∷ []));
-          total = omega (arith, keeps.total, ap (λ (v : Waiting W). length v.told) left, ap (λ (v : Waiting W). length v.untold) left, length-append list.told (key ∷ []), ap length first.untold);
+          counted = omega (
+            arith,
+            keeps.counted,
+            ap (λ (v : Waiting W). length v.told) left,
+            length-append list.told
+                (key ∷ []),
+          );
+          total = omega (
+            arith,
+            keeps.total,
+            ap (λ (v : Waiting W). length v.told) left,
+            ap
+                (λ (v : Waiting W). length v.untold) left,
+            length-append list.told (key ∷ []),
+            ap length first.untold,
+          );
           held = keeps.held ∙ sym writes.held;
         };
       }
@@ -209,11 +294,16 @@ module _ {W : Type 0} where
   none_some one h = cc
 
   -- the entry at the cursor is there, and untold
-  pub is_untold_there : {slab : Slab (Entry W)} {ends : Ends} {len told key : ℕ} {list : Waiting W} {result : Option (W × Option ℕ)} → Keeps slab ends len told list → ends.cursor ≡ Some key → result ≡ option_and_then payload_at (get slab key) → result ≡ None → ⊥
+  pub is_untold_there : {slab : Slab (Entry W)} {ends : Ends} {len told key : ℕ} {list : Waiting W}
+      {result : Option (W × Option ℕ)} → Keeps slab ends len told list → ends.cursor ≡ Some key
+      → result ≡ option_and_then payload_at (get slab key) → result ≡ None → ⊥
   is_untold_there {slab} {ends} {key = key} {list = list} keeps at gives is =
       let first = first_untold slab ends list key keeps.links at in
-      none_some (first.payload, first_key (map untold_item first.rest) None) (sym is ∙ gives ∙ ap (option_and_then payload_at) first.entry)
+      none_some (first.payload, first_key (map untold_item first.rest) None)
+      (sym is ∙ gives ∙ ap (option_and_then payload_at) first.entry)
 
   -- one ring with the first payload
-  pub rings_first : {B : Type 0} (rings : B → W → B → Type 0) {before after : B} {new : Slab (Entry W)} {ends : Ends} {len told : ℕ} {list : Waiting W} {payload : W} → TellsFirst new ends len told list payload → rings before payload after → RingsEach rings before (take 1 (payloads list)) after
+  pub rings_first : {B : Type 0} (rings : B → W → B → Type 0) {before after : B} {new : Slab (Entry W)} {ends : Ends}
+      {len told : ℕ} {list : Waiting W} {payload : W} → TellsFirst new ends len told list payload
+      → rings before payload after → RingsEach rings before (take 1 (payloads list)) after
   rings_first rings {after = after} tells rung = rw tells.payloads_are (after, rung, refl)

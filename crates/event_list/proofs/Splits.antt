@@ -23,7 +23,8 @@ absent_left key xs ys h = (or_parts _ _ (sym (is_among-append key xs ys) ∙ h))
 pub absent_right : (key : ℕ) (xs ys : List ℕ) → is_among key (xs ++ ys) ≡ false → is_among key ys ≡ false
 absent_right key xs ys h = (or_parts _ _ (sym (is_among-append key xs ys) ∙ h)).1
 
-pub absent_both : (key : ℕ) (xs ys : List ℕ) → is_among key xs ≡ false → is_among key ys ≡ false → is_among key (xs ++ ys) ≡ false
+pub absent_both : (key : ℕ) (xs ys : List ℕ) → is_among key xs ≡ false → is_among key ys ≡ false
+    → is_among key (xs ++ ys) ≡ false
 absent_both key xs ys h i = is_among-append key xs ys ∙ or_from _ _ h i
 
 -- a key is among a list that names it
@@ -32,7 +33,8 @@ is_among-here key [] back = ap (λ b. b || is_among key back) (eqb_same key)
 is_among-here key (x ∷ front) back = or_right (x == key) _ (is_among-here key front back)
 
 -- a list without a key in its midst
-pub absent-middle : (key other : ℕ) (front back : List ℕ) → is_among key (front ++ other ∷ back) ≡ false → (is_among key (front ++ back) ≡ false) × ((other == key) ≡ false)
+pub absent-middle : (key other : ℕ) (front back : List ℕ) → is_among key (front ++ other ∷ back) ≡ false
+    → (is_among key (front ++ back) ≡ false) × ((other == key) ≡ false)
 absent-middle key other front back h =
     let at_back = or_parts _ _ (absent_right key front (other ∷ back) h) in (
       absent_both key front back (absent_left key front (other ∷ back) h) at_back.1,
@@ -56,11 +58,13 @@ different-midst key (x ∷ front) back d =
       different = (apart.0, later.different);
     }
 
-pub different-insert : (key : ℕ) (front back : List ℕ) → is_among key (front ++ back) ≡ false → AreDifferent (front ++ back) → AreDifferent (front ++ key ∷ back)
+pub different-insert : (key : ℕ) (front back : List ℕ) → is_among key (front ++ back) ≡ false
+    → AreDifferent (front ++ back) → AreDifferent (front ++ key ∷ back)
 different-insert key [] back h d = (h, d)
 different-insert key (x ∷ front) back h d =
     let parts = or_parts (x == key) _ h in (
-      absent_both x front (key ∷ back) (absent_left x front back d.0) (or_from _ _ (eqb_swap x key parts.0) (absent_right x front back d.0)),
+      absent_both x front (key ∷ back) (absent_left x front back d.0)
+          (or_from _ _ (eqb_swap x key parts.0) (absent_right x front back d.0)),
       different-insert key front back parts.1 d.1,
     )
 
@@ -73,14 +77,17 @@ module _ {X : Type 0} (f : X → ℕ) where
       rw (parts.0, filter-absent key xs parts.1) refl
 
   -- the key alone leaves
-  pub filter-midst : (key : ℕ) (front back : List X) (x : X) → f x ≡ key → is_among key (map f front) ≡ false → is_among key (map f back) ≡ false → filter (λ x. not (f x == key)) (front ++ x ∷ back) ≡ front ++ back
+  pub filter-midst : (key : ℕ) (front back : List X) (x : X) → f x ≡ key → is_among key (map f front) ≡ false
+      → is_among key (map f back) ≡ false → filter (λ x. not (f x == key)) (front ++ x ∷ back) ≡ front ++ back
   filter-midst key front back x at h i =
       filter-append (λ x. not (f x == key)) front (x ∷ back)
       ∙ ap (λ ys. ys ++ filter (λ x. not (f x == key)) (x ∷ back)) (filter-absent key front h)
-      ∙ ap (λ ys. front ++ ys) (ap (λ b. cond (not b) (x ∷ filter (λ x. not (f x == key)) back) (filter (λ x. not (f x == key)) back)) (eq-eqb (f x) key at) ∙ filter-absent key back i)
+      ∙ ap (λ ys. front ++ ys) (ap (λ b. cond (not b) (x ∷ filter (λ x. not (f x == key)) back)
+      (filter (λ x. not (f x == key)) back)) (eq-eqb (f x) key at) ∙ filter-absent key back i)
 
   -- a key that is among a list's keys cuts the list in two
-  pub cut_at : (key : ℕ) (xs : List X) → is_among key (map f xs) ≡ true → (front : List X) × (x : X) × (back : List X) × (xs ≡ front ++ x ∷ back) × (f x ≡ key)
+  pub cut_at : (key : ℕ) (xs : List X) → is_among key (map f xs) ≡ true
+      → (front : List X) × (x : X) × (back : List X) × (xs ≡ front ++ x ∷ back) × (f x ≡ key)
   cut_at key [] h = absurd (both_ways _ refl h)
   cut_at key (x ∷ xs) h =
       elim (cases_Bool (f x == key)) [
@@ -92,7 +99,8 @@ module _ {X : Type 0} (f : X → ℕ) where
 
 module _ {W : Type 0} where
   -- an entry keeps its payload where the key isn't
-  pub repaid-absent : (key : ℕ) (payload : W) (xs : List (ℕ × W)) → is_among key (map (λ entry. entry.0) xs) ≡ false → map (λ entry. cond (entry.0 == key) (key, payload) entry) xs ≡ xs
+  pub repaid-absent : (key : ℕ) (payload : W) (xs : List (ℕ × W)) → is_among key (map (λ entry. entry.0) xs) ≡ false
+      → map (λ entry. cond (entry.0 == key) (key, payload) entry) xs ≡ xs
   repaid-absent key payload [] h = refl
   repaid-absent key payload (x ∷ xs) h =
       let parts = or_parts (x.0 == key) (is_among key (map (λ entry. entry.0) xs)) h in
@@ -108,75 +116,105 @@ module _ {W : Type 0} where
     pub is_here : list.untold ≡ front ++ (key, payload) ∷ back
     pub different : AreDifferent (keys list)
 
-  pub mark_at_told : (list : Waiting W) (key : ℕ) (front back : List ℕ) → ToldCut list key front back → is_among key list.told ≡ true
+  pub mark_at_told : (list : Waiting W) (key : ℕ) (front back : List ℕ) → ToldCut list key front back
+      → is_among key list.told ≡ true
   mark_at_told list key front back cut = rw cut.is_here (is_among-here key front back)
 
-  pub told_midst : (list : Waiting W) (key : ℕ) (front back : List ℕ) → ToldCut list key front back → Midst key front (back ++ untold_keys list)
+  pub told_midst : (list : Waiting W) (key : ℕ) (front back : List ℕ) → ToldCut list key front back
+      → Midst key front (back ++ untold_keys list)
   told_midst list key front back cut =
       different-midst key front (back ++ untold_keys list) (rw append_assoc at (rw cut.is_here at cut.different))
 
-  pub without_told : (list : Waiting W) (key : ℕ) (front back : List ℕ) → ToldCut list key front back → without list key ≡ record list { told = front ++ back }
+  pub without_told : (list : Waiting W) (key : ℕ) (front back : List ℕ) → ToldCut list key front back
+      → without list key ≡ record list { told = front ++ back }
   without_told list key front back cut =
       let midst = told_midst list key front back cut in
       let told : filter (λ other. not (other == key)) list.told ≡ front ++ back =
-      rw cut.is_here (filter-midst (λ (x : ℕ). x) key front back key refl (rw map-id midst.not_before) (rw map-id (absent_left key back (untold_keys list) midst.not_behind))) in
-      let untold = filter-absent (λ (entry : ℕ × W). entry.0) key list.untold (absent_right key back (untold_keys list) midst.not_behind) in
+      rw cut.is_here (filter-midst (λ (x : ℕ). x) key front back key refl (rw map-id midst.not_before)
+      (rw map-id (absent_left key back (untold_keys list) midst.not_behind))) in
+      let untold = filter-absent (λ (entry : ℕ × W). entry.0) key list.untold
+      (absent_right key back (untold_keys list) midst.not_behind) in
       rw (told, untold) refl
 
-  pub different_without_told : (list : Waiting W) (key : ℕ) (front back : List ℕ) → ToldCut list key front back → AreDifferent ((front ++ back) ++ untold_keys list)
+  pub different_without_told : (list : Waiting W) (key : ℕ) (front back : List ℕ) → ToldCut list key front back
+      → AreDifferent ((front ++ back) ++ untold_keys list)
   different_without_told list key front back cut = rw append_assoc (told_midst list key front back cut).different
 
-  pub untold_is : (list : Waiting W) (key : ℕ) (payload : W) (front back : List (ℕ × W)) → UntoldCut list key payload front back → untold_keys list ≡ map (λ entry. entry.0) front ++ key ∷ map (λ entry. entry.0) back
-  untold_is list key payload front back cut = ap (map (λ (entry : ℕ × W). entry.0)) cut.is_here ∙ map-append (λ (entry : ℕ × W). entry.0) front ((key, payload) ∷ back)
+  pub untold_is : (list : Waiting W) (key : ℕ) (payload : W) (front back : List (ℕ × W))
+      → UntoldCut list key payload front back → untold_keys list ≡ map (λ entry. entry.0) front ++ key
+      ∷ map (λ entry. entry.0) back
+  untold_is list key payload front back cut = ap (map (λ (entry : ℕ × W). entry.0)) cut.is_here
+      ∙ map-append (λ (entry : ℕ × W). entry.0) front ((key, payload) ∷ back)
 
-  pub untold_midst : (list : Waiting W) (key : ℕ) (payload : W) (front back : List (ℕ × W)) → UntoldCut list key payload front back → Midst key (list.told ++ map (λ entry. entry.0) front) (map (λ entry. entry.0) back)
+  pub untold_midst : (list : Waiting W) (key : ℕ) (payload : W) (front back : List (ℕ × W))
+      → UntoldCut list key payload front back → Midst key (list.told ++ map (λ entry. entry.0) front)
+      (map (λ entry. entry.0) back)
   untold_midst list key payload front back cut =
-      different-midst key (list.told ++ map (λ entry. entry.0) front) (map (λ entry. entry.0) back) (rw append_assoc (subst AreDifferent (ap (λ ks. list.told ++ ks) (untold_is list key payload front back cut)) cut.different))
+      different-midst key (list.told ++ map (λ entry. entry.0) front) (map (λ entry. entry.0) back)
+      (rw append_assoc (subst AreDifferent (ap (λ ks. list.told ++ ks) (untold_is list key payload front back cut))
+      cut.different))
 
-  pub mark_at_untold : (list : Waiting W) (key : ℕ) (payload : W) (front back : List (ℕ × W)) → UntoldCut list key payload front back → (is_among key list.told ≡ false) × (is_among key (untold_keys list) ≡ true)
+  pub mark_at_untold : (list : Waiting W) (key : ℕ) (payload : W) (front back : List (ℕ × W))
+      → UntoldCut list key payload front back → (is_among key list.told ≡ false)
+      × (is_among key (untold_keys list) ≡ true)
   mark_at_untold list key payload front back cut = (
     absent_left key list.told (map (λ entry. entry.0) front) (untold_midst list key payload front back cut).not_before,
-    ap (is_among key) (untold_is list key payload front back cut) ∙ is_among-here key (map (λ entry. entry.0) front) (map (λ entry. entry.0) back),
+    ap (is_among key) (untold_is list key payload front back cut)
+        ∙ is_among-here key (map (λ entry. entry.0) front) (map (λ entry. entry.0) back),
   )
 
-  pub without_untold : (list : Waiting W) (key : ℕ) (payload : W) (front back : List (ℕ × W)) → UntoldCut list key payload front back → without list key ≡ record list { untold = front ++ back }
+  pub without_untold : (list : Waiting W) (key : ℕ) (payload : W) (front back : List (ℕ × W))
+      → UntoldCut list key payload front back → without list key ≡ record list { untold = front ++ back }
   without_untold list key payload front back cut =
       let midst = untold_midst list key payload front back cut in
       let told : filter (λ other. not (other == key)) list.told ≡ list.told =
-      filter-absent (λ (x : ℕ). x) key list.told (rw map-id (absent_left key list.told (map (λ entry. entry.0) front) midst.not_before)) in
+      filter-absent (λ (x : ℕ). x) key list.told
+      (rw map-id (absent_left key list.told (map (λ entry. entry.0) front) midst.not_before)) in
       let untold : filter (λ (entry : ℕ × W). not (entry.0 == key)) list.untold ≡ front ++ back =
       ap (filter (λ (entry : ℕ × W). not (entry.0 == key))) cut.is_here
-      ∙ filter-midst (λ (entry : ℕ × W). entry.0) key front back (key, payload) refl (absent_right key list.told (map (λ entry. entry.0) front) midst.not_before) midst.not_behind in
+      ∙ filter-midst (λ (entry : ℕ × W). entry.0) key front back (key, payload) refl
+      (absent_right key list.told (map (λ entry. entry.0) front) midst.not_before) midst.not_behind in
       rw (told, untold) refl
 
-  pub different_without_untold : (list : Waiting W) (key : ℕ) (payload : W) (front back : List (ℕ × W)) → UntoldCut list key payload front back → AreDifferent (list.told ++ map (λ entry. entry.0) (front ++ back))
+  pub different_without_untold : (list : Waiting W) (key : ℕ) (payload : W) (front back : List (ℕ × W))
+      → UntoldCut list key payload front back → AreDifferent (list.told ++ map (λ entry. entry.0) (front ++ back))
   different_without_untold list key payload front back cut =
-      rw (map-append (λ (entry : ℕ × W). entry.0) front back, ← append_assoc) (untold_midst list key payload front back cut).different
+      rw (map-append (λ (entry : ℕ × W). entry.0) front back, ← append_assoc)
+      (untold_midst list key payload front back cut).different
 
-  pub repaid_cut : (list : Waiting W) (key : ℕ) (payload new : W) (front back : List (ℕ × W)) → UntoldCut list key payload front back → repaid list key new ≡ record list { untold = front ++ (key, new) ∷ back }
+  pub repaid_cut : (list : Waiting W) (key : ℕ) (payload new : W) (front back : List (ℕ × W))
+      → UntoldCut list key payload front back → repaid list key new
+      ≡ record list { untold = front ++ (key, new) ∷ back }
   repaid_cut list key payload new front back cut =
       let midst = untold_midst list key payload front back cut in
       let change : (ℕ × W) → ℕ × W = λ entry. cond (entry.0 == key) (key, new) entry in
       let untold : map change list.untold ≡ front ++ (key, new) ∷ back =
       ap (map change) cut.is_here
       ∙ map-append change front ((key, payload) ∷ back)
-      ∙ ap (λ xs. xs ++ map change ((key, payload) ∷ back)) (repaid-absent key new front (absent_right key list.told (map (λ entry. entry.0) front) midst.not_before))
-      ∙ ap (λ xs. front ++ xs) (ap (λ b. cond b (key, new) (key, payload) ∷ map change back) (eqb_same key) ∙ ap (λ xs. (key, new) ∷ xs) (repaid-absent key new back midst.not_behind)) in
+      ∙ ap (λ xs. xs ++ map change ((key, payload) ∷ back))
+      (repaid-absent key new front (absent_right key list.told (map (λ entry. entry.0) front) midst.not_before))
+      ∙ ap (λ xs. front ++ xs) (ap (λ b. cond b (key, new) (key, payload) ∷ map change back) (eqb_same key)
+      ∙ ap (λ xs. (key, new) ∷ xs) (repaid-absent key new back midst.not_behind)) in
       ap (λ xs. record { told = list.told; untold = xs }) untold
 
   -- a key that isn't in the list changes nothing
-  pub without_absent : (list : Waiting W) (key : ℕ) → is_among key list.told ≡ false → is_among key (untold_keys list) ≡ false → without list key ≡ list
+  pub without_absent : (list : Waiting W) (key : ℕ) → is_among key list.told ≡ false
+      → is_among key (untold_keys list) ≡ false → without list key ≡ list
   without_absent list key h i =
-      let told : filter (λ other. not (other == key)) list.told ≡ list.told = filter-absent (λ (x : ℕ). x) key list.told (rw map-id h) in
-      let untold : filter (λ (entry : ℕ × W). not (entry.0 == key)) list.untold ≡ list.untold = filter-absent (λ (entry : ℕ × W). entry.0) key list.untold i in
+      let told : filter (λ other. not (other == key)) list.told ≡ list.told =
+      filter-absent (λ (x : ℕ). x) key list.told (rw map-id h) in
+      let untold : filter (λ (entry : ℕ × W). not (entry.0 == key)) list.untold ≡ list.untold =
+      filter-absent (λ (entry : ℕ × W). entry.0) key list.untold i in
       rw (told, untold) refl
 
-  pub renewed_absent : (list : Waiting W) (key : ℕ) (payload : W) → is_among key list.told ≡ false → is_among key (untold_keys list) ≡ false → renewed list key payload ≡ list
+  pub renewed_absent : (list : Waiting W) (key : ℕ) (payload : W) → is_among key list.told ≡ false
+      → is_among key (untold_keys list) ≡ false → renewed list key payload ≡ list
   renewed_absent list key payload h i =
       rw h (ap (λ xs. record { told = list.told; untold = xs }) (repaid-absent key payload list.untold i))
 
 -- a new key goes last
-pub different-push : (keys : List ℕ) (key : ℕ) → is_among key keys ≡ false → AreDifferent keys → AreDifferent (keys ++ key ∷ [])
+pub different-push : (keys : List ℕ) (key : ℕ) → is_among key keys ≡ false → AreDifferent keys
+    → AreDifferent (keys ++ key ∷ [])
 different-push keys key h d = different-insert key keys [] (rw append-nil h) (rw append-nil d)
 
 -- so are the keys of a part of a list
@@ -210,16 +248,31 @@ module _ {W : Type 0} where
       let is = without_told list key front back cut in
       let among = mark_at_told list key front back cut in
       let absent = absent_right key back (untold_keys list) (told_midst list key front back cut).not_behind in (
-        rw among (omega (arith, ap (λ (v : Waiting W). length v.told) is, ap length cut.is_here, length-append front back, length-append front (key ∷ back))),
+        rw among (omega (
+          arith,
+          ap (λ (v : Waiting W). length v.told) is,
+          ap length cut.is_here,
+          length-append front
+              back,
+          length-append front (key ∷ back),
+        )),
         rw absent (omega (arith, ap (λ (v : Waiting W). length v.untold) is)),
       )
 
-  untold_loses : (list : Waiting W) (key : ℕ) (payload : W) (front back : List (ℕ × W)) → UntoldCut list key payload front back → LosesOne list key
+  untold_loses : (list : Waiting W) (key : ℕ) (payload : W) (front back : List (ℕ × W))
+      → UntoldCut list key payload front back → LosesOne list key
   untold_loses list key payload front back cut =
       let is = without_untold list key payload front back cut in
       let marks = mark_at_untold list key payload front back cut in (
         rw marks.0 (omega (arith, ap (λ (v : Waiting W). length v.told) is)),
-        rw marks.1 (omega (arith, ap (λ (v : Waiting W). length v.untold) is, ap length cut.is_here, length-append front back, length-append front ((key, payload) ∷ back))),
+        rw marks.1 (omega (
+          arith,
+          ap (λ (v : Waiting W). length v.untold) is,
+          ap length cut.is_here,
+          length-append front
+              back,
+          length-append front ((key, payload) ∷ back),
+        )),
       )
 
   -- one entry leaves with its key, and no other
@@ -227,26 +280,40 @@ module _ {W : Type 0} where
   loses_one list key different =
       elim (cases_Bool (is_among key list.told)) [
         | inl told ↦
-            let here = cut_at (λ (k : ℕ). k) key list.told (subst (λ ks. is_among key ks ≡ true) (sym (map-id list.told)) told) in
-            told_loses list key here.0 here.2 (record { is_here = here.3 ∙ ap (λ k. here.0 ++ k ∷ here.2) here.4; different = different })
+            let here = cut_at (λ (k : ℕ). k) key list.told
+            (subst (λ ks. is_among key ks ≡ true) (sym (map-id list.told)) told) in
+            told_loses list key here.0 here.2 (record
+            { is_here = here.3 ∙ ap (λ k. here.0 ++ k ∷ here.2) here.4; different = different })
         | inr not_told ↦ elim (cases_Bool (is_among key (untold_keys list))) [
           | inl untold ↦
               let here = cut_at (λ (entry : ℕ × W). entry.0) key list.untold untold in
-              untold_loses list key here.1.1 here.0 here.2 (record { is_here = here.3 ∙ ap (λ k. here.0 ++ (k, here.1.1) ∷ here.2) here.4; different = different })
+              untold_loses list key here.1.1 here.0 here.2
+              (record {
+                is_here = here.3 ∙ ap (λ k. here.0 ++ (k, here.1.1) ∷ here.2) here.4;
+                different = different;
+              })
           | inr absent ↦
-              let is = without_absent list key not_told absent in
-              (rw not_told (omega (arith, ap (λ (v : Waiting W). length v.told) is)), rw absent (omega (arith, ap (λ (v : Waiting W). length v.untold) is)))
+              let is = without_absent list key not_told absent in (
+                rw not_told (omega (arith, ap (λ (v : Waiting W). length v.told) is)),
+                rw absent
+                    (omega (arith, ap (λ (v : Waiting W). length v.untold) is)),
+              )
         ]
       ]
 
 module _ {W : Type 0} where
-  payload_here : (key : ℕ) (payload : W) (front back : List (ℕ × W)) → is_among key (map (λ entry. entry.0) front) ≡ false → payload_in key (front ++ (key, payload) ∷ back) ≡ Some payload
+  payload_here : (key : ℕ) (payload : W) (front back : List (ℕ × W))
+      → is_among key (map (λ entry. entry.0) front) ≡ false
+      → payload_in key (front ++ (key, payload) ∷ back) ≡ Some payload
   payload_here key payload [] back h = ap (λ b. cond b (Some payload) (payload_in key back)) (eqb_same key)
   payload_here key payload (entry ∷ front) back h =
       let parts = or_parts (entry.0 == key) (is_among key (map (λ entry. entry.0) front)) h in
-      ap (λ b. cond b (Some entry.1) (payload_in key (front ++ (key, payload) ∷ back))) parts.0 ∙ payload_here key payload front back parts.1
+      ap (λ b. cond b (Some entry.1) (payload_in key (front ++ (key, payload) ∷ back))) parts.0
+      ∙ payload_here key payload front back parts.1
 
-  waits_at : (list : Waiting W) (key : ℕ) (payload : W) (front back : List (ℕ × W)) → list.untold ≡ front ++ (key, payload) ∷ back → is_among key list.told ≡ false → is_among key (map (λ entry. entry.0) front) ≡ false → IsWaiting list key payload
+  waits_at : (list : Waiting W) (key : ℕ) (payload : W) (front back : List (ℕ × W))
+      → list.untold ≡ front ++ (key, payload) ∷ back → is_among key list.told ≡ false
+      → is_among key (map (λ entry. entry.0) front) ≡ false → IsWaiting list key payload
   waits_at list key payload front back is not_told absent =
       let here : is_among key (untold_keys list) ≡ true =
       ap (λ es. is_among key (map (λ (entry : ℕ × W). entry.0) es)) is
@@ -258,35 +325,48 @@ module _ {W : Type 0} where
       }
 
   -- a new entry is untold, with its payload
-  pub joined_waits : (list : Waiting W) (key : ℕ) (payload : W) → is_among key (keys list) ≡ false → IsWaiting (joined list key payload) key payload
+  pub joined_waits : (list : Waiting W) (key : ℕ) (payload : W) → is_among key (keys list) ≡ false
+      → IsWaiting (joined list key payload) key payload
   joined_waits list key payload absent =
-      waits_at (joined list key payload) key payload list.untold [] refl (absent_left key list.told (untold_keys list) absent) (absent_right key list.told (untold_keys list) absent)
+      waits_at (joined list key payload) key payload list.untold [] refl
+      (absent_left key list.told (untold_keys list) absent) (absent_right key list.told (untold_keys list) absent)
 
   -- so is one that waits again
-  pub renewed_waits : (list : Waiting W) (key : ℕ) (payload : W) → AreDifferent (keys list) → is_some (mark list key) ≡ true → IsWaiting (renewed list key payload) key payload
+  pub renewed_waits : (list : Waiting W) (key : ℕ) (payload : W) → AreDifferent (keys list)
+      → is_some (mark list key) ≡ true → IsWaiting (renewed list key payload) key payload
   renewed_waits list key payload different present =
       elim (cases_Bool (is_among key list.told)) [
         | inl told ↦
-            let here = cut_at (λ (k : ℕ). k) key list.told (subst (λ ks. is_among key ks ≡ true) (sym (map-id list.told)) told) in
+            let here = cut_at (λ (k : ℕ). k) key list.told
+            (subst (λ ks. is_among key ks ≡ true) (sym (map-id list.told)) told) in
             let front = here.0 in
             let back = here.2 in
-            let cut : ToldCut list key front back = record { is_here = here.3 ∙ ap (λ k. front ++ k ∷ back) here.4; different = different } in
+            let cut : ToldCut list key front back = record {
+              is_here = here.3 ∙ ap (λ k. front ++ k ∷ back) here.4;
+              different = different;
+            } in
             let midst = told_midst list key front back cut in
             let left : Waiting W = record list { told = front ++ back } in
-            let is : renewed list key payload ≡ joined left key payload = rw told (ap (λ (v : Waiting W). joined v key payload) (without_told list key front back cut)) in
+            let is : renewed list key payload ≡ joined left key payload =
+            rw told (ap (λ (v : Waiting W). joined v key payload) (without_told list key front back cut)) in
             subst (λ (v : Waiting W). IsWaiting v key payload) (sym is)
-            (waits_at (joined left key payload) key payload list.untold [] refl (absent_both key front back midst.not_before (absent_left key back (untold_keys list) midst.not_behind)) (absent_right key back (untold_keys list) midst.not_behind))
+            (waits_at (joined left key payload) key payload list.untold [] refl
+            (absent_both key front back midst.not_before (absent_left key back (untold_keys list) midst.not_behind))
+            (absent_right key back (untold_keys list) midst.not_behind))
         | inr not_told ↦ elim (cases_Bool (is_among key (untold_keys list))) [
           | inl untold ↦
               let here = cut_at (λ (entry : ℕ × W). entry.0) key list.untold untold in
               let front = here.0 in
               let back = here.2 in
-              let cut : UntoldCut list key here.1.1 front back = record { is_here = here.3 ∙ ap (λ k. front ++ (k, here.1.1) ∷ back) here.4; different = different } in
+              let cut : UntoldCut list key here.1.1 front back =
+              record { is_here = here.3 ∙ ap (λ k. front ++ (k, here.1.1) ∷ back) here.4; different = different } in
               let midst = untold_midst list key here.1.1 front back cut in
               let left : Waiting W = record list { untold = front ++ (key, payload) ∷ back } in
-              let is : renewed list key payload ≡ left = rw not_told (repaid_cut list key here.1.1 payload front back cut) in
+              let is : renewed list key payload ≡ left =
+              rw not_told (repaid_cut list key here.1.1 payload front back cut) in
               subst (λ (v : Waiting W). IsWaiting v key payload) (sym is)
-              (waits_at left key payload front back refl not_told (absent_right key list.told (map (λ entry. entry.0) front) midst.not_before))
+              (waits_at left key payload front back refl not_told
+              (absent_right key list.told (map (λ entry. entry.0) front) midst.not_before))
           | inr absent ↦ absurd (both_ways false refl (rw (not_told, absent) at present))
         ]
       ]

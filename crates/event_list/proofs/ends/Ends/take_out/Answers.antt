@@ -17,15 +17,23 @@ returns-in_err-entry-clause-leaves g c = λ list linked.
 pub returns-in_err-entry-clause-was_told : goal.returns-in_err-entry-clause-was_told
 returns-in_err-entry-clause-was_told g c = λ list linked.
     let vacant : get c.args.entries.now c.args.key ≡ None = sym c.in_err-entry.ensures.value in
-    c.from_residual.ensures ∙ sym (ap (option_map (λ (entry : Entry g.row.W.Denot). is_told entry.notice)) vacant) ∙ mark_is c.args.entries.now c.args.self.now list c.args.key linked
+    c.from_residual.ensures ∙ sym (ap (option_map (λ (entry : Entry g.row.W.Denot). is_told entry.notice)) vacant)
+    ∙ mark_is c.args.entries.now c.args.self.now list c.args.key linked
 
 pub returns-clause-leaves : goal.returns-clause-leaves
 returns-clause-leaves g c = λ list linked.
     rw c.without.ensures
-    (linked_without c.args.entries.now c.remove.new.self c.set_behind.new.self c.set_before.new.self c.args.self.now list c.args.key c.in_ok-entry.entry linked
-    (record { was = sym c.in_ok-entry.ensures.value; taken = c.remove.ensures.updates; before = c.set_behind.ensures.rewrites; behind = c.set_before.ensures.rewrites }))
+    (linked_without c.args.entries.now c.remove.new.self c.set_behind.new.self c.set_before.new.self c.args.self.now
+    list c.args.key c.in_ok-entry.entry linked
+    (record {
+      was = sym c.in_ok-entry.ensures.value;
+      taken = c.remove.ensures.updates;
+      before = c.set_behind.ensures.rewrites;
+      behind = c.set_before.ensures.rewrites;
+    }))
 
 pub returns-clause-was_told : goal.returns-clause-was_told
 returns-clause-was_told g c = λ list linked.
     let there : get c.args.entries.now c.args.key ≡ Some c.in_ok-entry.entry = sym c.in_ok-entry.ensures.value in
-    ap Some c.is_told.ensures ∙ sym (ap (option_map (λ (entry : Entry g.row.W.Denot). is_told entry.notice)) there) ∙ mark_is c.args.entries.now c.args.self.now list c.args.key linked
+    ap Some c.is_told.ensures ∙ sym (ap (option_map (λ (entry : Entry g.row.W.Denot). is_told entry.notice)) there)
+    ∙ mark_is c.args.entries.now c.args.self.now list c.args.key linked

@@ -6,60 +6,77 @@ use Rattle.event_list.proofs.list.WaitList.again_counted.Goals as goal
 
 pub returns-in_default-clause-found : goal.returns-in_default-clause-found
 returns-in_default-clause-found g c =
-    let is : mark c.args.self.now c.t.inside.key ≡ None = sym (marked (opened c.self.invariant c.self.view_is) refl c.is_told.ensures.value) ∙ c.in_default.is in
+    let is : mark c.args.self.now c.t.inside.key ≡ None =
+    sym (marked (opened c.self.invariant c.self.view_is) refl c.is_told.ensures.value) ∙ c.in_default.is in
     sym (ap is_some (ap (mark c.args.self.now) (sym c.t.view_is) ∙ is))
 
 pub returns-in_default-clause-after : goal.returns-in_default-clause-after
 returns-in_default-clause-after g c =
     let keeps = keeps_unread c.is_told.ensures.same (opened c.self.invariant c.self.view_is) in
-    let is : mark c.args.self.now c.t.inside.key ≡ None = sym (marked (opened c.self.invariant c.self.view_is) refl c.is_told.ensures.value) ∙ c.in_default.is in
-    shows keeps ∙ sym (renewed_none c.t.inside.key c.args.w is) ∙ ap (λ k. renewed c.args.self.now k c.args.w) c.t.view_is
+    let is : mark c.args.self.now c.t.inside.key ≡ None =
+    sym (marked (opened c.self.invariant c.self.view_is) refl c.is_told.ensures.value) ∙ c.in_default.is in
+    shows keeps ∙ sym (renewed_none c.t.inside.key c.args.w is)
+    ∙ ap (λ k. renewed c.args.self.now k c.args.w) c.t.view_is
 
 pub invariant_of-self-then-not-was_told : goal.invariant_of-self-then-not-was_told
 invariant_of-self-then-not-was_told g c =
     let keeps = keeps_unread c.is_told.ensures.same (opened c.self.invariant c.self.view_is) in
-    let is : mark c.args.self.now c.t.inside.key ≡ Some false = sym (marked (opened c.self.invariant c.self.view_is) refl c.is_told.ensures.value) ∙ c.in-Some.is ∙ ap Some c.if-not-was_told.true in
+    let is : mark c.args.self.now c.t.inside.key ≡ Some false =
+    sym (marked (opened c.self.invariant c.self.view_is) refl c.is_told.ensures.value) ∙ c.in-Some.is
+    ∙ ap Some c.if-not-was_told.true in
     let done = keeps_repaid c.t.inside.key c.args.w keeps is c.set_payload.ensures.rewrites in
     closed done
 
 pub returns-then-not-was_told-clause-after : goal.returns-then-not-was_told-clause-after
 returns-then-not-was_told-clause-after g c =
     let keeps = keeps_unread c.is_told.ensures.same (opened c.self.invariant c.self.view_is) in
-    let is : mark c.args.self.now c.t.inside.key ≡ Some false = sym (marked (opened c.self.invariant c.self.view_is) refl c.is_told.ensures.value) ∙ c.in-Some.is ∙ ap Some c.if-not-was_told.true in
+    let is : mark c.args.self.now c.t.inside.key ≡ Some false =
+    sym (marked (opened c.self.invariant c.self.view_is) refl c.is_told.ensures.value) ∙ c.in-Some.is
+    ∙ ap Some c.if-not-was_told.true in
     let done = keeps_repaid c.t.inside.key c.args.w keeps is c.set_payload.ensures.rewrites in
     shows done ∙ ap (λ k. renewed c.args.self.now k c.args.w) c.t.view_is
 
 pub put_last-requires : goal.put_last-requires
 put_last-requires g c =
     let keeps = keeps_unread c.is_told.ensures.same (opened c.self.invariant c.self.view_is) in
-    let is : mark c.args.self.now c.t.inside.key ≡ Some true = sym (marked (opened c.self.invariant c.self.view_is) refl c.is_told.ensures.value) ∙ c.in-Some.is ∙ ap Some c.if-not-was_told.false in
+    let is : mark c.args.self.now c.t.inside.key ≡ Some true =
+    sym (marked (opened c.self.invariant c.self.view_is) refl c.is_told.ensures.value) ∙ c.in-Some.is
+    ∙ ap Some c.if-not-was_told.false in
     let taken : c.take_out.result ≡ Some true = c.take_out.ensures.was_told c.args.self.now keeps.links ∙ is in
     there taken c.take_out.ensures.room
 
 pub overflow_sub-self : goal.overflow_sub-self
 overflow_sub-self g c =
     let keeps = keeps_unread c.is_told.ensures.same (opened c.self.invariant c.self.view_is) in
-    let is : mark c.args.self.now c.t.inside.key ≡ Some true = sym (marked (opened c.self.invariant c.self.view_is) refl c.is_told.ensures.value) ∙ c.in-Some.is ∙ ap Some c.if-not-was_told.false in
+    let is : mark c.args.self.now c.t.inside.key ≡ Some true =
+    sym (marked (opened c.self.invariant c.self.view_is) refl c.is_told.ensures.value) ∙ c.in-Some.is
+    ∙ ap Some c.if-not-was_told.false in
     some_told c.t.inside.key keeps is
 
 pub invariant_of-self-2 : goal.invariant_of-self-2
 invariant_of-self-2 g c =
     let keeps = keeps_unread c.is_told.ensures.same (opened c.self.invariant c.self.view_is) in
-    let is : mark c.args.self.now c.t.inside.key ≡ Some true = sym (marked (opened c.self.invariant c.self.view_is) refl c.is_told.ensures.value) ∙ c.in-Some.is ∙ ap Some c.if-not-was_told.false in
+    let is : mark c.args.self.now c.t.inside.key ≡ Some true =
+    sym (marked (opened c.self.invariant c.self.view_is) refl c.is_told.ensures.value) ∙ c.in-Some.is
+    ∙ ap Some c.if-not-was_told.false in
     let taken : c.take_out.result ≡ Some true = c.take_out.ensures.was_told c.args.self.now keeps.links ∙ is in
     let same_key = c.put_last.ensures.key ∙ there taken c.take_out.ensures.next in
     let linked = c.put_last.ensures.joins _ (c.take_out.ensures.leaves c.args.self.now keeps.links) in
-    let done = keeps_moved c.t.inside.key c.args.w keeps is same_key linked (c.put_last.ensures.held ∙ there taken c.take_out.ensures.held) in
+    let done = keeps_moved c.t.inside.key c.args.w keeps is same_key linked
+    (c.put_last.ensures.held ∙ there taken c.take_out.ensures.held) in
     closed done
 
 pub returns-clause-after : goal.returns-clause-after
 returns-clause-after g c =
     let keeps = keeps_unread c.is_told.ensures.same (opened c.self.invariant c.self.view_is) in
-    let is : mark c.args.self.now c.t.inside.key ≡ Some true = sym (marked (opened c.self.invariant c.self.view_is) refl c.is_told.ensures.value) ∙ c.in-Some.is ∙ ap Some c.if-not-was_told.false in
+    let is : mark c.args.self.now c.t.inside.key ≡ Some true =
+    sym (marked (opened c.self.invariant c.self.view_is) refl c.is_told.ensures.value) ∙ c.in-Some.is
+    ∙ ap Some c.if-not-was_told.false in
     let taken : c.take_out.result ≡ Some true = c.take_out.ensures.was_told c.args.self.now keeps.links ∙ is in
     let same_key = c.put_last.ensures.key ∙ there taken c.take_out.ensures.next in
     let linked = c.put_last.ensures.joins _ (c.take_out.ensures.leaves c.args.self.now keeps.links) in
-    let done = keeps_moved c.t.inside.key c.args.w keeps is same_key linked (c.put_last.ensures.held ∙ there taken c.take_out.ensures.held) in
+    let done = keeps_moved c.t.inside.key c.args.w keeps is same_key linked
+    (c.put_last.ensures.held ∙ there taken c.take_out.ensures.held) in
     shows done ∙ ap (λ k. renewed c.args.self.now k c.args.w) c.t.view_is
 
 pub returns-then-not-was_told-clause-different : goal.returns-then-not-was_told-clause-different
@@ -68,7 +85,9 @@ returns-then-not-was_told-clause-different g c = (invariant_of-self-then-not-was
 pub returns-then-not-was_told-clause-waits : goal.returns-then-not-was_told-clause-waits
 returns-then-not-was_told-clause-waits g c =
     let keeps = opened c.self.invariant c.self.view_is in
-    waits_again c.args.self.now c.args.t.now c.args.w false keeps.links.different (sym (marked keeps c.t.view_is c.is_told.ensures.value) ∙ c.in-Some.is ∙ ap Some c.if-not-was_told.true) (returns-then-not-was_told-clause-after g c)
+    waits_again c.args.self.now c.args.t.now c.args.w false keeps.links.different
+    (sym (marked keeps c.t.view_is c.is_told.ensures.value) ∙ c.in-Some.is ∙ ap Some c.if-not-was_told.true)
+    (returns-then-not-was_told-clause-after g c)
 
 pub returns-clause-different : goal.returns-clause-different
 returns-clause-different g c = (invariant_of-self-2 g c).links.different
@@ -76,7 +95,9 @@ returns-clause-different g c = (invariant_of-self-2 g c).links.different
 pub returns-clause-waits : goal.returns-clause-waits
 returns-clause-waits g c =
     let keeps = opened c.self.invariant c.self.view_is in
-    waits_again c.args.self.now c.args.t.now c.args.w true keeps.links.different (sym (marked keeps c.t.view_is c.is_told.ensures.value) ∙ c.in-Some.is ∙ ap Some c.if-not-was_told.false) (returns-clause-after g c)
+    waits_again c.args.self.now c.args.t.now c.args.w true keeps.links.different
+    (sym (marked keeps c.t.view_is c.is_told.ensures.value) ∙ c.in-Some.is ∙ ap Some c.if-not-was_told.false)
+    (returns-clause-after g c)
 
 pub returns-in_default-clause-sizes : goal.returns-in_default-clause-sizes
 returns-in_default-clause-sizes g c = loses c.args.t.now (opened c.self.invariant c.self.view_is)

@@ -6,25 +6,32 @@ use Rattle.event_list.proofs.list.WaitList.listen_counted.Goals as goal
 
 pub invariant_of-self : goal.invariant_of-self
 invariant_of-self g c =
-    closed (keeps_same (ap (λ (s : Slab (Entry g.row.W.Denot)). s.slots) c.reserve.ensures.same) (opened c.self.invariant c.self.view_is))
+    closed (keeps_same (ap (λ (s : Slab (Entry g.row.W.Denot)). s.slots) c.reserve.ensures.same)
+    (opened c.self.invariant c.self.view_is))
 
 pub invariant_of-self-2 : goal.invariant_of-self-2
 invariant_of-self-2 g c =
-    let roomy = keeps_same (ap (λ (s : Slab (Entry g.row.W.Denot)). s.slots) c.reserve.ensures.same) (opened c.self.invariant c.self.view_is) in
-    closed (keeps_joined c.put_last-key.result c.args.w roomy (c.put_last-key.ensures.joins c.args.self.now roomy.links) c.put_last-key.ensures.held)
+    let roomy = keeps_same (ap (λ (s : Slab (Entry g.row.W.Denot)). s.slots) c.reserve.ensures.same)
+    (opened c.self.invariant c.self.view_is) in
+    closed (keeps_joined c.put_last-key.result c.args.w roomy
+    (c.put_last-key.ensures.joins c.args.self.now roomy.links) c.put_last-key.ensures.held)
 
 pub returns-clause-fresh : goal.returns-clause-fresh
 returns-clause-fresh g c =
-    let roomy = keeps_same (ap (λ (s : Slab (Entry g.row.W.Denot)). s.slots) c.reserve.ensures.same) (opened c.self.invariant c.self.view_is) in
+    let roomy = keeps_same (ap (λ (s : Slab (Entry g.row.W.Denot)). s.slots) c.reserve.ensures.same)
+    (opened c.self.invariant c.self.view_is) in
     c.put_last-key.ensures.fresh c.args.self.now roomy.links
 
 pub returns-clause-after : goal.returns-clause-after
 returns-clause-after g c =
-    let roomy = keeps_same (ap (λ (s : Slab (Entry g.row.W.Denot)). s.slots) c.reserve.ensures.same) (opened c.self.invariant c.self.view_is) in
-    shows (keeps_joined c.put_last-key.result c.args.w roomy (c.put_last-key.ensures.joins c.args.self.now roomy.links) c.put_last-key.ensures.held)
+    let roomy = keeps_same (ap (λ (s : Slab (Entry g.row.W.Denot)). s.slots) c.reserve.ensures.same)
+    (opened c.self.invariant c.self.view_is) in
+    shows (keeps_joined c.put_last-key.result c.args.w roomy
+    (c.put_last-key.ensures.joins c.args.self.now roomy.links) c.put_last-key.ensures.held)
 
 pub returns-clause-waits : goal.returns-clause-waits
-returns-clause-waits g c = waits_newly c.args.self.now c.put_last-key.result c.args.w (returns-clause-fresh g c) (returns-clause-after g c)
+returns-clause-waits g c = waits_newly c.args.self.now c.put_last-key.result c.args.w (returns-clause-fresh g c)
+    (returns-clause-after g c)
 
 pub returns-clause-different : goal.returns-clause-different
 returns-clause-different g c = (invariant_of-self-2 g c).links.different

@@ -8,6 +8,7 @@ invariant-loop-turn g l =
     record {
       left : length (payloads l.self) + l._turn ≡ l.untold;
       after : told_all l.self ≡ told_all l.fn.self;
-      rung : (last : g.row.B.Denot) → RingsEach g.B.Bell.rings l.bell (payloads l.self) last → RingsEach g.B.Bell.rings l.fn.bell (payloads l.fn.self) last;
+      rung : (last : g.row.B.Denot) → RingsEach g.B.Bell.rings l.bell (payloads l.self) last
+          → RingsEach g.B.Bell.rings l.fn.bell (payloads l.fn.self) last;
       counted : l.steps ≤ l.fn.steps + l._turn;
     }

@@ -2,21 +2,25 @@ use Rattle.event_list.proofs.KeepLemmas.{opened, shows, closed, tells_first, is_
 use Rattle.event_list.proofs.list.WaitList.tell_one_counted.Goals as goal
 
 pub unreachable-requires : goal.unreachable-requires
-unreachable-requires g c = is_untold_there (opened c.self.invariant c.self.view_is) c.in-Some.is c.tell.ensures.answer c.in_default-tell.is
+unreachable-requires g c = is_untold_there
+    (opened c.self.invariant c.self.view_is) c.in-Some.is c.tell.ensures.answer c.in_default-tell.is
 
 pub invariant_of-self : goal.invariant_of-self
 invariant_of-self g c =
-    let tells = tells_first (opened c.self.invariant c.self.view_is) c.in-Some.is c.tell.ensures.answer c.in-Some-tell.is c.tell.ensures.rewrites in
+    let tells = tells_first (opened c.self.invariant c.self.view_is) c.in-Some.is c.tell.ensures.answer
+    c.in-Some-tell.is c.tell.ensures.rewrites in
     closed tells.keeps
 
 pub returns-clause-after : goal.returns-clause-after
 returns-clause-after g c =
-    let tells = tells_first (opened c.self.invariant c.self.view_is) c.in-Some.is c.tell.ensures.answer c.in-Some-tell.is c.tell.ensures.rewrites in
+    let tells = tells_first (opened c.self.invariant c.self.view_is) c.in-Some.is c.tell.ensures.answer
+    c.in-Some-tell.is c.tell.ensures.rewrites in
     shows tells.keeps
 
 pub returns-clause-rung : goal.returns-clause-rung
 returns-clause-rung g c =
-    let tells = tells_first (opened c.self.invariant c.self.view_is) c.in-Some.is c.tell.ensures.answer c.in-Some-tell.is c.tell.ensures.rewrites in
+    let tells = tells_first (opened c.self.invariant c.self.view_is) c.in-Some.is c.tell.ensures.answer
+    c.in-Some-tell.is c.tell.ensures.rewrites in
     rings_first g.B.Bell.rings tells c.ring.ensures
 
 pub returns-clause-different : goal.returns-clause-different
