@@ -18,11 +18,13 @@ pub record IsKeyed (key_of : ℕ → Option ℕ) (names keys : Roster) : Type 0 
   pub told : names.told ≡ keys.told
 
 -- the first name has the first key, and the others have the others
-first_keyed : (key_of : ℕ → Option ℕ) (name key : ℕ) (names keys : List ℕ) → AreKeyed key_of (name ∷ names) (key ∷ keys) → (key_of name ≡ Some key) × AreKeyed key_of names keys
+first_keyed : (key_of : ℕ → Option ℕ) (name key : ℕ) (names keys : List ℕ) → AreKeyed key_of (name ∷ names) (key ∷ keys)
+    → (key_of name ≡ Some key) × AreKeyed key_of names keys
 first_keyed key_of name key names keys e = (cc, cc)
 
 -- whoever has another key has another name
-other_key : (key_of : ℕ → Option ℕ) (first name first_key key : ℕ) → key_of first ≡ Some first_key → key_of name ≡ Some key → (first_key == key) ≡ false → (first == name) ≡ false
+other_key : (key_of : ℕ → Option ℕ) (first name first_key key : ℕ) → key_of first ≡ Some first_key
+    → key_of name ≡ Some key → (first_key == key) ≡ false → (first == name) ≡ false
 other_key key_of first name first_key key e f apart = go (first == name) refl
   where
     go : (same : Bool) → (first == name) ≡ same → (first == name) ≡ false
@@ -34,7 +36,8 @@ other_key key_of first name first_key key e f apart = go (first == name) refl
         cc
 
 -- a name is there where its key is, and by the same places
-pub same_name : (key_of : ℕ → Option ℕ) (first name first_key key : ℕ) → key_of first ≡ Some first_key → key_of name ≡ Some key → ((first_key == key) ≡ true → first ≡ name) → (first == name) ≡ (first_key == key)
+pub same_name : (key_of : ℕ → Option ℕ) (first name first_key key : ℕ) → key_of first ≡ Some first_key
+    → key_of name ≡ Some key → ((first_key == key) ≡ true → first ≡ name) → (first == name) ≡ (first_key == key)
 same_name key_of first name first_key key e f one = go (first_key == key) refl
   where
     go : (same : Bool) → (first_key == key) ≡ same → (first == name) ≡ same
@@ -48,7 +51,8 @@ IsOneToOne key_of = (name other key : ℕ) → key_of name ≡ Some key → key_
 module _ (key_of : ℕ → Option ℕ) (one_to_one : IsOneToOne key_of) (name key : ℕ) (has : key_of name ≡ Some key) where
   same_test : (first first_key : ℕ) → key_of first ≡ Some first_key → (first == name) ≡ (first_key == key)
   same_test first first_key e =
-      same_name key_of first name first_key key e has (λ same. one_to_one first name key (e ∙ ap (λ k. Some k) (eqb-true first_key key same)) has)
+      same_name key_of first name first_key key e has
+      (λ same. one_to_one first name key (e ∙ ap (λ k. Some k) (eqb-true first_key key same)) has)
 
   pub is_among-keyed : (names keys : List ℕ) → AreKeyed key_of names keys → is_among name names ≡ is_among key keys
   is_among-keyed [] [] e = refl
@@ -56,24 +60,30 @@ module _ (key_of : ℕ → Option ℕ) (one_to_one : IsOneToOne key_of) (name ke
   is_among-keyed (first ∷ names) [] e = cc
   is_among-keyed (first ∷ names) (first_key ∷ keys) e =
       let parts = first_keyed key_of first first_key names keys e in
-      ap (λ here. here || is_among name names) (same_test first first_key parts.0) ∙ ap (λ rest. (first_key == key) || rest) (is_among-keyed names keys parts.1)
+      ap (λ here. here || is_among name names) (same_test first first_key parts.0)
+      ∙ ap (λ rest. (first_key == key) || rest) (is_among-keyed names keys parts.1)
 
-  pub without-keyed : (names keys : List ℕ) → AreKeyed key_of names keys → AreKeyed key_of (without name names) (without key keys)
+  pub without-keyed : (names keys : List ℕ) → AreKeyed key_of names keys
+      → AreKeyed key_of (without name names) (without key keys)
   without-keyed [] [] e = refl
   without-keyed [] (first_key ∷ keys) e = cc
   without-keyed (first ∷ names) [] e = cc
   without-keyed (first ∷ names) (first_key ∷ keys) e =
       let parts = first_keyed key_of first first_key names keys e in
-      go (first == name) (first_key == key) (same_test first first_key parts.0) parts.0 (without-keyed names keys parts.1)
+      go (first == name) (first_key == key) (same_test first first_key parts.0) parts.0
+      (without-keyed names keys parts.1)
     where
-      go : (here there : Bool) → here ≡ there → key_of first ≡ Some first_key → AreKeyed key_of (without name names) (without key keys)
-          → AreKeyed key_of (cond (not here) (first ∷ without name names) (without name names)) (cond (not there) (first_key ∷ without key keys) (without key keys))
+      go : (here there : Bool) → here ≡ there → key_of first ≡ Some first_key
+          → AreKeyed key_of (without name names) (without key keys)
+          → AreKeyed key_of (cond (not here) (first ∷ without name names) (without name names))
+          (cond (not there) (first_key ∷ without key keys) (without key keys))
       go true true h f rest = rest
       go false false h f rest = cc
       go true false h f rest = cc
       go false true h f rest = cc
 
-  take-keyed : (count : ℕ) (names keys : List ℕ) → AreKeyed key_of names keys → AreKeyed key_of (take count names) (take count keys)
+  take-keyed : (count : ℕ) (names keys : List ℕ) → AreKeyed key_of names keys
+      → AreKeyed key_of (take count names) (take count keys)
   take-keyed zero names keys e = refl
   take-keyed (suc count) [] [] e = refl
   take-keyed (suc count) [] (first_key ∷ keys) e = cc
@@ -86,18 +96,22 @@ module _ (key_of : ℕ → Option ℕ) (one_to_one : IsOneToOne key_of) (name ke
 
   pub is_told-keyed : (names keys : Roster) → IsKeyed key_of names keys → is_told name names ≡ is_told key keys
   is_told-keyed names keys keyed =
-      is_among-keyed (take names.told names.names) (take names.told keys.names) (take-keyed names.told names.names keys.names keyed.keyed)
+      is_among-keyed (take names.told names.names) (take names.told keys.names)
+      (take-keyed names.told names.names keys.names keyed.keyed)
       ∙ ap (λ count. is_among key (take count keys.names)) keyed.told
 
-  pub leave-keyed : (names keys : Roster) → IsKeyed key_of names keys → IsKeyed key_of (leave name names) (leave key keys)
+  pub leave-keyed : (names keys : Roster) → IsKeyed key_of names keys
+      → IsKeyed key_of (leave name names) (leave key keys)
   leave-keyed names keys keyed = record {
     keyed = without-keyed names.names keys.names keyed.keyed;
     told = rw (is_told-keyed names keys keyed, keyed.told) refl;
   }
 
-  pub arrive-keyed : (names keys : Roster) → IsKeyed key_of names keys → IsKeyed key_of (arrive name names) (arrive key keys)
+  pub arrive-keyed : (names keys : Roster) → IsKeyed key_of names keys
+      → IsKeyed key_of (arrive name names) (arrive key keys)
   arrive-keyed names keys keyed = record {
-    keyed = map-append key_of names.names (name ∷ []) ∙ rw (keyed.keyed, has) (sym (map-append (λ key. Some key) keys.names (key ∷ [])));
+    keyed = map-append key_of names.names (name ∷ [])
+        ∙ rw (keyed.keyed, has) (sym (map-append (λ key. Some key) keys.names (key ∷ [])));
     told = keyed.told;
   }
 
@@ -105,29 +119,50 @@ same_length : (key_of : ℕ → Option ℕ) (names keys : List ℕ) → AreKeyed
 same_length key_of [] [] e = refl
 same_length key_of [] (key ∷ keys) e = cc
 same_length key_of (name ∷ names) [] e = cc
-same_length key_of (name ∷ names) (key ∷ keys) e = ap suc (same_length key_of names keys (first_keyed key_of name key names keys e).1)
+same_length key_of (name ∷ names) (key ∷ keys) e =
+    ap suc (same_length key_of names keys (first_keyed key_of name key names keys e).1)
 
-pub tell_one-keyed : (key_of : ℕ → Option ℕ) (names keys : Roster) → IsKeyed key_of names keys → IsKeyed key_of (tell_one names) (tell_one keys)
-tell_one-keyed key_of names keys keyed = record { keyed = keyed.keyed; told = let same = same_length key_of names.names keys.names keyed.keyed in let told = keyed.told in omega arith }
+pub tell_one-keyed : (key_of : ℕ → Option ℕ) (names keys : Roster) → IsKeyed key_of names keys
+    → IsKeyed key_of (tell_one names) (tell_one keys)
+tell_one-keyed key_of names keys keyed =
+    record {
+      keyed = keyed.keyed;
+      told = let same = same_length key_of names.names keys.names keyed.keyed in
+          let told = keyed.told in omega arith;
+    }
 
-pub tell_all-keyed : (key_of : ℕ → Option ℕ) (names keys : Roster) → IsKeyed key_of names keys → IsKeyed key_of (tell_all names) (tell_all keys)
-tell_all-keyed key_of names keys keyed = record { keyed = keyed.keyed; told = same_length key_of names.names keys.names keyed.keyed }
+pub tell_all-keyed : (key_of : ℕ → Option ℕ) (names keys : Roster) → IsKeyed key_of names keys
+    → IsKeyed key_of (tell_all names) (tell_all keys)
+tell_all-keyed key_of names keys keyed =
+    record { keyed = keyed.keyed; told = same_length key_of names.names keys.names keyed.keyed }
 
-pub hand_on-keyed : (key_of : ℕ → Option ℕ) (one_to_one : IsOneToOne key_of) (name key : ℕ) (has : key_of name ≡ Some key) (names keys : Roster) → IsKeyed key_of names keys → IsKeyed key_of (hand_on name names) (hand_on key keys)
-hand_on-keyed key_of one_to_one name key has names keys keyed = go (is_told name names) (is_told key keys) (is_told-keyed key_of one_to_one name key has names keys keyed) (leave-keyed key_of one_to_one name key has names keys keyed)
+pub hand_on-keyed : (key_of : ℕ → Option ℕ) (one_to_one : IsOneToOne key_of) (name key : ℕ)
+    (has : key_of name ≡ Some key) (names keys : Roster) → IsKeyed key_of names keys
+    → IsKeyed key_of (hand_on name names) (hand_on key keys)
+hand_on-keyed key_of one_to_one name key has names keys keyed =
+    go (is_told name names) (is_told key keys) (is_told-keyed key_of one_to_one name key has names keys keyed)
+    (leave-keyed key_of one_to_one name key has names keys keyed)
   where
-    go : (a b : Bool) → a ≡ b → IsKeyed key_of (leave name names) (leave key keys) → IsKeyed key_of (cond a (tell_one (leave name names)) (leave name names)) (cond b (tell_one (leave key keys)) (leave key keys))
+    go : (a b : Bool) → a ≡ b → IsKeyed key_of (leave name names) (leave key keys)
+        → IsKeyed key_of (cond a (tell_one (leave name names)) (leave name names))
+        (cond b (tell_one (leave key keys)) (leave key keys))
     go true true e left = tell_one-keyed key_of (leave name names) (leave key keys) left
     go false false e left = left
     go true false e left = cc
     go false true e left = cc
 
-pub wait-keyed : (key_of : ℕ → Option ℕ) (one_to_one : IsOneToOne key_of) (name key : ℕ) (has : key_of name ≡ Some key) (names keys : Roster) → IsKeyed key_of names keys → IsKeyed key_of (wait name names) (wait key keys)
+pub wait-keyed : (key_of : ℕ → Option ℕ) (one_to_one : IsOneToOne key_of) (name key : ℕ) (has : key_of name ≡ Some key)
+    (names keys : Roster) → IsKeyed key_of names keys → IsKeyed key_of (wait name names) (wait key keys)
 wait-keyed key_of one_to_one name key has names keys keyed =
-    go (is_told name names) (is_told key keys) (is_told-keyed key_of one_to_one name key has names keys keyed) (is_among name names.names) (is_among key keys.names) (is_among-keyed key_of one_to_one name key has names.names keys.names keyed.keyed)
+    go (is_told name names) (is_told key keys) (is_told-keyed key_of one_to_one name key has names keys keyed)
+    (is_among name names.names) (is_among key keys.names)
+    (is_among-keyed key_of one_to_one name key has names.names keys.names keyed.keyed)
   where
-    go : (a b : Bool) → a ≡ b → (c d : Bool) → c ≡ d → IsKeyed key_of (cond a (arrive name (leave name names)) (cond c names (arrive name names))) (cond b (arrive key (leave key keys)) (cond d keys (arrive key keys)))
-    go true true e c d f = arrive-keyed key_of one_to_one name key has (leave name names) (leave key keys) (leave-keyed key_of one_to_one name key has names keys keyed)
+    go : (a b : Bool) → a ≡ b → (c d : Bool) → c ≡ d
+        → IsKeyed key_of (cond a (arrive name (leave name names)) (cond c names (arrive name names)))
+        (cond b (arrive key (leave key keys)) (cond d keys (arrive key keys)))
+    go true true e c d f = arrive-keyed key_of one_to_one name key has (leave name names) (leave key keys)
+        (leave-keyed key_of one_to_one name key has names keys keyed)
     go false false e true true f = keyed
     go false false e false false f = arrive-keyed key_of one_to_one name key has names keys keyed
     go false false e true false f = cc
@@ -138,13 +173,16 @@ wait-keyed key_of one_to_one name key has names keys keyed =
 -- ---- keys that change
 
 -- the key of a name that isn't among them is nothing to them
-pub AreKeyed-other : (key_of key_of' : ℕ → Option ℕ) (name : ℕ) (names keys : List ℕ) → ((other : ℕ) → (name == other) ≡ false → key_of' other ≡ key_of other) → is_among name names ≡ false → AreKeyed key_of names keys → AreKeyed key_of' names keys
+pub AreKeyed-other : (key_of key_of' : ℕ → Option ℕ) (name : ℕ) (names keys : List ℕ)
+    → ((other : ℕ) → (name == other) ≡ false → key_of' other ≡ key_of other) → is_among name names ≡ false
+    → AreKeyed key_of names keys → AreKeyed key_of' names keys
 AreKeyed-other key_of key_of' name [] keys same absent e = e
 AreKeyed-other key_of key_of' name (first ∷ names) [] same absent e = cc
 AreKeyed-other key_of key_of' name (first ∷ names) (key ∷ keys) same absent e =
     let parts = first_keyed key_of first key names keys e in
     let here : key_of' first ≡ Some key = same first (differs (name == first) refl) ∙ parts.0 in
-    let rest = AreKeyed-other key_of key_of' name names keys same (right_false (first == name) (is_among name names) absent) parts.1 in
+    let rest = AreKeyed-other key_of key_of' name names keys same
+    (right_false (first == name) (is_among name names) absent) parts.1 in
     cc
   where
     differs : (is : Bool) → (name == first) ≡ is → (name == first) ≡ false
@@ -154,11 +192,18 @@ AreKeyed-other key_of key_of' name (first ∷ names) (key ∷ keys) same absent 
         let apart : (first == name) ≡ false = left_false (first == name) (is_among name names) absent in
         cc
 
-pub IsKeyed-other : (key_of key_of' : ℕ → Option ℕ) (name : ℕ) (names keys : Roster) → ((other : ℕ) → (name == other) ≡ false → key_of' other ≡ key_of other) → is_among name names.names ≡ false → IsKeyed key_of names keys → IsKeyed key_of' names keys
-IsKeyed-other key_of key_of' name names keys same absent keyed = record { keyed = AreKeyed-other key_of key_of' name names.names keys.names same absent keyed.keyed; told = keyed.told }
+pub IsKeyed-other : (key_of key_of' : ℕ → Option ℕ) (name : ℕ) (names keys : Roster)
+    → ((other : ℕ) → (name == other) ≡ false → key_of' other ≡ key_of other) → is_among name names.names ≡ false
+    → IsKeyed key_of names keys → IsKeyed key_of' names keys
+IsKeyed-other key_of key_of' name names keys same absent keyed =
+    record {
+      keyed = AreKeyed-other key_of key_of' name names.names keys.names same absent keyed.keyed;
+      told = keyed.told;
+    }
 
 -- the names are decided by the keys
-pub AreKeyed-unique : (key_of : ℕ → Option ℕ) → IsOneToOne key_of → (names others keys : List ℕ) → AreKeyed key_of names keys → AreKeyed key_of others keys → names ≡ others
+pub AreKeyed-unique : (key_of : ℕ → Option ℕ) → IsOneToOne key_of → (names others keys : List ℕ)
+    → AreKeyed key_of names keys → AreKeyed key_of others keys → names ≡ others
 AreKeyed-unique key_of one_to_one [] [] [] e f = refl
 AreKeyed-unique key_of one_to_one [] (other ∷ others) [] e f = cc
 AreKeyed-unique key_of one_to_one (name ∷ names) others [] e f = cc
@@ -174,30 +219,37 @@ AreKeyed-unique key_of one_to_one (name ∷ names) (other ∷ others) (key ∷ k
 -- ---- no two names have one key
 
 -- the key of a name among them is among the keys
-key_among : (key_of : ℕ → Option ℕ) (name key : ℕ) (names keys : List ℕ) → AreKeyed key_of names keys → key_of name ≡ Some key → is_among name names ≡ true → is_among key keys ≡ true
+key_among : (key_of : ℕ → Option ℕ) (name key : ℕ) (names keys : List ℕ) → AreKeyed key_of names keys
+    → key_of name ≡ Some key → is_among name names ≡ true → is_among key keys ≡ true
 key_among key_of name key [] keys e has among = cc
 key_among key_of name key (first ∷ names) [] e has among = cc
 key_among key_of name key (first ∷ names) (first_key ∷ keys) e has among =
     let parts = first_keyed key_of first first_key names keys e in
     go (first == name) refl parts.0 (λ rest. key_among key_of name key names keys parts.1 has rest)
   where
-    go : (same : Bool) → (first == name) ≡ same → key_of first ≡ Some first_key → (is_among name names ≡ true → is_among key keys ≡ true) → ((first_key == key) || is_among key keys) ≡ true
+    go : (same : Bool) → (first == name) ≡ same → key_of first ≡ Some first_key
+        → (is_among name names ≡ true → is_among key keys ≡ true) → ((first_key == key) || is_among key keys) ≡ true
     go true h f rest =
         let equal : Some first_key ≡ Some key = sym f ∙ ap key_of (eqb-true first name h) ∙ has in
         let same : first_key ≡ key = cc in
         ap (λ here. here || is_among key keys) (eq-eqb first_key key same)
-    go false h f rest = or_right (first_key == key) (is_among key keys) (rest (ap (λ here. here || is_among name names) (sym h) ∙ among))
+    go false h f rest = or_right (first_key == key) (is_among key keys)
+        (rest (ap (λ here. here || is_among name names) (sym h) ∙ among))
 
 -- among names whose keys stand once each
-pub same_key : (key_of : ℕ → Option ℕ) (name other key : ℕ) (names keys : List ℕ) → AreKeyed key_of names keys → AreDifferent keys → is_among name names ≡ true → is_among other names ≡ true → key_of name ≡ Some key → key_of other ≡ Some key → name ≡ other
+pub same_key : (key_of : ℕ → Option ℕ) (name other key : ℕ) (names keys : List ℕ) → AreKeyed key_of names keys
+    → AreDifferent keys → is_among name names ≡ true → is_among other names ≡ true → key_of name ≡ Some key
+    → key_of other ≡ Some key → name ≡ other
 same_key key_of name other key [] keys e once among too has had = cc
 same_key key_of name other key (first ∷ names) [] e once among too has had = cc
 same_key key_of name other key (first ∷ names) (first_key ∷ keys) e once among too has had =
     let parts = first_keyed key_of first first_key names keys e in
-    go (first == name) refl (first == other) refl parts.0 parts.1 (λ a b. same_key key_of name other key names keys parts.1 once.1 a b has had)
+    go (first == name) refl (first == other) refl parts.0 parts.1
+    (λ a b. same_key key_of name other key names keys parts.1 once.1 a b has had)
   where
     -- one is the first and the other isn't: its key would stand twice
-    twice : (one another : ℕ) → (first == one) ≡ true → key_of one ≡ Some key → key_of another ≡ Some key → key_of first ≡ Some first_key → AreKeyed key_of names keys → is_among another names ≡ true → ⊥
+    twice : (one another : ℕ) → (first == one) ≡ true → key_of one ≡ Some key → key_of another ≡ Some key
+        → key_of first ≡ Some first_key → AreKeyed key_of names keys → is_among another names ≡ true → ⊥
     twice one another h a b f rest among =
         let equal : Some first_key ≡ Some key = sym f ∙ ap key_of (eqb-true first one h) ∙ a in
         let same : key ≡ first_key = cc in
@@ -208,41 +260,55 @@ same_key key_of name other key (first ∷ names) (first_key ∷ keys) e once amo
     later : (one : ℕ) → (first == one) ≡ false → is_among one (first ∷ names) ≡ true → is_among one names ≡ true
     later one h among = ap (λ here. here || is_among one names) (sym h) ∙ among
 
-    go : (a : Bool) → (first == name) ≡ a → (b : Bool) → (first == other) ≡ b → key_of first ≡ Some first_key → AreKeyed key_of names keys → (is_among name names ≡ true → is_among other names ≡ true → name ≡ other) → name ≡ other
+    go : (a : Bool) → (first == name) ≡ a → (b : Bool) → (first == other) ≡ b → key_of first ≡ Some first_key
+        → AreKeyed key_of names keys → (is_among name names ≡ true → is_among other names ≡ true → name ≡ other)
+        → name ≡ other
     go true h true i f rest more = sym (eqb-true first name h) ∙ eqb-true first other i
     go true h false i f rest more = absurd (twice name other h has had f rest (later other i too))
     go false h true i f rest more = absurd (twice other name i had has f rest (later name h among))
     go false h false i f rest more = more (later name h among) (later other i too)
 
 -- Where each name that has a key is among them, and each key stands once, no two names have one key.
-pub IsOneToOne-AreKeyed : (key_of : ℕ → Option ℕ) (names keys : List ℕ) → AreKeyed key_of names keys → AreDifferent keys → ((name key : ℕ) → key_of name ≡ Some key → is_among name names ≡ true) → IsOneToOne key_of
-IsOneToOne-AreKeyed key_of names keys keyed once inside name other key has had = same_key key_of name other key names keys keyed once (inside name key has) (inside other key had) has had
+pub IsOneToOne-AreKeyed : (key_of : ℕ → Option ℕ) (names keys : List ℕ) → AreKeyed key_of names keys → AreDifferent keys
+    → ((name key : ℕ) → key_of name ≡ Some key → is_among name names ≡ true) → IsOneToOne key_of
+IsOneToOne-AreKeyed key_of names keys keyed once inside name other key has had =
+    same_key key_of name other key names keys keyed once (inside name key has) (inside other key had) has had
 
 -- ---- what the keys tell of the names
 
 -- a name without a key isn't among them
-pub is_among-no_key : (key_of : ℕ → Option ℕ) (name : ℕ) (names keys : List ℕ) → AreKeyed key_of names keys → key_of name ≡ None → is_among name names ≡ false
+pub is_among-no_key : (key_of : ℕ → Option ℕ) (name : ℕ) (names keys : List ℕ) → AreKeyed key_of names keys
+    → key_of name ≡ None → is_among name names ≡ false
 is_among-no_key key_of name [] keys e none = refl
 is_among-no_key key_of name (first ∷ names) [] e none = cc
 is_among-no_key key_of name (first ∷ names) (key ∷ keys) e none =
     let parts = first_keyed key_of first key names keys e in
     go (first == name) refl parts.0 (is_among-no_key key_of name names keys parts.1 none)
   where
-    go : (same : Bool) → (first == name) ≡ same → key_of first ≡ Some key → is_among name names ≡ false → ((first == name) || is_among name names) ≡ false
+    go : (same : Bool) → (first == name) ≡ same → key_of first ≡ Some key → is_among name names ≡ false
+        → ((first == name) || is_among name names) ≡ false
     go true h f rest = let both : Some key ≡ None = sym f ∙ ap key_of (eqb-true first name h) ∙ none in cc
     go false h f rest = rw h rest
 
-pub notice_in-keyed : (key_of : ℕ → Option ℕ) (one_to_one : IsOneToOne key_of) (name key : ℕ) (has : key_of name ≡ Some key) (names keys : Roster) → IsKeyed key_of names keys → notice_in name names ≡ notice_in key keys
+pub notice_in-keyed : (key_of : ℕ → Option ℕ) (one_to_one : IsOneToOne key_of) (name key : ℕ)
+    (has : key_of name ≡ Some key) (names keys : Roster) → IsKeyed key_of names keys
+    → notice_in name names ≡ notice_in key keys
 notice_in-keyed key_of one_to_one name key has names keys keyed =
-    ap (λ told. cond told Told (cond (is_among name names.names) Untold Absent)) (is_told-keyed key_of one_to_one name key has names keys keyed)
-    ∙ ap (λ among. cond (is_told key keys) Told (cond among Untold Absent)) (is_among-keyed key_of one_to_one name key has names.names keys.names keyed.keyed)
+    ap (λ told. cond told Told (cond (is_among name names.names) Untold Absent))
+    (is_told-keyed key_of one_to_one name key has names keys keyed)
+    ∙ ap (λ among. cond (is_told key keys) Told (cond among Untold Absent))
+    (is_among-keyed key_of one_to_one name key has names.names keys.names keyed.keyed)
 
 -- the first told name is the one of the first told key
-pub first_told-keyed : (key_of : ℕ → Option ℕ) → IsOneToOne key_of → (name key : ℕ) (names keys : Roster) → IsKeyed key_of names keys → key_of name ≡ Some key → slice_get (told_names keys) 0 ≡ Some key → slice_get (told_names names) 0 ≡ Some name
+pub first_told-keyed : (key_of : ℕ → Option ℕ) → IsOneToOne key_of → (name key : ℕ) (names keys : Roster)
+    → IsKeyed key_of names keys → key_of name ≡ Some key → slice_get (told_names keys) 0 ≡ Some key
+    → slice_get (told_names names) 0 ≡ Some name
 first_told-keyed key_of one_to_one name key names keys keyed has first =
-    ap (λ count. slice_get (take count names.names) 0) keyed.told ∙ go keys.told names.names keys.names keyed.keyed first
+    ap (λ count. slice_get (take count names.names) 0) keyed.told
+    ∙ go keys.told names.names keys.names keyed.keyed first
   where
-    go : (count : ℕ) (ns ks : List ℕ) → AreKeyed key_of ns ks → slice_get (take count ks) 0 ≡ Some key → slice_get (take count ns) 0 ≡ Some name
+    go : (count : ℕ) (ns ks : List ℕ) → AreKeyed key_of ns ks → slice_get (take count ks) 0 ≡ Some key
+        → slice_get (take count ns) 0 ≡ Some name
     go zero ns ks e f = cc
     go (suc count) [] [] e f = cc
     go (suc count) [] (k ∷ ks) e f = cc

@@ -21,3 +21,6 @@ pub mod RunPolls
 pub mod RunStreams
 pub mod RunNew
 pub mod RunNotices
+pub mod FirstTold
+pub mod RunTold
+pub mod SettlesRun

@@ -191,17 +191,20 @@ module _ {T W : Type 0} where
   -- a receive that can't go on waits, and nothing else changes
   abbrev pub RecvWaits : Option ℕ → Channel T W → W → Option ℕ → Channel T W → Type 0
   RecvWaits ticket channel payload ticket' channel' =
-      (channel' ≡ record channel { receives = channel'.receives }) × Waits ticket channel.receives payload ticket' channel'.receives
+      (channel' ≡ record channel { receives = channel'.receives })
+      × Waits ticket channel.receives payload ticket' channel'.receives
 
   -- a stream, likewise
   abbrev pub NextWaits : Option ℕ → Channel T W → W → Option ℕ → Channel T W → Type 0
   NextWaits ticket channel payload ticket' channel' =
-      (channel' ≡ record channel { streams = channel'.streams }) × Waits ticket channel.streams payload ticket' channel'.streams
+      (channel' ≡ record channel { streams = channel'.streams })
+      × Waits ticket channel.streams payload ticket' channel'.streams
 
   -- a closed operation, likewise
   abbrev pub ClosedWaits : Option ℕ → Channel T W → W → Option ℕ → Channel T W → Type 0
   ClosedWaits ticket channel payload ticket' channel' =
-      (channel' ≡ record channel { closeds = channel'.closeds }) × Waits ticket channel.closeds payload ticket' channel'.closeds
+      (channel' ≡ record channel { closeds = channel'.closeds })
+      × Waits ticket channel.closeds payload ticket' channel'.closeds
 
   -- ### Where memory may be wanted
 
@@ -210,14 +213,17 @@ module _ {T W : Type 0} where
   SendWants None ticket channel = ⊥
   SendWants (Some message) ticket channel =
       GrowsWithMessages channel
-      ⊎ ((send_poll (Some message) channel.closed (is_channel_full channel) ≡ Pending) × (waits ticket channel.sends ≡ false))
+      ⊎ ((send_poll (Some message) channel.closed (is_channel_full channel) ≡ Pending)
+      × (waits ticket channel.sends ≡ false))
 
   -- a receive, a stream and a closed operation want it where they begin to wait
   abbrev pub RecvWants : Option ℕ → Channel T W → Type 0
-  RecvWants ticket channel = (recv_poll (oldest channel) channel.closed ≡ Pending) × (waits ticket channel.receives ≡ false)
+  RecvWants ticket channel = (recv_poll (oldest channel) channel.closed ≡ Pending)
+      × (waits ticket channel.receives ≡ false)
 
   abbrev pub NextWants : Option ℕ → Channel T W → Type 0
-  NextWants ticket channel = (next_poll (oldest channel) channel.closed ≡ Pending) × (waits ticket channel.streams ≡ false)
+  NextWants ticket channel = (next_poll (oldest channel) channel.closed ≡ Pending)
+      × (waits ticket channel.streams ≡ false)
 
   abbrev pub ClosedWants : Option ℕ → Channel T W → Type 0
   ClosedWants ticket channel = (closed_poll (channel.receivers == 0) ≡ Pending) × (waits ticket channel.closeds ≡ false)

@@ -1,5 +1,5 @@
 -- What a run shows of itself, by what it keeps: a channel whose waiting lists hold keys, and tickets by name.
-use Rattle.std.specs.Prelude.{◌≡◌, ℕ, ◌==◌, List, map, find, length, Option, Some, None, Bool, false, true, option_and_then, unwrap_or}
+use Rattle.std.specs.Prelude.{◌≡◌, ◌≢◌, ℕ, ◌==◌, List, MatchOption, map, find, length, Option, Some, None, Bool, false, true, option_and_then, unwrap_or}
 use Rattle.std.specs.Map.{lookup, keys_of}
 use Rattle.std.specs.BTreeMap.{is_at}
 use Rattle.std.specs.Ordering.{nat_cmp}
@@ -7,6 +7,8 @@ use Rattle.event_list.specs.Keys.{AreDifferent, is_among}
 use Rattle.event_list.specs.Waiting.{Waiting, keys, mark, told_count}
 use Rattle.channel_core.specs.declared.operations.Operation.{Operation as Started}
 use Rattle.channel_core.specs.declared.operations.Operation.TheVariants.{Send, Recv, Closed}
+use Rattle.channel_core.specs.declared.state.Group.{Group}
+use Rattle.channel_core.specs.declared.state.Group.TheVariants.{Sends, Receives, Streams, Closeds}
 use Rattle.channel_model.specs.declared.step.Notice.{Notice}
 use Rattle.channel_model.specs.declared.step.Notice.TheVariants.{Absent, Told, Untold}
 use Rattle.channel_core.specs.Channel.{Channel}
@@ -69,6 +71,13 @@ module _ {T : Type 0} where
   closed_ticket (Recv receiver ticket) = None
   closed_ticket (Closed sender ticket) = ticket
 
+  -- the ticket by which an operation waits in a group
+  abbrev pub ticket_in : Group → Started T → Option ℕ
+  ticket_in Sends = send_ticket
+  ticket_in Receives = recv_ticket
+  ticket_in Streams = λ operation. None
+  ticket_in Closeds = closed_ticket
+
 -- what stands under a name
 abbrev pub entry_at : {X : Type 0} → List (ℕ × X) → ℕ → Option X
 entry_at entries name = lookup (is_at (nat_cmp name)) entries
@@ -85,6 +94,11 @@ ticket_at ticket entries name = option_and_then ticket (entry_at entries name)
 -- the ticket of a receiver's stream
 abbrev pub stream_ticket : Option ℕ → Option ℕ
 stream_ticket ticket = ticket
+
+-- The name whose ticket has the key, or nothing where none has it.
+abbrev pub IsHolder : (ticket_of : ℕ → Option ℕ) → ℕ → Option ℕ → Type 0
+IsHolder ticket_of key found =
+    MatchOption found ((name : ℕ) → ticket_of name ≢ Some key) (λ name. ticket_of name ≡ Some key)
 
 -- the core behind an operation that was given up, by what stood under its name
 abbrev pub dropped : {T W : Type 0} → Channel T W → Option (Started T) → Channel T W
@@ -108,7 +122,8 @@ notice_at (Some key) list = notice_by_mark (mark list key)
 
 module _ {T : Type 0} where
   -- who waits, by name
-  abbrev pub rosters_shown : {W : Type 0} → Channel T W → (receivers : List (ℕ × Option ℕ)) (operations : List (ℕ × Started T)) → Rosters
+  abbrev pub rosters_shown : {W : Type 0} → Channel T W
+      → (receivers : List (ℕ × Option ℕ)) (operations : List (ℕ × Started T)) → Rosters
   rosters_shown core receivers operations = record {
     sends = roster_of (ticket_at send_ticket operations) (keys_of operations) core.sends;
     receives = roster_of (ticket_at recv_ticket operations) (keys_of operations) core.receives;
@@ -116,7 +131,9 @@ module _ {T : Type 0} where
     closeds = roster_of (ticket_at closed_ticket operations) (keys_of operations) core.closeds;
   }
 
-  abbrev pub shown : {W : Type 0} → Channel T W → (senders : List ℕ) (receivers : List (ℕ × Option ℕ)) (weak_senders weak_receivers : List ℕ) (operations : List (ℕ × Started T)) → RunView T
+  abbrev pub shown : {W : Type 0} → Channel T W
+      → (senders : List ℕ) (receivers : List (ℕ × Option ℕ)) (weak_senders weak_receivers : List ℕ)
+      (operations : List (ℕ × Started T)) → RunView T
   shown core senders receivers weak_senders weak_receivers operations = record {
     capacity = core.capacity;
     messages = core.messages;
@@ -130,7 +147,8 @@ module _ {T : Type 0} where
   }
 
   -- What a run keeps fits together: the core counts the handles that have names, and each who waits holds a ticket.
-  pub record IsWhole {W : Type 0} (core : Channel T W) (senders : List ℕ) (receivers : List (ℕ × Option ℕ)) (operations : List (ℕ × Started T)) : Type 0 where
+  pub record IsWhole {W : Type 0} (core : Channel T W) (senders : List ℕ) (receivers : List (ℕ × Option ℕ))
+      (operations : List (ℕ × Started T)) : Type 0 where
     pub count_senders : core.senders ≡ length senders
     pub count_receivers : core.receivers ≡ length receivers
     pub each_send : AreHeld (ticket_at send_ticket operations) (keys_of operations) core.sends

@@ -3,6 +3,8 @@
 use Rattle.std.specs.Prelude.{◌≡◌, ◌⊎◌, MatchOption, ℕ, List, [], ◌∷◌, ◌++◌, Option, Some, None, Ok, Bool, true, false, not, ◌&&◌, ◌||◌, length, drop, nat_le, nat_lt, is_some, is_none, slice_get, option_and_then, if◌then◌else◌}
 use Rattle.std.specs.List.{list_any}
 use Rattle.futures.specs.declared.task.Poll.TheVariants.{Ready, Pending}
+use Rattle.channel_core.specs.declared.state.Group.{Group}
+use Rattle.channel_core.specs.declared.state.Group.TheVariants.{Sends, Receives, Streams, Closeds}
 use Rattle.channel_model.specs.declared.step.Kind.{Kind}
 use Rattle.channel_model.specs.declared.step.Who.{Who}
 use Rattle.channel_model.specs.declared.step.Who.TheVariants.{Op, Receiver}
@@ -25,8 +27,9 @@ use Rattle.channel_model.specs.Capacity.{capacity_of}
 use Rattle.channel_model.specs.Closing.{has_none}
 use Rattle.channel_model.specs.Replies.{force_send_reply, is_pending, poll_next_reply, poll_reply, try_recv_reply, try_send_reply}
 use Rattle.channel_model.specs.Tables.{handle_limit}
-use Rattle.channel_model.specs.Rosters.{Rosters, hand_on, leave, nobody, notice_in, wait, waits_anywhere}
+use Rattle.channel_model.specs.Rosters.{Roster, Rosters, hand_on, leave, nobody, notice_in, wait, waits_anywhere}
 use Rattle.channel_model.specs.Notices.{after_accepting, after_closing, after_last_receiver, after_receiving}
+use Rattle.channel_model.specs.Polling.{IsQuiet, told_polls}
 use Rattle.channel_model.specs.Answers.{IsAnswer, message_in, past_after}
 use Rattle.channel_core.specs.StandsFor.{AreSameNames, AreSameOperations, RunView, StandsFor}
 
@@ -41,7 +44,8 @@ is_full_in run = full_at run.capacity (length run.messages)
 
 abbrev pub reply_in : {T : Type 0} → RunView T → Step T → Reply T
 reply_in run (TrySend sender message) = try_send_reply run.closed (is_full_in run) message
-reply_in run (ForceSend sender message) = force_send_reply run.closed (is_full_in run) (slice_get run.messages 0) message
+reply_in run (ForceSend sender message) =
+    force_send_reply run.closed (is_full_in run) (slice_get run.messages 0) message
 reply_in run (TryRecv receiver) = try_recv_reply (slice_get run.messages 0) run.closed
 reply_in run (Close side) = Flag (not run.closed)
 reply_in run (IsClosed side) = Flag run.closed
@@ -54,7 +58,8 @@ reply_in run (ReceiverCount side) = Count (length run.receivers)
 reply_in run (Capacity side) = Capacity run.capacity
 reply_in run (UpgradeSender of new) = Upgraded (not run.closed)
 reply_in run (UpgradeReceiver of new) = Upgraded (not run.closed)
-reply_in run (Poll op) = poll_reply (operation_in run.operations op) run.closed (has_none run.receivers) (is_full_in run) (slice_get run.messages 0)
+reply_in run (Poll op) = poll_reply (operation_in run.operations op) run.closed (has_none run.receivers)
+    (is_full_in run) (slice_get run.messages 0)
 reply_in run (PollNext receiver) = poll_next_reply (slice_get run.messages 0) run.closed
 reply_in run step = Done
 
@@ -160,11 +165,13 @@ brings_message_in run (Poll op) = is_some (message_at run op)
 brings_message_in run step = false
 
 abbrev pub polls_newcomer_in : {T : Type 0} → RunView T → Step T → Bool
-polls_newcomer_in run (Poll op) = not (waits_anywhere op run.rosters) && not (is_finished_send (operation_in run.operations op))
+polls_newcomer_in run (Poll op) = not (waits_anywhere op run.rosters)
+    && not (is_finished_send (operation_in run.operations op))
 polls_newcomer_in run (PollNext receiver) = not (is_among receiver run.rosters.streams.names)
 polls_newcomer_in run step = false
 
--- Where a step that isn't refused may want memory: it makes a name, puts a message into an open unbounded channel, or begins to wait.
+-- Where a step that isn't refused may want memory: it makes a name, puts a message into an open unbounded channel, or
+-- begins to wait.
 abbrev pub may_want_memory_in : {T : Type 0} → RunView T → Step T → Bool
 may_want_memory_in run step =
     is_none (refusal_in run step)
@@ -291,7 +298,8 @@ pub record IsMade {T : Type 0} (before : RunView T) (step : Step T) (reply : Rep
   pub shows : AreAlike after (after_step before step reply)
 
 -- The step was refused: the message comes back, and the run is as it was.
-pub record IsRefused {T : Type 0} (before : RunView T) (step : Step T) (refusal : Refusal) (reply : Reply T) (after : RunView T) : Type 0 where
+pub record IsRefused {T : Type 0} (before : RunView T) (step : Step T) (refusal : Refusal) (reply : Reply T)
+    (after : RunView T) : Type 0 where
   pub replied : reply ≡ Refused refusal (message_in step)
   pub unchanged : AreAlike after before
 
@@ -299,7 +307,8 @@ pub record IsRefused {T : Type 0} (before : RunView T) (step : Step T) (refusal 
 abbrev pub StepsTo : {T : Type 0} → RunView T → Step T → Reply T → RunView T → Type 0
 StepsTo before step reply after =
     MatchOption (refusal_in before step)
-    (IsMade before step reply after ⊎ ((may_want_memory_in before step ≡ true) × IsRefused before step OutOfMemory reply after))
+    (IsMade before step reply after ⊎ ((may_want_memory_in before step ≡ true)
+    × IsRefused before step OutOfMemory reply after))
     (λ refusal. IsRefused before step refusal reply after)
 
 -- What a run does at a poll, also where the refusal Borrowed guards the step: it makes it, or wants memory where it
@@ -307,10 +316,43 @@ StepsTo before step reply after =
 abbrev pub StepsAsAllowed : {T : Type 0} → RunView T → Step T → Reply T → RunView T → Type 0
 StepsAsAllowed before step reply after =
     IsMade before step reply after
-    ⊎ ((polls_newcomer_in before step ≡ true) × (is_pending (reply_in before step) ≡ true) × IsRefused before step OutOfMemory reply after)
+    ⊎ ((polls_newcomer_in before step ≡ true) × (is_pending (reply_in before step) ≡ true)
+    × IsRefused before step OutOfMemory reply after)
 
--- What a run promises of a step, behind a past that stands for it: the reply is an answer, and the past after it stands for the run after it.
-pub record Answers {T : Type 0} (kind : Kind) (past : Past T) (step : Step T) (reply : Reply T) (after : RunView T) : Type 0 where
+-- the poll of somebody who may wait
+abbrev pub poll_of : {T : Type 0} → Who → Step T
+poll_of (Op op) = Poll op
+poll_of (Receiver receiver) = PollNext receiver
+
+-- What a run does when it polls somebody who was told. No refusal guards it.
+abbrev pub PollsTo : {T : Type 0} → RunView T → Who → Reply T → RunView T → Type 0
+PollsTo before (Op op) reply after = StepsTo before (Poll op) reply after
+PollsTo before (Receiver receiver) reply after = StepsAsAllowed before (PollNext receiver) reply after
+
+-- a poll that was answered ready
+abbrev pub is_ready : {T : Type 0} → Reply T → Bool
+is_ready (SendPolled (Ready result)) = true
+is_ready (RecvPolled (Ready result)) = true
+is_ready (ClosedPolled (Ready done)) = true
+is_ready (NextPolled (Ready item)) = true
+is_ready reply = false
+
+-- the roster of a group
+abbrev pub roster_in : Group → Rosters → Roster
+roster_in Sends all = all.sends
+roster_in Receives all = all.receives
+roster_in Streams all = all.streams
+roster_in Closeds all = all.closeds
+
+-- Who is polled next, or nobody where nobody is told.
+abbrev pub IsNext : {T : Type 0} → RunView T → Option Who → Type 0
+IsNext {T} run next =
+    MatchOption next (IsQuiet run.rosters) (λ who. slice_get (told_polls {T = T} run.rosters) 0 ≡ Some (poll_of who))
+
+-- What a run promises of a step, behind a past that stands for it: the reply is an answer, and the past after it stands
+-- for the run after it.
+pub record Answers {T : Type 0} (kind : Kind) (past : Past T) (step : Step T) (reply : Reply T)
+    (after : RunView T) : Type 0 where
   pub answer : IsAnswer kind past step reply
   pub stands : StandsFor kind (past_after past step reply) after
 

@@ -37,7 +37,9 @@ module _ {W : Type 0} where
 
   -- Who can't go on waits. An entry that is in the list waits again; else a new one goes last, under a
   -- key that isn't in the list. Either way it is untold behind that, and holds the payload.
-  pub record Waits (ticket : Option ℕ) (list : Waiting W) (payload : W) (ticket' : Option ℕ) (list' : Waiting W) : Type 0 where
+  pub record Waits (ticket : Option ℕ) (list : Waiting W) (payload : W) (ticket' : Option ℕ)
+      (list' : Waiting W) : Type 0 where
     pub again : waits ticket list ≡ true → (ticket' ≡ ticket) × (list' ≡ waiting_again ticket list payload)
-    pub begins : waits ticket list ≡ false → IsSomeAnd ticket' (λ key. (is_among key (keys list) ≡ false) × (list' ≡ joined list key payload))
+    pub begins : waits ticket list ≡ false → IsSomeAnd ticket'
+        (λ key. (is_among key (keys list) ≡ false) × (list' ≡ joined list key payload))
     pub holds : IsSomeAnd ticket' (λ key. IsWaiting list' key payload)

@@ -8,9 +8,11 @@ mod names;
 mod operations;
 mod queue;
 mod run;
+mod settle;
 mod state;
 #[cfg(test)]
 mod tests;
+mod tickets;
 mod waiting;
 
 pub use channel_model::{
@@ -20,4 +22,5 @@ pub use channel_model::{
 pub use event_list::{Bell, Quiet, Ticket};
 pub use queue::Queue;
 pub use run::{End, Run, RunError, run_all};
+pub use settle::Settled;
 pub use state::{Core, Group, Upgrade};

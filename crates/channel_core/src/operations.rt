@@ -3,8 +3,10 @@ ghost use Rattle.std.specs.Prelude.{◌≡◌};
 ghost use Rattle.std.specs.List.{list_any};
 ghost use Rattle.std.specs.BTreeMap.{values};
 ghost use Rattle.channel_model.specs.Operations.{borrows_receiver, borrows_sender, unsent_message};
-ghost use Rattle.channel_core.specs.RunShown.{operation_shown};
+ghost use Rattle.channel_core.specs.RunShown.{has_key, operation_shown, ticket_in};
 
+use crate::state::Group;
+use crate::tickets::has_key;
 use event_list::Ticket;
 use std::collections::BTreeMap;
 
@@ -62,6 +64,17 @@ impl<T> Operation<T> {
             Operation::Send { .. } => false,
             Operation::Recv { receiver, .. } => *receiver == name,
             Operation::Closed { .. } => false,
+        }
+    }
+
+    /// Whether it waits in the group, and by a ticket of this key.
+    pub(crate) fn waits_with(&self, group: Group, key: usize) -> bool
+        ensures { result ≡ has_key key (ticket_in group self.now) }
+    {
+        match self {
+            Operation::Send { ticket, .. } => group == Group::Sends && has_key(ticket, key),
+            Operation::Recv { ticket, .. } => group == Group::Receives && has_key(ticket, key),
+            Operation::Closed { ticket, .. } => group == Group::Closeds && has_key(ticket, key),
         }
     }
 }

@@ -36,12 +36,12 @@ use Rattle.channel_model.proofs.WhoWaits.{or_right, AreLive-IsLegal}
 
 -- ---- the numbers
 
-waiting-accepting : {T : Type 0} (accepted : Option T) (all : Rosters)
+pub waiting-accepting : {T : Type 0} (accepted : Option T) (all : Rosters)
     → waiting_in (after_accepting accepted all) ≡ waiting_in all
 waiting-accepting (Some message) all = refl
 waiting-accepting None all = refl
 
-waiting-receiving : {T : Type 0} (received : Option T) (all : Rosters)
+pub waiting-receiving : {T : Type 0} (received : Option T) (all : Rosters)
     → waiting_in (after_receiving received all) ≡ waiting_in all
 waiting-receiving (Some message) all = refl
 waiting-receiving None all = refl
@@ -88,7 +88,7 @@ pub record LeavesTold (before after : Roster) : Type 0 where
   pub fewer : length before.names ≡ suc (length after.names)
   pub some : 0 < before.told
 
-leave-told : (name : ℕ) (roster : Roster) → IsSound roster → is_told name roster ≡ true
+pub leave-told : (name : ℕ) (roster : Roster) → IsSound roster → is_told name roster ≡ true
     → LeavesTold roster (leave name roster)
 leave-told name roster sound told = go (left name roster sound)
   where
@@ -302,7 +302,7 @@ measure-falls {T} kind past step legal (a_closed op e told) =
 
 -- ---- polls of told ones are allowed
 
-known_if : {T : Type 0} (operation : Option (Operation T))
+pub known_if : {T : Type 0} (operation : Option (Operation T))
     → (is_unsent operation ≡ true) ⊎ ((is_receive operation ≡ true) ⊎ (is_awaiting operation ≡ true))
     → is_some operation ≡ true
 known_if (Some operation) which = refl

@@ -6,6 +6,7 @@ use Rattle.channel_core.proofs.names.Names.add.Goals.{in-Ok, in-Err}
 
 pub invariant_of-self : goal.invariant_of-self
 invariant_of-self c = elim c.match-push.branch [
-  | in-Ok w ↦ rw w.in-Ok.ensures.items (different-push c.self.inside.names.items c.args.name (ap (λ names. is_among c.args.name names) c.self.view_is ∙ c.requires) c.self.invariant)
+  | in-Ok w ↦ rw w.in-Ok.ensures.items (different-push c.self.inside.names.items c.args.name
+      (ap (λ names. is_among c.args.name names) c.self.view_is ∙ c.requires) c.self.invariant)
   | in-Err w ↦ search rules
 ]

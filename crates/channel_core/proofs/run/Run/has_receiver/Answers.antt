@@ -3,4 +3,5 @@ use Rattle.channel_core.proofs.Entries.{is_among-entry_at}
 use Rattle.channel_core.proofs.run.Run.has_receiver.Goals as goal
 
 pub returns : goal.returns
-returns g c = rw (← c.self.view_is) (c.contains_key.ensures ∙ is_among-entry_at c.self.inside.receivers.entries c.args.name)
+returns g c = rw (← c.self.view_is) (c.contains_key.ensures
+    ∙ is_among-entry_at c.self.inside.receivers.entries c.args.name)
