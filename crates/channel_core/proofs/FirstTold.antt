@@ -15,17 +15,10 @@ use Rattle.channel_model.specs.Rosters.{Roster, told_names}
 use Rattle.channel_core.specs.RunShown.{AreHeld, IsHolder, IsWhole, closed_ticket, entry_at, has_key, recv_ticket, roster_of, rosters_shown, send_ticket, stream_ticket, ticket_at, ticket_in}
 use Rattle.channel_core.specs.RunSteps.{roster_in}
 use Rattle.channel_core.proofs.Entries.{is_eq-nat_cmp, is_among-entry_at}
-use Rattle.channel_core.proofs.Holding.{holds-refl, key_roster, keyed}
+use Rattle.channel_core.proofs.Holding.{has_key-is, holds-refl, is-has_key, key_roster, keyed}
 use Rattle.channel_core.proofs.KeyedRosters.{AreKeyed, IsKeyed, first_told-keyed}
 
 -- ---- whoever holds the key is found
-
-has_key-is : (key : ℕ) (ticket : Option ℕ) → has_key key ticket ≡ true → ticket ≡ Some key
-has_key-is key None e = cc
-has_key-is key (Some other) e = ap (λ k. Some k) (eqb-true other key e)
-
-is-has_key : (key : ℕ) (ticket : Option ℕ) → ticket ≡ Some key → has_key key ticket ≡ true
-is-has_key key ticket e = ap (λ t. has_key key t) e ∙ eq-eqb key key refl
 
 module _ {X : Type 0} (ticket : X → Option ℕ) (key : ℕ) where
   abbrev pub holds : ℕ × X → Bool

@@ -201,11 +201,11 @@ find_it test name (first ∷ names) is one among =
     go false e true f rest = let equal : test first ≡ true = ap test (eqb-true first name f) ∙ is in cc
     go false e false f rest = rest (ap (λ here. here || is_among name names) (sym f) ∙ among)
 
-has_key-is : (key : ℕ) (ticket : Option ℕ) → has_key key ticket ≡ true → ticket ≡ Some key
+pub has_key-is : (key : ℕ) (ticket : Option ℕ) → has_key key ticket ≡ true → ticket ≡ Some key
 has_key-is key None e = cc
 has_key-is key (Some other) e = ap (λ k. Some k) (eqb-true other key e)
 
-is-has_key : (key : ℕ) (ticket : Option ℕ) → ticket ≡ Some key → has_key key ticket ≡ true
+pub is-has_key : (key : ℕ) (ticket : Option ℕ) → ticket ≡ Some key → has_key key ticket ≡ true
 is-has_key key ticket e = ap (λ t. has_key key t) e ∙ eq-eqb key key refl
 
 -- what each change has to keep of the tickets: one name a key, and every holder listed

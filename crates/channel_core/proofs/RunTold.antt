@@ -33,7 +33,7 @@ use Rattle.channel_model.specs.Rosters.{AreSound, IsSound, Roster, Rosters, is_t
 use Rattle.channel_core.specs.StandsFor.{RunView}
 use Rattle.channel_core.specs.RunShown.{AreHeld, IsWhole, closed_ticket, entry_at, operation_shown, recv_ticket, roster_of, rosters_shown, send_ticket, shown, stream_ticket, ticket_at}
 use Rattle.channel_core.specs.RunSteps.{IsMade, IsRefused, PollsTo, StepsAsAllowed, StepsTo, accepted_in, is_full_in, is_ready, may_want_memory_in, poll_of, refusal_in, reply_in, rosters_after}
-use Rattle.channel_model.proofs.AnyOrder.{PollsTold, a_receive, a_stream, a_send, a_closed, polls_told, first-Contains, leave-told, waiting-accepting, waiting-receiving}
+use Rattle.channel_model.proofs.AnyOrder.{PollsTold, a_closed, a_receive, a_send, a_stream, first-Contains, leave-told, polls_told, told_among, waiting-accepting, waiting-receiving}
 use Rattle.channel_core.proofs.Entries.{operation_in-entry_at}
 use Rattle.channel_core.proofs.Holding.{holds-refl, key_roster, keyed}
 use Rattle.channel_core.proofs.KeyedRosters.{AreKeyed, IsKeyed, is_among-keyed, is_among-no_key}
@@ -316,13 +316,6 @@ module _ {T : Type 0} (run : RunView T) (sound : AreSound run.rosters) where
       omega arith
   polled-stream receiver Pending told = let on = wait-told receiver run.rosters.streams sound.streams told in
       let names = on.names in omega arith
-
-pub told_among : (name : ℕ) (roster : Roster) → is_told name roster ≡ true → is_among name roster.names ≡ true
-told_among name roster told = go (is_among name roster.names) refl
-  where
-    go : (among : Bool) → is_among name roster.names ≡ among → is_among name roster.names ≡ true
-    go true e = e
-    go false e = let absent : is_told name roster ≡ false = is_among-take roster.told name roster.names e in cc
 
 -- No more wait behind the poll than before, and one fewer where it was ready.
 abbrev pub Lowers : {T : Type 0} → RunView T → Reply T → RunView T → Type 0

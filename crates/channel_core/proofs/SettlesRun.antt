@@ -30,11 +30,10 @@ use Rattle.channel_model.specs.Rosters.{Rosters, waits_anywhere}
 use Rattle.channel_core.specs.Runs.{SettlesTo}
 use Rattle.channel_core.specs.StandsFor.{RunView, StandsFor}
 use Rattle.channel_core.specs.RunSteps.{IsMade, IsRefused, PollsTo, StepsAsAllowed, StepsTo, after_step, is_ready, may_want_memory_in, poll_of, refusal_in}
-use Rattle.channel_model.proofs.AnyOrder.{PollsTold, a_receive, a_stream, a_send, a_closed, polls_told, known_if, first-Contains, told-allowed, EndsWell-IsFreePolling, IsFreePolling-IsSettling}
+use Rattle.channel_model.proofs.AnyOrder.{EndsWell-IsFreePolling, IsFreePolling-IsSettling, PollsTold, a_closed, a_receive, a_send, a_stream, first-Contains, known_if, polls_told, told-allowed, told_among}
 use Rattle.channel_model.proofs.CoveredSteps.{IsCovered-IsLegal}
 use Rattle.channel_core.proofs.RunAnswers.{may_want_memory_in-StandsFor, refusal_in-StandsFor, reply_in-StandsFor}
 use Rattle.channel_core.proofs.RunSettles.{PollsOn, polls_on, Settles-IsQuiet}
-use Rattle.channel_core.proofs.RunTold.{told_among}
 use Rattle.channel_core.proofs.WholeSteps.{StandsFor-AreAlike}
 use Rattle.channel_model.proofs.WhoWaits.{AreLive-IsLegal}
 

@@ -39,6 +39,7 @@ impl<T: Drop> Run<T> {
             let reply = self.poll_told(who);
             keep_ready(&mut finished, who, reply);
         }
+        // never reached: so many polls are more than the bound
         Ok(Settled {
             polls: u128::MAX,
             finished,

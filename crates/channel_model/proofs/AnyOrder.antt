@@ -226,7 +226,7 @@ poll-falls kind past op (Some (sending sender message)) o covered (inr (inr told
 poll-falls kind past op (Some (receiving receiver)) o covered (inr (inr told)) = let no = told.1 in cc
 poll-falls kind past op None o covered (inr (inr told)) = let no = told.1 in cc
 
-told_among : (name : ℕ) (roster : Roster) → is_told name roster ≡ true → is_among name roster.names ≡ true
+pub told_among : (name : ℕ) (roster : Roster) → is_told name roster ≡ true → is_among name roster.names ≡ true
 told_among name roster told = go (is_among name roster.names) refl
   where
     go : (among : Bool) → is_among name roster.names ≡ among → is_among name roster.names ≡ true
