@@ -1,1 +1,3 @@
 mod Refusals
+mod Kept
+mod Marks

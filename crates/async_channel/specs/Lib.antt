@@ -1,2 +1,5 @@
 pub mod Stamps
 pub mod Operations
+pub mod Histories
+pub mod CallSteps
+pub mod Shares

@@ -27,6 +27,7 @@ mod blocking;
 mod handles;
 mod mark;
 mod ops;
+pub mod record;
 mod shared;
 mod stamps;
 mod stream;
@@ -35,9 +36,9 @@ mod tests;
 mod weak;
 
 pub use channel_core::{
-    Bell, CloneError, Core, Group, Kind, MakeError, NoMemory, Notice, OutOfMemory, Queue, Quiet,
-    RecvError, Refusal, Reply, SendError, Side, Step, Ticket, TryRecvError, TrySendError, Upgrade,
-    Who,
+    Bell, CloneError, Core, End, Group, Kind, MakeError, NoMemory, Notice, OutOfMemory, Queue,
+    Quiet, RecvError, Refusal, Reply, Run, RunError, SendError, Settled, Side, Step, Ticket,
+    TryRecvError, TrySendError, Upgrade, Who, laws, run_all,
 };
 pub use handles::{Receiver, Sender, bounded, unbounded};
 pub use ops::{Closed, Recv, Send};

@@ -132,6 +132,19 @@ fn dropped_futures_are_cancelled(rt: HostRuntime) -> Result<(), Fail> {
 }
 
 #[test]
+fn a_withdrawn_send_waits_no_more(rt: HostRuntime) -> Result<(), Fail> {
+    let (s, _r) = channel(&rt, rt.alloc(), Some(1))?;
+    let task = MockTask::new(&rt)?;
+    assert_eq!(rt; s.try_send(1u8)?, Ok(()));
+    let mut send = s.send(2);
+    assert!(rt; is_pending(&task, &mut send));
+    assert_eq!(rt; numbers(&s.link, Group::Sends), (1, 0));
+    assert_eq!(rt; send.into_msg(), Some(2));
+    assert_eq!(rt; numbers(&s.link, Group::Sends), (0, 0));
+    Ok(())
+}
+
+#[test]
 fn the_bell_wakes_a_task(rt: HostRuntime) -> Result<(), Fail> {
     let (s, r) = channel::<u8, _>(&rt, rt.alloc(), None)?;
     let flag = AtomicBool::new(false);

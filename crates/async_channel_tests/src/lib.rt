@@ -8,6 +8,8 @@ mod operations;
 #[cfg(test)]
 mod probe;
 #[cfg(test)]
+mod records;
+#[cfg(test)]
 mod rows;
 #[cfg(test)]
 mod texts;

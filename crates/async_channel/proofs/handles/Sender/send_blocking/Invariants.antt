@@ -5,4 +5,4 @@ use Rattle.async_channel.proofs.handles.Sender.send_blocking.Given as goal
 abbrev pub invariant-loop : goal.invariant-loop
 invariant-loop g l =
     (goal.iterator-loop g).can_next l.iterator' × (goal.iterator-loop g).is_finite l.iterator'
-        × (l.message ≡ Some l.fn.msg)
+    × (l.message ≡ Some l.fn.msg)

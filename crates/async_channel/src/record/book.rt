@@ -1,0 +1,55 @@
+//! What a recorder leaves.
+ghost use Rattle.std.specs.Prelude.{◌≡◌, length, slice_get};
+ghost use Rattle.std.specs.Option.{option_map};
+
+use crate::record::calls::{Call, Outcome};
+use channel_core::Kind;
+use std::marker::Model;
+
+/// One history of a channel, and for each clerk the places of its own calls in it.
+#[derive(Drop)]
+pub struct Book<T> {
+    pub(crate) kind: Kind,
+    pub(crate) history: Vec<(Call<T>, Outcome<T>)>,
+    pub(crate) places: Vec<Vec<usize>>,
+}
+
+/// The kind of the channel, the history, and the places of each clerk's calls.
+impl<T> Model for Book<T> {
+    ghost use Rattle.async_channel.specs.Shares.{BookView, lists_of};
+
+    ghost Value = { BookView T };
+
+    ghost view = { λ book. record { kind = book.kind; history = book.history.items; places = lists_of book.places.items } };
+}
+
+impl<T> Book<T> {
+    /// The kind of the recorded channel.
+    pub fn kind(&self) -> Kind
+        ensures { result ≡ self.now.kind }
+    {
+        self.kind
+    }
+
+    /// All calls with their outcomes, the oldest first.
+    pub fn history(&self) -> &[(Call<T>, Outcome<T>)]
+        ensures { result.now ≡ self.now.history }
+    {
+        self.history.as_slice()
+    }
+
+    /// The number of clerks.
+    pub fn clerks(&self) -> usize
+        ensures { result ≡ length self.now.places }
+    {
+        self.places.len()
+    }
+
+    /// The places in the history of the calls of clerk `i`, in the order in which the clerks were handed in.
+    #[tactic(auto, using(crate::proofs::Marks::get_list))]
+    pub fn places(&self, i: usize) -> Option<&[usize]>
+        ensures { option_map (λ places. places.now) result ≡ slice_get self.now.places i }
+    {
+        Some(self.places.get(i)?.as_slice())
+    }
+}

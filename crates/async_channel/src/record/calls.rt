@@ -1,0 +1,34 @@
+//! What a recorder is called for, and what came of it.
+use channel_core::{SendError, TryRecvError, TrySendError};
+
+/// A call of a recorded channel, by its one sender or its one receiver.
+#[derive(Clone, Copy, Debug, PartialEq, Eq)]
+pub enum Call<T> {
+    /// Sends a message, if the channel is open and not full.
+    TrySend(T),
+    /// Sends a message, and where the channel is full displaces the oldest one.
+    ForceSend(T),
+    /// Takes the oldest message, if there is one.
+    TryRecv,
+    /// Closes the channel. Its messages stay.
+    Close,
+    /// Asks whether the channel is closed.
+    IsClosed,
+    /// Asks how many messages are held.
+    Len,
+}
+
+/// What a call answered.
+#[derive(Clone, Copy, Debug, PartialEq, Eq)]
+pub enum Outcome<T> {
+    /// To `TrySend`: the message went in, or comes back.
+    TrySent(Result<(), TrySendError<T>>),
+    /// To `ForceSend`: the message went in, and displaced this one; or it comes back.
+    Forced(Result<Option<T>, SendError<T>>),
+    /// To `TryRecv`.
+    Received(Result<T, TryRecvError>),
+    /// To `Close`, whether the channel was open; to `IsClosed`, whether it is closed.
+    Flag(bool),
+    /// To `Len`.
+    Count(usize),
+}
