@@ -3,13 +3,14 @@
 .PHONY: help run test check bench
 
 help:
-	@echo 'make run    proves and builds the channel, and runs the program trysend'
+	@echo 'make run    proves and builds the channel, and runs trysend, and chanrun on examples/tour.chan'
 	@echo 'make test   the gate: every proof from nothing, must-fail edits, tests and programs'
 	@echo 'make check  every crate, lowest first, over what earlier checks kept'
 	@echo 'make bench  measures the waiting list and the handles'
 
 run:
 	cd crates/trysend && rt run
+	cd crates/chanrun_program && rt run < ../../examples/tour.chan
 
 test:
 	rt ci

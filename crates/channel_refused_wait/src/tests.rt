@@ -1,27 +1,74 @@
 //! Run with `--fail-alloc N` for rising N, until nothing is refused: each run prints which call was refused.
+use Reply::*;
+use Step::*;
 use channel_core::{Kind, Notice, Refusal, Reply, Run, Step, Who};
 use futures::task::Poll;
 use std::test::Fail;
 
-/// The reply to a step. Where memory is refused for it, the call is noted, the step's message came back, nobody
-/// waits otherwise than before, and the step is made again.
-fn made(
-    run: &mut Run<u64>,
-    refused: &mut Option<&'static str>,
-    call: &'static str,
-    step: impl Fn() -> Step<u64>,
+/// A step by its name, and the same step once more; the message that it brings, the reply to it, and the notice
+/// of operation 0 behind it.
+#[derive(Drop)]
+struct Call {
+    name: &'static str,
+    step: Step<u64>,
+    again: Step<u64>,
     message: Option<u64>,
-) -> Result<Reply<u64>, Fail> {
+    reply: Reply<u64>,
+    notice: Notice,
+}
+
+/// The calls of the row.
+fn calls() -> [Call; 4] {
+    [
+        Call {
+            name: "the start",
+            step: StartRecv { op: 0, receiver: 0 },
+            again: StartRecv { op: 0, receiver: 0 },
+            message: None,
+            reply: Done,
+            notice: Notice::Absent,
+        },
+        Call {
+            name: "the wait",
+            step: Step::Poll(0),
+            again: Step::Poll(0),
+            message: None,
+            reply: RecvPolled(Poll::Pending),
+            notice: Notice::Untold,
+        },
+        Call {
+            name: "the message",
+            step: TrySend(0, 5),
+            again: TrySend(0, 5),
+            message: Some(5),
+            reply: TrySent(Ok(())),
+            notice: Notice::Told,
+        },
+        Call {
+            name: "the ready poll",
+            step: Step::Poll(0),
+            again: Step::Poll(0),
+            message: None,
+            reply: RecvPolled(Poll::Ready(Ok(5))),
+            notice: Notice::Absent,
+        },
+    ]
+}
+
+/// Makes the step. Where memory is refused for it, that is printed, its message comes back, the notice stays as it
+/// was, and the step is made again. It answers whether memory was refused.
+fn is_refused_once(rt: &HostRuntime, run: &mut Run<u64>, call: Call) -> Result<bool, Fail> {
     let before = run.notice_of(Who::Op(0));
-    let reply = run.step(step());
-    if reply != Reply::Refused(Refusal::OutOfMemory, message) {
-        return Ok(reply);
+    let mut reply = run.step(call.step);
+    let is_refused = reply == Refused(Refusal::OutOfMemory, call.message);
+    if is_refused {
+        println!(rt; "refused: {}", call.name)?;
+        assert!(rt; run.notice_of(Who::Op(0)) == before);
+        reply = run.step(call.again);
     }
-    *refused = Some(call);
-    if run.notice_of(Who::Op(0)) != before {
-        return Err("a refused step changed a notice".into());
-    }
-    Ok(run.step(step()))
+    assert!(rt; reply == call.reply, "{reply:?}");
+    assert!(rt; run.notice_of(Who::Op(0)) == call.notice);
+    Ok(is_refused)
 }
 
 #[test]
@@ -30,23 +77,12 @@ fn a_refused_wait(rt: HostRuntime) -> Result<(), Fail> {
         println!(rt; "refused: the run")?;
         return Ok(());
     };
-    let mut refused = None;
-    let start = || Step::StartRecv { op: 0, receiver: 0 };
-    let poll = || Step::Poll(0);
-    let send = || Step::TrySend(0, 5);
-    let started = made(&mut run, &mut refused, "the start", start, None)?;
-    assert_eq!(rt; started, Reply::Done);
-    assert_eq!(rt; run.notice_of(Who::Op(0)), Notice::Absent);
-    let waits = made(&mut run, &mut refused, "the wait", poll, None)?;
-    assert_eq!(rt; waits, Reply::RecvPolled(Poll::Pending));
-    assert_eq!(rt; run.notice_of(Who::Op(0)), Notice::Untold);
-    let sent = made(&mut run, &mut refused, "the message", send, Some(5))?;
-    assert_eq!(rt; sent, Reply::TrySent(Ok(())));
-    assert_eq!(rt; run.notice_of(Who::Op(0)), Notice::Told);
-    assert_eq!(rt; run.step(poll()), Reply::RecvPolled(Poll::Ready(Ok(5))));
-    match refused {
-        Some(call) => println!(rt; "refused: {call}")?,
-        None => println!(rt; "nothing was refused")?,
+    let mut is_refused = false;
+    for call in calls() {
+        is_refused |= is_refused_once(&rt, &mut run, call)?;
+    }
+    if !is_refused {
+        println!(rt; "nothing was refused")?;
     }
     Ok(())
 }

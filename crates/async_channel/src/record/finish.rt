@@ -144,7 +144,8 @@ fn shares<T: Exact + Copy>(
 impl<T: Copy + Exact> Recorder<T> {
     /// Gives up the recorder and its clerks for a book.
     ///
-    /// What was made by [`Recorder::call`] alone, with all clerks, always gives one where there is memory.
+    /// It looks at each entry, since no contract follows a value through a lock: that the calls of all clerks give
+    /// a book is shown by tests.
     pub fn finish(self, clerks: Vec<Clerk<T>>) -> Result<Book<T>, FinishError>
         ensures book { IfOk result (IsBookOf self clerks.items) }
         ensures stranger { (result ≡ Err FinishError.Stranger) ↔ (are_owned self.stamp clerks.items ≡ false) }

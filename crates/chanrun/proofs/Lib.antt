@@ -1,0 +1,8 @@
+pub mod Numbers
+pub mod Lines
+pub mod Words
+pub mod Known
+pub mod SettlingPolls
+pub mod Answered
+pub mod TextsOfLines
+pub mod LegalScripts

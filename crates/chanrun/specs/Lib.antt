@@ -1,0 +1,8 @@
+pub mod Device
+pub mod Grammar
+pub mod Digits
+pub mod Texts
+pub mod Script
+pub mod Outcome
+pub mod Wants
+pub mod Stages

@@ -1,0 +1,27 @@
+//! What holds of every script.
+//!
+//! The function here does nothing: its contract is a law over the definitions of what is written for a script.
+ghost use Rattle.std.specs.Prelude.{ℕ, List, [], length};
+ghost use Rattle.channel_model.specs.declared.step.Kind.{Kind};
+ghost use Rattle.channel_model.specs.Past.{Past};
+ghost use Rattle.channel_model.specs.Capacity.{HasPositiveCapacity};
+ghost use Rattle.channel_model.specs.Legal.{IsLegal};
+ghost use Rattle.channel_model.specs.Polling.{Settles, finished_polls};
+ghost use Rattle.chanrun.specs.Script.{past_behind_all, settling_polls};
+ghost use Rattle.chanrun.specs.declared.grammar.Command.{Command};
+
+use channel_core::laws;
+
+/// Behind every list of a script's commands stands a past that can come about, and the polls by which a script
+/// settles the channel there are a complete settling.
+pub fn scripts_settle()
+    ensures legal { (kind : Kind) (commands : List Command) → HasPositiveCapacity kind
+        → IsLegal kind (past_behind_all kind [] commands) }
+    ensures settled { (kind : Kind) (past : Past ℕ) → IsLegal kind past
+        → Settles kind past (settling_polls kind past) (length (settling_polls kind past))
+        (finished_polls (settling_polls kind past)) }
+{
+    laws::answers_make_legal_pasts::<u64>();
+    laws::any_order::<u64>();
+    laws::can_be_settled::<u64>();
+}

@@ -1,0 +1,84 @@
+//! The whole program over its devices.
+ghost use Rattle.std.specs.Prelude.{◌≡◌, ℕ, ◌<◌, ◌⊎◌, Option, Some, None, IfSome};
+ghost use Rattle.chanrun.specs.declared.grammar.Fault.{Fault};
+ghost use Rattle.chanrun.specs.Outcome.{IsDone, status_of};
+
+use crate::device::{Sink, Source};
+use crate::script::{ScriptError, run_script, write_text};
+use std::alloc::Global;
+use std::fmt;
+use std::fmt::Write;
+
+// A sink to which text is written.
+struct Page<'a, S> {
+    sink: &'a mut S,
+}
+
+impl<S: Sink> fmt::Write for Page<'_, S> {
+    fn write_str(&mut self, text: &str) -> fmt::Result {
+        match write_text(&mut *self.sink, text.as_bytes()) {
+            Ok(()) => Ok(()),
+            Err(_) => Err(fmt::Error),
+        }
+    }
+}
+
+// Writes a line, as far as the sink takes it.
+fn tell<S: Sink, D: fmt::Display + Drop>(sink: &mut S, text: D) {
+    let mut page = Page { sink };
+    let _ = writeln!(page, "{text}");
+    let Page { sink: _ } = page;
+}
+
+// The status for the end of a script that wasn't done whole.
+fn status_of(error: &ScriptError) -> u8
+    ensures { result ≡ status_of error.now }
+{
+    match error {
+        ScriptError::Fault { .. } => 2,
+        _ => 1,
+    }
+}
+
+/// The program over its devices. It answers the exit status: 0 where the whole script was done, 2 for a faulty
+/// line or for arguments, 1 otherwise. A line that says why it isn't 0 goes to `errors`; a failure there changes
+/// nothing. There are no arguments where they couldn't be read for want of memory.
+pub fn program<R: Source, W: Sink, E: Sink>(
+    alloc: Global,
+    arguments: Option<usize>,
+    reader: &mut R,
+    writer: &mut W,
+    errors: &mut E,
+) -> u8
+    // Status 0 says that the whole script was done.
+    ensures done { result ≡ 0 → (arguments ≡ Some 0) × (errors.new ≡ errors.old)
+        × IsDone (R.left reader.old) (R.left reader.new) (R.ended reader.new)
+        (W.written writer.old) (W.written writer.new) None }
+    // Status 2 without arguments says that it was done up to a faulty line.
+    ensures faulty { result ≡ 2 → arguments ≡ Some 0 → (fault : ℕ × Fault)
+        × IsDone (R.left reader.old) (R.left reader.new) (R.ended reader.new)
+        (W.written writer.old) (W.written writer.new) (Some fault) }
+    ensures known { (result ≡ 0) ⊎ (result ≡ 1) ⊎ (result ≡ 2) }
+    ensures unread { arguments ≡ None → (result ≡ 1) × (reader.new ≡ reader.old) × (writer.new ≡ writer.old) }
+    ensures refused { IfSome arguments (λ count. 0 < count
+        → (result ≡ 2) × (reader.new ≡ reader.old) × (writer.new ≡ writer.old)) }
+{
+    match arguments {
+        None => {
+            tell(errors, ScriptError::OutOfMemory);
+            1
+        }
+        Some(0) => match run_script(alloc, reader, writer) {
+            Ok(()) => 0,
+            Err(error) => {
+                let status = status_of(&error);
+                tell(errors, error);
+                status
+            }
+        },
+        Some(_) => {
+            tell(errors, "chanrun takes no arguments");
+            2
+        }
+    }
+}
