@@ -3,6 +3,7 @@ use Reply::*;
 use Step::*;
 use channel_core::{Kind, Notice, Refusal, Reply, Run, Step, Who};
 use futures::task::Poll;
+use std::process::Abort;
 use std::test::Fail;
 
 /// A step by its name, and the same step once more; the message that it brings, the reply to it, and the notice
@@ -57,7 +58,7 @@ fn calls() -> [Call; 4] {
 
 /// Makes the step. Where memory is refused for it, that is printed, its message comes back, the notice stays as it
 /// was, and the step is made again. It answers whether memory was refused.
-fn is_refused_once(rt: &HostRuntime, run: &mut Run<u64>, call: Call) -> Result<bool, Fail> {
+fn is_refused_once<R: Abort + Print>(rt: &R, run: &mut Run<u64>, call: Call) -> Result<bool, Fail> {
     let before = run.notice_of(Who::Op(0));
     let mut reply = run.step(call.step);
     let is_refused = reply == Refused(Refusal::OutOfMemory, call.message);
