@@ -6,7 +6,7 @@ use Rattle.std.specs.Io.KnownBytes.{Appends}
 abbrev pub one_more : ℕ → ℕ
 one_more count = min (count + 1) (2 ^ 64 - 1)
 
--- a read of a buffer of this length failed
+-- a read failed
 abbrev pub read_failed : {E : Type 0} → Result ℕ E → Bool
 read_failed (Ok count) = false
 read_failed (Err e) = true
