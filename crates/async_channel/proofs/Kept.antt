@@ -1,5 +1,5 @@
 -- One more call behind a history.
-use Rattle.std.proofs.Common.{◌≡◌, ◌<◌, ℕ, List, [], ◌∷◌, ◌++◌, Bool, true, false, not, ◌||◌, cond, Option, Some, None, refl, sym, ◌∙◌, ap, subst, map, reverse, length, ◌==◌}
+use Rattle.std.proofs.Common.{◌≡◌, ◌<◌, ℕ, List, [], ◌∷◌, ◌++◌, Bool, true, false, not, ◌||◌, cond, Option, Some, None, refl, sym, ◌∙◌, ap, subst, map, reverse, length, drop, ◌==◌}
 use Rattle.std.specs.Prelude.{slice_get}
 use Rattle.std.proofs.Math.Bool.{or-false}
 use Rattle.std.proofs.lemmas.List.{reverse-append}
@@ -22,8 +22,8 @@ use Rattle.channel_model.specs.Refusals.{refusal_of}
 use Rattle.channel_model.specs.Legal.{IsAllowed}
 use Rattle.channel_model.specs.Tables.{force_send_answer, try_recv_answer, try_send_answer}
 use Rattle.channel_core.specs.Channel.{Channel, closing, forcing, is_channel_full, new_channel, oldest, sending, taking}
-use Rattle.channel_core.specs.RunSteps.{without_first}
-use Rattle.channel_core.proofs.Stepping.{held_messages-after}
+use Rattle.channel_model.proofs.Conserved.{count_of}
+use Rattle.channel_core.proofs.HeldMessages.{held_messages-after}
 use Rattle.async_channel.specs.declared.record.calls.Call.{Call}
 use Rattle.async_channel.specs.declared.record.calls.Call.TheVariants.{TrySend, ForceSend, TryRecv, Close, IsClosed, Len}
 use Rattle.async_channel.specs.declared.record.calls.Outcome.{Outcome}
@@ -143,12 +143,12 @@ module _ {T W : Type 0} (channel : Channel T W) where
 
   -- what is left: the accepted message stands last, and the first is gone if one was taken
   same_messages : (past : Past T) (call : Call T) → (after_call call channel).messages
-      ≡ without_first (taken_by (reply_of_outcome (outcome_at channel call)))
+      ≡ drop (count_of (taken_by (reply_of_outcome (outcome_at channel call))))
       (with_last channel.messages (accepted_by past (step_of_call call) (reply_of_outcome (outcome_at channel call))))
   same_messages past (TrySend message) = go channel.closed (is_channel_full channel)
     where
       go : (closed full : Bool) → (sending closed full message channel).channel.messages
-          ≡ without_first (taken_by (TrySent (try_send_answer closed full message)))
+          ≡ drop (count_of (taken_by (TrySent (try_send_answer closed full message))))
           (with_last channel.messages (accepted_by past (TrySend 0 message)
           (TrySent (try_send_answer closed full message))))
       go true full = refl
@@ -158,7 +158,7 @@ module _ {T W : Type 0} (channel : Channel T W) where
     where
       go : (closed full : Bool) (messages : List T) → channel.messages ≡ messages
           → (forcing closed full message channel).channel.messages
-          ≡ without_first (taken_by (Forced (force_send_answer closed full (oldest channel) message)))
+          ≡ drop (count_of (taken_by (Forced (force_send_answer closed full (oldest channel) message))))
           (with_last channel.messages (accepted_by past (ForceSend 0 message)
           (Forced (force_send_answer closed full (oldest channel) message))))
       go true full messages e = refl
@@ -169,7 +169,7 @@ module _ {T W : Type 0} (channel : Channel T W) where
     where
       go : (messages : List T) (closed : Bool) → channel.messages ≡ messages
           → (taking messages channel).channel.messages
-          ≡ without_first (taken_by (Received (try_recv_answer (slice_get messages 0) closed)))
+          ≡ drop (count_of (taken_by (Received (try_recv_answer (slice_get messages 0) closed))))
           (with_last channel.messages (accepted_by past (TryRecv 0)
           (Received (try_recv_answer (slice_get messages 0) closed))))
       go [] true e = refl
@@ -245,9 +245,9 @@ kept_more {T} {W} kind history channel after call outcome is answered left =
       capacity = same_capacity channel call ∙ is.capacity;
       messages =
           same_messages channel past call
-          ∙ ap (λ (reply : Reply T). without_first (taken_by reply)
+          ∙ ap (λ (reply : Reply T). drop (count_of (taken_by reply))
           (with_last channel.messages (accepted_by past step reply))) (sym replied)
-          ∙ ap (λ (messages : List T). without_first (taken_by reply)
+          ∙ ap (λ (messages : List T). drop (count_of (taken_by reply))
           (with_last messages (accepted_by past step reply))) is.messages
           ∙ sym (held_messages-after kind past step reply is.legal);
       closed =

@@ -36,10 +36,10 @@ mod tests;
 mod weak;
 
 pub use channel_core::{
-    Bell, CloneError, Core, End, Group, Kind, MakeError, NoMemory, Notice, OutOfMemory, Queue,
-    Quiet, RecvError, Refusal, Reply, Run, RunError, SendError, Settled, Side, Step, Ticket,
-    TryRecvError, TrySendError, Upgrade, Who, laws, run_all,
+    Bell, CloneError, Core, Group, MakeError, NoMemory, OutOfMemory, Queue, Quiet, RecvError,
+    SendError, Ticket, TryRecvError, TrySendError, Upgrade,
 };
+pub use channel_model::Kind;
 pub use handles::{Receiver, Sender, bounded, unbounded};
 pub use ops::{Closed, Recv, Send};
 pub use stamps::{Stamp, StampMaker, Tag};

@@ -1,26 +1,3 @@
 pub mod Rings
 mod Forced
-pub mod LiveNames
-pub mod SameNames
-pub mod SameOperations
-pub mod RunAnswers
-pub mod Stepping
-pub mod WholeSteps
-pub mod MadeSteps
-pub mod ManySteps
-pub mod RunWants
-pub mod GivingUp
-pub mod RunFacts
-pub mod RunSettles
-pub mod KeyedRosters
-pub mod Entries
-pub mod Holding
-pub mod RunChanges
-pub mod RunTables
-pub mod RunPolls
-pub mod RunStreams
-pub mod RunNew
-pub mod RunNotices
-pub mod FirstTold
-pub mod RunTold
-pub mod SettlesRun
+pub mod HeldMessages

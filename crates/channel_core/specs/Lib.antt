@@ -3,7 +3,3 @@ pub mod Queue
 pub mod Store
 pub mod Tickets
 pub mod Channel
-pub mod StandsFor
-pub mod RunSteps
-pub mod RunShown
-pub mod Runs

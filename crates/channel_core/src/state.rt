@@ -63,8 +63,12 @@ pub struct Core<T, W> {
     lists: WaitLists<W>,
 }
 
-// A copy is refused where there are more handles of its kind than this.
-pub(crate) const HANDLE_LIMIT: usize = usize::MAX / 2;
+/// Half of what a `usize` can count. Where there are more handles of a kind, no further one is made.
+///
+/// ```
+/// core.sender_count() > HANDLE_LIMIT     // then `core.add_sender()` answers false
+/// ```
+pub const HANDLE_LIMIT: usize = usize::MAX / 2;
 
 impl<T, W> Model for Core<T, W> {
     ghost use Rattle.channel_model.specs.Covered.{IsCovered};

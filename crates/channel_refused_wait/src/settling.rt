@@ -1,7 +1,7 @@
 //! Run with `--fail-alloc N` for rising N: each run prints which call was refused, if any.
 use Reply::*;
 use Step::*;
-use channel_core::{Kind, Notice, Refusal, Reply, Run, Step, Who};
+use channel_run::{Kind, Notice, Refusal, Reply, Run, Step, Who};
 use futures::task::Poll;
 use std::test::Fail;
 

@@ -1,7 +1,7 @@
 //! Run with `--fail-alloc N` for rising N, until nothing is refused: each run prints which call was refused.
 use Reply::*;
 use Step::*;
-use channel_core::{Kind, Notice, Refusal, Reply, Run, Step, Who};
+use channel_run::{Kind, Notice, Refusal, Reply, Run, Step, Who};
 use futures::task::Poll;
 use std::process::Abort;
 use std::test::Fail;

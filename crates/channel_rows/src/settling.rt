@@ -5,7 +5,7 @@ use Refusal::*;
 use Reply::*;
 use Side::*;
 use Step::*;
-use channel_core::{Kind, Notice, Refusal, Reply, Run, SendError, Side, Step, Who};
+use channel_run::{Kind, Notice, Refusal, Reply, Run, SendError, Side, Step, Who};
 use futures::task::Poll;
 use std::process::Abort;
 use std::test::Fail;

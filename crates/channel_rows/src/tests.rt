@@ -12,7 +12,7 @@ use Refusal::*;
 use Reply::*;
 use Side::*;
 use Step::*;
-use channel_core::{
+use channel_run::{
     Kind, Notice, RecvError, Refusal, Reply, Run, SendError, Side, Step, TryRecvError,
     TrySendError, Who, run_all,
 };

@@ -12,7 +12,7 @@ use Rattle.channel_model.specs.Replies.{due_reply}
 use Rattle.channel_model.specs.Refusals.{refusal_of}
 use Rattle.channel_model.specs.Memory.{may_want_memory}
 use Rattle.channel_model.specs.Answers.{IsAnswer, message_in, past_after}
-use Rattle.channel_core.specs.StandsFor.{RunView, StandsFor}
+use Rattle.channel_run.specs.StandsFor.{RunView, StandsFor}
 use Rattle.chanrun.specs.Script.{answer_of, refused_or}
 use Rattle.chanrun.specs.Wants.{wants_memory}
 

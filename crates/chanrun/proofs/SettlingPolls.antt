@@ -8,8 +8,8 @@ use Rattle.channel_model.specs.Past.{Past}
 use Rattle.channel_model.specs.Rosters.{Rosters}
 use Rattle.channel_model.specs.Notices.{rosters}
 use Rattle.channel_model.specs.Polling.{IsQuiet, IsSettling, Settles, finished_polls, most_polls, told_polls, waiting_in}
-use Rattle.channel_core.specs.Runs.{SettlesTo}
-use Rattle.channel_core.specs.StandsFor.{RunView, StandsFor}
+use Rattle.channel_run.specs.Runs.{SettlesTo}
+use Rattle.channel_run.specs.StandsFor.{RunView, StandsFor}
 use Rattle.chanrun.specs.Script.{polls_within, settling_polls, settled_text, with_poll}
 
 -- the poll of the first who was told, behind polls that were made

@@ -6,7 +6,7 @@ ghost use Rattle.chanrun.specs.Digits.{digits_from};
 ghost use Rattle.channel_model.specs.declared.step.Step.{Step};
 ghost use Rattle.chanrun.specs.Grammar.{lines_of, number_of, name_of, word_of, number_in, sender_in, receiver_in, weak_sender_in, weak_receiver_in, op_in, side_in, who_in, capacity_in, bounded_with, unbounded_with, kind_with, clone_step, downgrade_step, upgrade_step, drop_step, on_one, on_two, with_three, one_word_verb, two_word_verb, verb_of, command_with, command_of, kind_of};
 
-use channel_core::{Kind, Side, Step, Who};
+use channel_model::{Kind, Side, Step, Who};
 use std::alloc::{AllocError, Global};
 use std::error::Error;
 use std::fmt;

@@ -10,7 +10,7 @@ ghost use Rattle.channel_model.specs.Polling.{Settles, finished_polls};
 ghost use Rattle.chanrun.specs.Script.{past_behind_all, settling_polls};
 ghost use Rattle.chanrun.specs.declared.grammar.Command.{Command};
 
-use channel_core::laws;
+use channel_model::laws;
 
 /// Behind every list of a script's commands stands a past that can come about, and the polls by which a script
 /// settles the channel there are a complete settling.

@@ -1,5 +1,5 @@
 //! The texts of replies.
-use channel_core::{Notice, Refusal, Reply, SendError, TryRecvError, TrySendError, Who};
+use channel_model::{Notice, Refusal, Reply, SendError, TryRecvError, TrySendError, Who};
 use futures::task::Poll;
 use std::fmt;
 

@@ -4,7 +4,7 @@ ghost use Rattle.std.specs.Io.KnownBytes.{Consumes, IsAtEnd, Appends};
 ghost use Rattle.channel_model.specs.declared.step.Kind.{Kind};
 ghost use Rattle.channel_model.specs.Past.{Past};
 ghost use Rattle.channel_model.specs.Capacity.{HasPositiveCapacity};
-ghost use Rattle.channel_core.specs.StandsFor.{StandsFor};
+ghost use Rattle.channel_run.specs.StandsFor.{StandsFor};
 ghost use Rattle.chanrun.specs.Device.{one_more, AppendsFront};
 ghost use Rattle.chanrun.specs.Grammar.{lines_of, command_of};
 ghost use Rattle.chanrun.specs.Script.{answer_of, as_line, command_text, past_behind, settled_line, finished_line, settled_text, fault_from, texts_after, commands_of, script_text, script_fault};
@@ -18,7 +18,8 @@ ghost use Rattle.chanrun.specs.declared.script.ScriptError.TheVariants.{OutOfMem
 use crate::device::{Sink, Source};
 use crate::grammar::{Command, Fault, command_of, kind_of, split_line};
 use crate::reply_text::{NoticeText, ReplyText, WhoText};
-use channel_core::{Kind, OutOfMemory, Refusal, Reply, Run, Settled, Who};
+use channel_model::{Kind, OutOfMemory, Refusal, Reply, Who};
+use channel_run::{Run, Settled};
 use std::alloc::{AllocError, Global};
 use std::error::Error;
 use std::fmt;

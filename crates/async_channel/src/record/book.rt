@@ -3,7 +3,7 @@ ghost use Rattle.std.specs.Prelude.{◌≡◌, length, slice_get};
 ghost use Rattle.std.specs.Option.{option_map};
 
 use crate::record::calls::{Call, Outcome};
-use channel_core::Kind;
+use channel_model::Kind;
 use std::marker::Model;
 
 /// One history of a channel, and for each clerk the places of its own calls in it.

@@ -10,7 +10,7 @@ use crate::record::clerk::Clerk;
 use crate::record::exact::{Exact, same_call, same_outcome};
 use crate::record::recorder::Recorder;
 use crate::stamps::Stamp;
-use channel_core::Kind;
+use channel_model::Kind;
 use std::alloc::{AllocError, Global};
 use std::error::Error;
 use std::fmt;

@@ -5,7 +5,8 @@ ghost use Rattle.async_channel.specs.Histories.{IsLegalHistory};
 ghost use Rattle.async_channel.specs.CallSteps.{outcome_at, after_call};
 
 use crate::record::calls::{Call, Outcome};
-use channel_core::{Core, Kind, OutOfMemory, Quiet};
+use channel_core::{Core, OutOfMemory, Quiet};
+use channel_model::Kind;
 use std::alloc::Global;
 use std::marker::Model;
 

@@ -1,7 +1,7 @@
 use Rattle.std.proofs.Common.{◌≡◌, ◌≤◌, ◌+◌, ℕ, List, [], ◌++◌, length}
 use Rattle.std.specs.Io.KnownBytes.{Appends}
 use Rattle.channel_model.specs.Past.{Past}
-use Rattle.channel_core.specs.StandsFor.{StandsFor}
+use Rattle.channel_run.specs.StandsFor.{StandsFor}
 use Rattle.chanrun.specs.Grammar.{lines_of}
 use Rattle.chanrun.specs.Script.{fault_from}
 use Rattle.chanrun.proofs.TextsOfLines.{due_text}

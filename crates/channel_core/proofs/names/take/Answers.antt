@@ -1,5 +1,0 @@
-use Rattle.channel_core.proofs.Entries.{AreDifferent-sorted}
-use Rattle.channel_core.proofs.names.take.Goals as goal
-
-pub returns-clause-different : goal.returns-clause-different
-returns-clause-different g c = AreDifferent-sorted _ c.len-count.ensures.ordered

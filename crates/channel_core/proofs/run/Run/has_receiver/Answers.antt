@@ -1,7 +1,0 @@
-use Rattle.std.proofs.Common.{◌∙◌}
-use Rattle.channel_core.proofs.Entries.{is_among-entry_at}
-use Rattle.channel_core.proofs.run.Run.has_receiver.Goals as goal
-
-pub returns : goal.returns
-returns g c = rw (← c.self.view_is) (c.contains_key.ensures
-    ∙ is_among-entry_at c.self.inside.receivers.entries c.args.name)

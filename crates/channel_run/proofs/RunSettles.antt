@@ -1,0 +1,133 @@
+-- Settling a run, poll by poll.
+use Rattle.std.proofs.Common.{◌≡◌, ℕ, ◌<◌, List, [], ◌∷◌, ◌++◌, Some, refl, sym, ◌∙◌, ap, subst, length, map, take}
+use Rattle.std.specs.Prelude.{slice_get}
+use Rattle.channel_model.specs.declared.step.Kind.{Kind}
+use Rattle.channel_model.specs.declared.step.Step.{Step}
+use Rattle.channel_model.specs.declared.step.Step.TheVariants.{Poll, PollNext}
+use Rattle.channel_model.specs.declared.step.Reply.{Reply}
+use Rattle.channel_model.specs.Past.{Past}
+use Rattle.channel_model.specs.Replies.{due_reply}
+use Rattle.channel_model.specs.Rosters.{Roster, Rosters, told_names}
+use Rattle.channel_model.specs.Notices.{rosters}
+use Rattle.channel_model.specs.Polling.{EndsWell, IsQuiet, IsSettling, Settles, finished_polls, told_polls}
+use Rattle.channel_run.specs.StandsFor.{RunView, StandsFor}
+use Rattle.channel_run.specs.RunSteps.{after_step, reply_in}
+use Rattle.channel_model.proofs.Measure.{measure}
+use Rattle.channel_model.proofs.AnyOrder.{PollsTold, polls_told, measure-falls, told-allowed, first-Contains, IsFreePolling-IsSettling, EndsWell-IsFreePolling}
+use Rattle.channel_run.proofs.RunAnswers.{reply_in-StandsFor}
+use Rattle.channel_run.proofs.Stepping.{StandsFor-step}
+
+-- One poll more: the run polled the first who was told.
+pub record PollsOn {T : Type 0} (kind : Kind) (past polls : Past T) (step : Step T) (reply : Reply T)
+    (run : RunView T) : Type 0 where
+  pub settling : IsSettling kind past ((step, reply) ∷ polls)
+  pub stands : StandsFor kind (((step, reply) ∷ polls) ++ past) (after_step run step reply)
+  pub falls : measure (after_step run step reply).rosters < measure run.rosters
+
+pub polls_on : {T : Type 0} (kind : Kind) (past polls : Past T) (step : Step T) (reply : Reply T) (run : RunView T)
+    → IsSettling kind past polls → StandsFor kind (polls ++ past) run → slice_get (told_polls run.rosters) 0 ≡ Some step
+    → reply ≡ reply_in run step
+    → PollsOn kind past polls step reply run
+polls_on {T} kind past polls step reply run settling stands first replied =
+    record {
+      settling = (settling, at_first, due);
+      stands = more;
+      falls = subst (λ (all : Rosters). measure all < measure run.rosters) (sym more.rosters)
+          (subst (λ (all : Rosters). measure (rosters ((step, reply) ∷ (polls ++ past))) < measure all)
+          (sym stands.rosters) less);
+    }
+  where
+    at_first : slice_get (told_polls (rosters (polls ++ past))) 0 ≡ Some step
+    at_first = ap (λ (all : Rosters). slice_get (told_polls all) 0) (sym stands.rosters) ∙ first
+
+    due : reply ≡ due_reply kind (polls ++ past) step
+    due = replied ∙ reply_in-StandsFor kind (polls ++ past) run step stands
+
+    told : PollsTold (rosters (polls ++ past)) step
+    told = polls_told (rosters (polls ++ past)) step
+        (first-Contains (told_polls (rosters (polls ++ past))) step at_first)
+
+    more : StandsFor kind ((step, reply) ∷ (polls ++ past)) (after_step run step reply)
+    more = StandsFor-step kind (polls ++ past) run step reply stands
+        (told-allowed kind (polls ++ past) step stands.legal told) replied
+
+    less : measure (rosters ((step, reply) ∷ (polls ++ past))) < measure (rosters (polls ++ past))
+    less = subst (λ (r : Reply T). measure (rosters ((step, r) ∷ (polls ++ past))) < measure (rosters (polls ++ past)))
+        (sym due) (measure-falls kind (polls ++ past) step stands.legal told)
+
+-- Nobody is told any more: the polls settled the channel.
+pub Settles-IsQuiet : {T : Type 0} (kind : Kind) (past polls : Past T) (before run : RunView T)
+    → StandsFor kind past before → IsSettling kind past polls → StandsFor kind (polls ++ past) run → IsQuiet run.rosters
+    → Settles kind past polls (length polls) (finished_polls polls)
+Settles-IsQuiet {T} kind past polls before run stood settling stands quiet =
+    record {
+      each = settling;
+      counted = refl;
+      listed = refl;
+      quiet = quiet_now;
+      settled = ends.settled quiet_now;
+      bounded = ends.bounded;
+    }
+  where
+    ends : EndsWell kind past polls
+    ends = EndsWell-IsFreePolling kind past polls stood.legal (IsFreePolling-IsSettling kind past polls settling)
+
+    quiet_now : IsQuiet (rosters (polls ++ past))
+    quiet_now = subst (λ (all : Rosters). IsQuiet all) stands.rosters quiet
+
+-- ---- who is polled first
+
+first_of : {X : Type 0} (items rest : List X) (item : X) → slice_get items 0 ≡ Some item
+    → slice_get (items ++ rest) 0 ≡ Some item
+first_of [] rest item e = cc
+first_of (first ∷ items) rest item e = e
+
+first_mapped : {X Y : Type 0} (f : X → Y) (items : List X) (item : X) → slice_get items 0 ≡ Some item
+    → slice_get (map f items) 0 ≡ Some (f item)
+first_mapped f [] item e = cc
+first_mapped f (first ∷ items) item e = let same : first ≡ item = cc in ap (λ x. Some (f x)) same
+
+none_told : {Y : Type 0} (poll : ℕ → Y) (roster : Roster) → roster.told ≡ 0 → map poll (told_names roster) ≡ []
+none_told poll roster none = ap (λ count. map poll (take count roster.names)) none
+
+pub first_receive : {T : Type 0} (all : Rosters) (op : ℕ) → slice_get (told_names all.receives) 0 ≡ Some op
+    → slice_get (told_polls {T = T} all) 0 ≡ Some (Poll op)
+first_receive {T} all op e =
+    let a : List (Step T) = map Poll (told_names all.receives) in
+    let b : List (Step T) = map PollNext (told_names all.streams) in
+    let c : List (Step T) = map Poll (told_names all.sends) in
+    first_of ((a ++ b) ++ c) (map Poll (told_names all.closeds)) (Poll op)
+    (first_of (a ++ b) c (Poll op) (first_of a b (Poll op) (first_mapped Poll (told_names all.receives) op e)))
+
+pub first_stream : {T : Type 0} (all : Rosters) (receiver : ℕ) → all.receives.told ≡ 0
+    → slice_get (told_names all.streams) 0 ≡ Some receiver
+    → slice_get (told_polls {T = T} all) 0 ≡ Some (PollNext receiver)
+first_stream {T} all receiver none e =
+    let b : List (Step T) = map PollNext (told_names all.streams) in
+    let c : List (Step T) = map Poll (told_names all.sends) in
+    let d : List (Step T) = map Poll (told_names all.closeds) in
+    ap (λ (a : List (Step T)). slice_get (((a ++ b) ++ c) ++ d) 0) (none_told Poll all.receives none)
+    ∙ first_of (b ++ c) d (PollNext receiver)
+    (first_of b c (PollNext receiver) (first_mapped PollNext (told_names all.streams) receiver e))
+
+pub first_send : {T : Type 0} (all : Rosters) (op : ℕ) → all.receives.told ≡ 0 → all.streams.told ≡ 0
+    → slice_get (told_names all.sends) 0 ≡ Some op → slice_get (told_polls {T = T} all) 0 ≡ Some (Poll op)
+first_send {T} all op none none' e =
+    let b : List (Step T) = map PollNext (told_names all.streams) in
+    let c : List (Step T) = map Poll (told_names all.sends) in
+    let d : List (Step T) = map Poll (told_names all.closeds) in
+    ap (λ (a : List (Step T)). slice_get (((a ++ b) ++ c) ++ d) 0) (none_told Poll all.receives none)
+    ∙ ap (λ (b : List (Step T)). slice_get ((b ++ c) ++ d) 0) (none_told PollNext all.streams none')
+    ∙ first_of c d (Poll op) (first_mapped Poll (told_names all.sends) op e)
+
+pub first_closed : {T : Type 0} (all : Rosters) (op : ℕ) → all.receives.told ≡ 0 → all.streams.told ≡ 0
+    → all.sends.told ≡ 0 → slice_get (told_names all.closeds) 0 ≡ Some op
+    → slice_get (told_polls {T = T} all) 0 ≡ Some (Poll op)
+first_closed {T} all op none none' none'' e =
+    let b : List (Step T) = map PollNext (told_names all.streams) in
+    let c : List (Step T) = map Poll (told_names all.sends) in
+    let d : List (Step T) = map Poll (told_names all.closeds) in
+    ap (λ (a : List (Step T)). slice_get (((a ++ b) ++ c) ++ d) 0) (none_told Poll all.receives none)
+    ∙ ap (λ (b : List (Step T)). slice_get ((b ++ c) ++ d) 0) (none_told PollNext all.streams none')
+    ∙ ap (λ (c : List (Step T)). slice_get (c ++ d) 0) (none_told Poll all.sends none'')
+    ∙ first_mapped Poll (told_names all.closeds) op e

@@ -1,0 +1,79 @@
+use Rattle.std.proofs.Common.{◌≡◌, ◌∙◌, Some, None, false, length, ◌+◌, refl, sym, ap}
+use Rattle.std.proofs.lemmas.List.{length-map}
+use Rattle.std.specs.Prelude.{nat_lt}
+use Rattle.event_list.specs.Keys.{is_among}
+use Rattle.channel_model.specs.declared.step.Reply.{Reply}
+use Rattle.channel_model.specs.declared.step.Step.{Step}
+use Rattle.channel_run.specs.StandsFor.{RunView}
+use Rattle.channel_model.specs.Tables.{handle_limit}
+use Rattle.channel_core.specs.Counts.{count_added}
+use Rattle.channel_run.specs.RunShown.{Changed, shown}
+use Rattle.channel_run.proofs.Entries.{is_among-entry_at}
+use Rattle.channel_run.proofs.MadeSteps.{made-clone_receiver}
+use Rattle.channel_run.proofs.RunTables.{may_add-one, nothing_at, one_more, stepped-receiver, when_ok}
+use Rattle.channel_run.proofs.WholeSteps.{StepsTo-made, not_refused}
+use Rattle.channel_run.proofs.run.Run.clone_receiver.Goals as goal
+
+pub put-requires : goal.put-requires
+put-requires g c = nothing_at c.self.inside.receivers.entries c.args.new
+    (is_among-entry_at c.self.inside.receivers.entries c.args.new
+    ∙ ap (λ (r : RunView g.row.T.Denot). is_among c.args.new r.receivers) c.self.view_is ∙ sym c.has_receiver-2.ensures
+    ∙ c.if-has_receiver.false)
+
+pub invariant_of-self-2 : goal.invariant_of-self-2
+invariant_of-self-2 g c =
+    let run = shown c.self.inside.core c.self.inside.senders c.self.inside.receivers.entries c.self.inside.weak_senders
+    c.self.inside.weak_receivers c.self.inside.operations.entries in
+    let absent = nothing_at c.self.inside.receivers.entries c.args.new
+    (is_among-entry_at c.self.inside.receivers.entries c.args.new
+    ∙ ap (λ (r : RunView g.row.T.Denot). is_among c.args.new r.receivers) c.self.view_is
+    ∙ sym c.has_receiver-2.ensures ∙ c.if-has_receiver.false) in
+    let change = when_ok c.put.result (Changed c.args.new c.self.inside.receivers.entries c.put.new.entries.entries
+    (Some None)) (sym c.is_err.ensures.value ∙ c.if-is_err.false) c.put.ensures.added in
+    let more = when_ok c.put.result (length c.put.new.entries.entries ≡ length c.self.inside.receivers.entries + 1)
+    (sym c.is_err.ensures.value ∙ c.if-is_err.false) c.put.ensures.more in
+    let is = stepped-receiver c.self.inside.core c.self.inside.senders c.self.inside.receivers.entries
+    c.self.inside.weak_senders c.self.inside.weak_receivers c.self.inside.operations.entries c.self.invariant
+    (Step.CloneReceiver c.args.of c.args.new) (Reply.Done) c.args.new c.put.new.entries.entries absent change more
+    (made-clone_receiver run c.args.of c.args.new) in
+    let known = ap (λ (r : RunView g.row.T.Denot). is_among c.args.of r.receivers) c.self.view_is
+    ∙ sym c.has_receiver.ensures ∙ c.if-not-has_receiver.false in
+    let may = may_add-one c.args.of c.self.inside.receivers.entries c.self.inside.core.receivers known
+    c.self.invariant.count_receivers (rw (← c.receiver_count.ensures) c.if-receiver_count-gt-HANDLE_LIMIT.false) in
+    let after = c.add_receiver.ensures.after
+    ∙ ap (λ added. record c.self.inside.core { receivers = count_added added c.self.inside.core.receivers })
+    (c.add_receiver.ensures.reply ∙ may) in
+    rw after is.whole
+
+pub returns : goal.returns
+returns g c =
+    let run = shown c.self.inside.core c.self.inside.senders c.self.inside.receivers.entries c.self.inside.weak_senders
+    c.self.inside.weak_receivers c.self.inside.operations.entries in
+    let absent = nothing_at c.self.inside.receivers.entries c.args.new
+    (is_among-entry_at c.self.inside.receivers.entries c.args.new
+    ∙ ap (λ (r : RunView g.row.T.Denot). is_among c.args.new r.receivers) c.self.view_is
+    ∙ sym c.has_receiver-2.ensures ∙ c.if-has_receiver.false) in
+    let change = when_ok c.put.result (Changed c.args.new c.self.inside.receivers.entries c.put.new.entries.entries
+    (Some None)) (sym c.is_err.ensures.value ∙ c.if-is_err.false) c.put.ensures.added in
+    let more = when_ok c.put.result (length c.put.new.entries.entries ≡ length c.self.inside.receivers.entries + 1)
+    (sym c.is_err.ensures.value ∙ c.if-is_err.false) c.put.ensures.more in
+    let is = stepped-receiver c.self.inside.core c.self.inside.senders c.self.inside.receivers.entries
+    c.self.inside.weak_senders c.self.inside.weak_receivers c.self.inside.operations.entries c.self.invariant
+    (Step.CloneReceiver c.args.of c.args.new) (Reply.Done) c.args.new c.put.new.entries.entries absent change more
+    (made-clone_receiver run c.args.of c.args.new) in
+    let known = ap (λ (r : RunView g.row.T.Denot). is_among c.args.of r.receivers) c.self.view_is
+    ∙ sym c.has_receiver.ensures ∙ c.if-not-has_receiver.false in
+    let fresh = ap (λ (r : RunView g.row.T.Denot). is_among c.args.new r.receivers) c.self.view_is
+    ∙ sym c.has_receiver-2.ensures ∙ c.if-has_receiver.false in
+    let may = may_add-one c.args.of c.self.inside.receivers.entries c.self.inside.core.receivers known
+    c.self.invariant.count_receivers (rw (← c.receiver_count.ensures) c.if-receiver_count-gt-HANDLE_LIMIT.false) in
+    let few : nat_lt handle_limit (length run.receivers) ≡ false =
+    ap (λ count. nat_lt handle_limit count) (length-map c.self.inside.receivers.entries (λ e. e.0)
+    ∙ sym c.self.invariant.count_receivers) ∙ one_more c.self.inside.core.receivers
+    (rw (← c.receiver_count.ensures) c.if-receiver_count-gt-HANDLE_LIMIT.false) in
+    let after = c.add_receiver.ensures.after
+    ∙ ap (λ added. record c.self.inside.core { receivers = count_added added c.self.inside.core.receivers })
+    (c.add_receiver.ensures.reply ∙ may) in
+    rw (← c.self.view_is, after)
+    (StepsTo-made run _ (Step.CloneReceiver c.args.of c.args.new) _
+    (not_refused run (Step.CloneReceiver c.args.of c.args.new) known fresh refl few) is.made)

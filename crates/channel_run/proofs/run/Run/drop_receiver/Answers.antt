@@ -1,0 +1,64 @@
+use Rattle.std.proofs.Common.{◌≡◌, ◌∙◌, true, false, refl, sym, ap}
+use Rattle.std.specs.Prelude.{is_some}
+use Rattle.std.specs.Option.{option_flatten}
+use Rattle.event_list.specs.Keys.{is_among}
+use Rattle.channel_model.specs.Operations.{borrows_receiver}
+use Rattle.channel_model.specs.declared.step.Refusal.{Refusal}
+use Rattle.channel_model.specs.declared.step.Step.{Step}
+use Rattle.channel_run.specs.StandsFor.{RunView}
+use Rattle.channel_run.specs.RunSteps.{is_borrowed_in}
+use Rattle.channel_run.specs.RunShown.{entry_at, shown, stream_ticket, ticket_at}
+use Rattle.channel_run.proofs.Entries.{is_among-entry_at, list_any-shown}
+use Rattle.channel_run.proofs.RunTables.{flat, stepped-drop_receiver}
+use Rattle.channel_run.proofs.WholeSteps.{IsRefused-unchanged, StepsTo-made, StepsTo-refused, borrowed_handle, not_refused}
+use Rattle.channel_run.proofs.run.Run.drop_receiver.Goals as goal
+
+pub returns-then-is_receiver_borrowed : goal.returns-then-is_receiver_borrowed
+returns-then-is_receiver_borrowed g c =
+    let run = shown c.self.inside.core c.self.inside.senders c.self.inside.receivers.entries c.self.inside.weak_senders
+    c.self.inside.weak_receivers c.self.inside.operations.entries in
+    let step = Step.DropReceiver c.args.name in
+    let known = ap (λ (r : RunView g.row.T.Denot). is_among c.args.name r.receivers) c.self.view_is
+    ∙ sym c.has_receiver.ensures ∙ c.if-not-has_receiver.false in
+    let borrowed : is_borrowed_in run step ≡ true =
+    list_any-shown (λ operation. borrows_receiver c.args.name operation) c.self.inside.operations.entries
+    ∙ sym c.is_receiver_borrowed.ensures ∙ c.if-is_receiver_borrowed.true in
+    rw (← c.self.view_is) (StepsTo-refused run run step Refusal.Borrowed _
+    (borrowed_handle run step known refl borrowed) (IsRefused-unchanged run step Refusal.Borrowed))
+
+pub invariant_of-self : goal.invariant_of-self
+invariant_of-self g c =
+    let known = ap (λ (r : RunView g.row.T.Denot). is_among c.args.name r.receivers) c.self.view_is
+    ∙ sym c.has_receiver.ensures ∙ c.if-not-has_receiver.false in
+    let is = stepped-drop_receiver c.self.inside.core c.self.inside.senders c.self.inside.receivers.entries
+    c.take.new.entries.entries c.self.inside.weak_senders c.self.inside.weak_receivers
+    c.self.inside.operations.entries c.self.invariant c.args.name
+    c.take.ensures.different known c.take.ensures.left
+    (c.take.ensures.fewer (ap (λ found. is_some found) c.take.ensures.value
+    ∙ is_among-entry_at c.self.inside.receivers.entries c.args.name ∙ known)) in
+    let ticket : c.flatten-ticket.result ≡ ticket_at stream_ticket c.self.inside.receivers.entries c.args.name =
+    c.flatten-ticket.ensures ∙ ap (λ found. option_flatten found) c.take.ensures.value
+    ∙ flat (entry_at c.self.inside.receivers.entries c.args.name) in
+    rw (c.drop_receiver.ensures.after, ticket) is.whole
+
+pub returns : goal.returns
+returns g c =
+    let run = shown c.self.inside.core c.self.inside.senders c.self.inside.receivers.entries c.self.inside.weak_senders
+    c.self.inside.weak_receivers c.self.inside.operations.entries in
+    let step = Step.DropReceiver c.args.name in
+    let known = ap (λ (r : RunView g.row.T.Denot). is_among c.args.name r.receivers) c.self.view_is
+    ∙ sym c.has_receiver.ensures ∙ c.if-not-has_receiver.false in
+    let free : is_borrowed_in run step ≡ false =
+    list_any-shown (λ operation. borrows_receiver c.args.name operation) c.self.inside.operations.entries
+    ∙ sym c.is_receiver_borrowed.ensures ∙ c.if-is_receiver_borrowed.false in
+    let is = stepped-drop_receiver c.self.inside.core c.self.inside.senders c.self.inside.receivers.entries
+    c.take.new.entries.entries c.self.inside.weak_senders c.self.inside.weak_receivers
+    c.self.inside.operations.entries c.self.invariant c.args.name
+    c.take.ensures.different known c.take.ensures.left
+    (c.take.ensures.fewer (ap (λ found. is_some found) c.take.ensures.value
+    ∙ is_among-entry_at c.self.inside.receivers.entries c.args.name ∙ known)) in
+    let ticket : c.flatten-ticket.result ≡ ticket_at stream_ticket c.self.inside.receivers.entries c.args.name =
+    c.flatten-ticket.ensures ∙ ap (λ found. option_flatten found) c.take.ensures.value
+    ∙ flat (entry_at c.self.inside.receivers.entries c.args.name) in
+    rw (← c.self.view_is, c.drop_receiver.ensures.after, ticket)
+    (StepsTo-made run _ step _ (not_refused run step known refl free refl) is.made)

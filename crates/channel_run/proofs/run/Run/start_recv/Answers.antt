@@ -1,0 +1,66 @@
+use Rattle.std.proofs.Common.{◌≡◌, ◌∙◌, None, true, false, refl, sym, ap}
+use Rattle.event_list.specs.Keys.{is_among}
+use Rattle.channel_run.specs.declared.operations.Operation.TheVariants.{Recv}
+use Rattle.channel_model.specs.declared.step.Refusal.{Refusal}
+use Rattle.channel_model.specs.declared.step.Step.{Step}
+use Rattle.channel_run.specs.StandsFor.{RunView}
+use Rattle.channel_run.specs.RunSteps.{is_operation_in}
+use Rattle.channel_run.specs.RunShown.{shown}
+use Rattle.channel_run.proofs.Entries.{is_some-shown}
+use Rattle.channel_run.proofs.MadeSteps.{made-start_recv}
+use Rattle.channel_run.proofs.RunTables.{nothing_at, stepped-started}
+use Rattle.channel_run.proofs.RunWants.{wants-name}
+use Rattle.channel_run.proofs.WholeSteps.{IsRefused-unchanged, StepsTo-made, StepsTo-wants, not_refused}
+use Rattle.channel_run.proofs.run.Run.start_recv.Goals as goal
+use Rattle.channel_run.proofs.run.Run.start_recv.Goals.{in-Ok, in-Err}
+
+pub put-requires : goal.put-requires
+put-requires g c = nothing_at c.self.inside.operations.entries c.args.op
+    (sym (is_some-shown c.self.inside.operations.entries c.args.op)
+    ∙ ap (λ (r : RunView g.row.T.Denot). is_operation_in r c.args.op) c.self.view_is ∙ sym c.has_operation.ensures
+    ∙ c.if-has_operation.false)
+
+pub invariant_of-self : goal.invariant_of-self
+invariant_of-self g c =
+    let run = shown c.self.inside.core c.self.inside.senders c.self.inside.receivers.entries c.self.inside.weak_senders
+    c.self.inside.weak_receivers c.self.inside.operations.entries in
+    let absent = nothing_at c.self.inside.operations.entries c.args.op
+    (sym (is_some-shown c.self.inside.operations.entries c.args.op)
+    ∙ ap (λ (r : RunView g.row.T.Denot). is_operation_in r c.args.op) c.self.view_is ∙ sym c.has_operation.ensures
+    ∙ c.if-has_operation.false) in
+    elim c.match-put.branch [
+      | in-Ok w ↦ (stepped-started c.self.inside.core c.self.inside.senders c.self.inside.receivers.entries
+          c.self.inside.weak_senders c.self.inside.weak_receivers c.self.inside.operations.entries c.self.invariant
+          (Step.StartRecv c.args.op c.args.receiver) c.args.op
+          (Recv c.args.receiver None) c.put.new.entries.entries absent refl refl refl w.in-Ok.ensures.added
+          w.in-Ok.ensures.more (made-start_recv run c.args.op c.args.receiver)).whole
+      | in-Err w ↦ rw w.in-Err.ensures.unchanged c.self.invariant
+    ]
+
+pub returns : goal.returns
+returns g c =
+    let run = shown c.self.inside.core c.self.inside.senders c.self.inside.receivers.entries c.self.inside.weak_senders
+    c.self.inside.weak_receivers c.self.inside.operations.entries in
+    let step = Step.StartRecv c.args.op c.args.receiver in
+    let known : is_among c.args.receiver run.receivers ≡ true =
+    ap (λ (r : RunView g.row.T.Denot). is_among c.args.receiver r.receivers) c.self.view_is
+    ∙ sym c.has_receiver.ensures ∙ c.if-not-has_receiver.false in
+    let absent = nothing_at c.self.inside.operations.entries c.args.op
+    (sym (is_some-shown c.self.inside.operations.entries c.args.op)
+    ∙ ap (λ (r : RunView g.row.T.Denot). is_operation_in r c.args.op) c.self.view_is ∙ sym c.has_operation.ensures
+    ∙ c.if-has_operation.false) in
+    let fresh : is_operation_in run c.args.op ≡ false =
+    ap (λ (r : RunView g.row.T.Denot). is_operation_in r c.args.op) c.self.view_is ∙ sym c.has_operation.ensures
+    ∙ c.if-has_operation.false in
+    let allowed = not_refused run step known fresh refl refl in
+    elim c.match-put.branch [
+      | in-Ok w ↦ rw (← c.self.view_is, w.result-is)
+          (StepsTo-made run _ step _ allowed (stepped-started c.self.inside.core c.self.inside.senders
+          c.self.inside.receivers.entries c.self.inside.weak_senders c.self.inside.weak_receivers
+          c.self.inside.operations.entries c.self.invariant step c.args.op
+          (Recv c.args.receiver None) c.put.new.entries.entries absent refl refl refl w.in-Ok.ensures.added
+          w.in-Ok.ensures.more (made-start_recv run c.args.op c.args.receiver)).made)
+      | in-Err w ↦ rw (← c.self.view_is, w.result-is, w.in-Err.ensures.unchanged)
+          (StepsTo-wants run run step _ (wants-name run step allowed refl)
+          (IsRefused-unchanged run step Refusal.OutOfMemory))
+    ]

@@ -1,0 +1,4 @@
+pub mod StandsFor
+pub mod RunSteps
+pub mod RunShown
+pub mod Runs

@@ -1,0 +1,83 @@
+//! Settling: those who were told are polled until nobody is told.
+ghost use Rattle.std.specs.Prelude.{◌≡◌, ◌+◌, ◌≤◌, ◌++◌, ◌∷◌, [], if◌then◌else◌, IfOk, OnErr};
+ghost use Rattle.std.specs.Vec.{vec_len, vec_capacity};
+ghost use Rattle.channel_model.specs.declared.step.Kind.{Kind};
+ghost use Rattle.channel_model.specs.Past.{Past};
+ghost use Rattle.channel_run.specs.StandsFor.{StandsFor};
+ghost use Rattle.channel_run.specs.Runs.{SettlesTo};
+ghost use Rattle.channel_run.specs.RunSteps.{is_ready};
+
+use crate::run::Run;
+use channel_model::{OutOfMemory, Reply, Who};
+
+/// What settling a run came to.
+#[derive(Drop)]
+pub struct Settled<T> {
+    /// How many polls were made.
+    pub polls: u128,
+    /// Those whose poll was ready, each with its reply, in the order of the polls.
+    pub finished: Vec<(Who, Reply<T>)>,
+}
+
+impl<T: Drop> Run<T> {
+    /// Polls those who were told, one after the other, until nobody is told. Then nobody waits who
+    /// could go on.
+    ///
+    /// Each time it polls the first told receive; where none is told, the first told stream, then
+    /// send, then closed operation. A told stream is polled also where a live receive borrows its
+    /// receiver. Where `w` wait, it takes `w * (w + 1) / 2` polls at the most.
+    ///
+    /// Memory is wanted before the first poll alone, for as many replies as there are waiting
+    /// entries.
+    pub fn settle(&mut self) -> Result<Settled<T>, OutOfMemory>
+        ensures settled { IfOk result (λ settled. (kind : Kind) (past : Past T)
+            → StandsFor kind past self.old
+            → SettlesTo kind past settled.polls settled.finished.items self.new) }
+        ensures refused { OnErr result (self.new ≡ self.old) }
+    {
+        let mut finished = self.room_for_replies()?;
+        for polls in 0..u128::MAX {
+            let Some(who) = self.first_told() else {
+                return Ok(Settled { polls, finished });
+            };
+            let reply = self.poll_told(who);
+            keep_ready(&mut finished, who, reply);
+        }
+        // never reached: so many polls are more than the bound
+        Ok(Settled {
+            polls: u128::MAX,
+            finished,
+        })
+    }
+}
+
+// Keeps the reply to a poll, if it was ready.
+fn keep_ready<T: Drop>(finished: &mut Vec<(Who, Reply<T>)>, who: Who, reply: Reply<T>)
+    requires { vec_len finished.old + (if is_ready reply then 1 else 0)
+        ≤ vec_capacity finished.old }
+    ensures kept { finished.new.items
+        ≡ (if is_ready reply then finished.old.items ++ (who, reply) ∷ [] else finished.old.items) }
+    ensures count { vec_len finished.new
+        ≡ vec_len finished.old + (if is_ready reply then 1 else 0) }
+    ensures room { vec_capacity finished.old ≤ vec_capacity finished.new }
+{
+    if is_ready(&reply) {
+        match finished.push((who, reply)) {
+            Ok(()) => {}
+            Err(_) => unreachable!(),
+        }
+    }
+}
+
+// Whether a poll was answered ready.
+fn is_ready<T>(reply: &Reply<T>) -> bool
+    ensures { result ≡ is_ready reply.now }
+{
+    match reply {
+        Reply::SendPolled(poll) => poll.is_ready(),
+        Reply::RecvPolled(poll) => poll.is_ready(),
+        Reply::ClosedPolled(poll) => poll.is_ready(),
+        Reply::NextPolled(poll) => poll.is_ready(),
+        _ => false,
+    }
+}
