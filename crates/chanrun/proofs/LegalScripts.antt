@@ -13,8 +13,8 @@ use Rattle.channel_model.specs.Notices.{rosters}
 use Rattle.channel_model.specs.Answers.{AreAnswers, IsAnswer, message_in, past_after}
 use Rattle.channel_model.specs.Legal.{IsLegal}
 use Rattle.channel_model.specs.Polling.{EndsWell, IsFreePolling, IsSettling, Settles, finished_polls, told_polls}
-use Rattle.chanrun.specs.declared.grammar.Command.{Command}
-use Rattle.chanrun.specs.declared.grammar.Command.TheVariants.{Make, Notice, Settle}
+use Rattle.chanrun.specs.declared.grammar.command.Command.{Command}
+use Rattle.chanrun.specs.declared.grammar.command.Command.TheVariants.{Make, Notice, Settle}
 use Rattle.chanrun.specs.Script.{answer_of, past_behind, past_behind_all, refused_or, settling_polls}
 use Rattle.chanrun.proofs.SettlingPolls.{polls-Settles}
 

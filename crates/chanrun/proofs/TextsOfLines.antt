@@ -9,8 +9,8 @@ use Rattle.chanrun.specs.Device.{AppendsFront, one_more}
 use Rattle.chanrun.specs.Grammar.{command_of, lines_of}
 use Rattle.chanrun.specs.Script.{command_text, commands_of, fault_from, past_behind, texts_after}
 use Rattle.chanrun.specs.Stages.{IsAnswered}
-use Rattle.chanrun.specs.declared.grammar.Command.{Command}
-use Rattle.chanrun.specs.declared.grammar.Fault.{Fault}
+use Rattle.chanrun.specs.declared.grammar.command.Command.{Command}
+use Rattle.chanrun.specs.declared.grammar.fault.Fault.{Fault}
 use Rattle.chanrun.specs.declared.script.ScriptError.{ScriptError}
 use Rattle.chanrun.specs.declared.script.ScriptError.TheVariants.{Fault as FaultAt, Read, Write, OutOfMemory, TooLong}
 use Rattle.chanrun.proofs.Known.{front_more, front_behind, appends_more, nothing_left}

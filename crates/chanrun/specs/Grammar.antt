@@ -11,18 +11,20 @@ use Rattle.channel_model.specs.declared.step.Who.{Who}
 use Rattle.channel_model.specs.declared.step.Who.TheVariants.{Op as OpWho, Receiver as StreamOf}
 use Rattle.channel_model.specs.declared.step.Step.{Step}
 use Rattle.channel_model.specs.declared.step.Step.TheVariants.{TrySend, ForceSend, TryRecv, Close, IsClosed, IsEmpty, IsFull, IsTerminated, Len, SenderCount, ReceiverCount, Capacity, CloneSender, CloneReceiver, CloneWeakSender, CloneWeakReceiver, DowngradeSender, DowngradeReceiver, UpgradeSender, UpgradeReceiver, DropSender, DropReceiver, DropWeakSender, DropWeakReceiver, StartSend, StartRecv, StartClosed, Poll, PollNext, DropOp}
-use Rattle.chanrun.specs.declared.grammar.Command.{Command}
-use Rattle.chanrun.specs.declared.grammar.Command.TheVariants.{Make, Notice, Settle}
-use Rattle.chanrun.specs.declared.grammar.Verb.{Verb}
-use Rattle.chanrun.specs.declared.grammar.Verb.TheVariants as verb
-use Rattle.chanrun.specs.declared.grammar.VerbOnOne.{VerbOnOne}
-use Rattle.chanrun.specs.declared.grammar.VerbOnOne.TheVariants as verb1
-use Rattle.chanrun.specs.declared.grammar.VerbOnTwo.{VerbOnTwo}
-use Rattle.chanrun.specs.declared.grammar.VerbOnTwo.TheVariants as verb2
-use Rattle.chanrun.specs.declared.grammar.Fault.{Fault}
-use Rattle.chanrun.specs.declared.grammar.Fault.TheVariants.{LineTooLong, ChannelMissing, UnknownCommand, WrongWordCount, BadName, BadNumber, CapacityZero, CapacityTooLarge}
-use Rattle.chanrun.specs.declared.grammar.Word.{Word}
-use Rattle.chanrun.specs.declared.grammar.Word.TheVariants.{Number, Sender, Receiver, WeakSender, WeakReceiver, Op, Other}
+use Rattle.chanrun.specs.declared.grammar.line.TheConstants.{LINE_LIMIT}
+use Rattle.chanrun.specs.declared.grammar.word.TheConstants.{CAPACITY_LIMIT}
+use Rattle.chanrun.specs.declared.grammar.command.Command.{Command}
+use Rattle.chanrun.specs.declared.grammar.command.Command.TheVariants.{Make, Notice, Settle}
+use Rattle.chanrun.specs.declared.grammar.verb.Verb.{Verb}
+use Rattle.chanrun.specs.declared.grammar.verb.Verb.TheVariants as verb
+use Rattle.chanrun.specs.declared.grammar.verb.VerbOnOne.{VerbOnOne}
+use Rattle.chanrun.specs.declared.grammar.verb.VerbOnOne.TheVariants as verb1
+use Rattle.chanrun.specs.declared.grammar.verb.VerbOnTwo.{VerbOnTwo}
+use Rattle.chanrun.specs.declared.grammar.verb.VerbOnTwo.TheVariants as verb2
+use Rattle.chanrun.specs.declared.grammar.fault.Fault.{Fault}
+use Rattle.chanrun.specs.declared.grammar.fault.Fault.TheVariants.{LineTooLong, ChannelMissing, UnknownCommand, WrongWordCount, BadName, BadNumber, CapacityZero, CapacityTooLarge}
+use Rattle.chanrun.specs.declared.grammar.word.Word.{Word}
+use Rattle.chanrun.specs.declared.grammar.word.Word.TheVariants.{Number, Sender, Receiver, WeakSender, WeakReceiver, Op, Other}
 
 -- ---- lines, words, numbers and names
 
@@ -252,9 +254,9 @@ abbrev pub command_in : List (List ℕ) → Result Command Fault
 command_in [] = Err UnknownCommand
 command_in (verb ∷ words) = command_by (verb_of verb) (map word_of words)
 
--- what the words of a line of at most 256 bytes say
+-- what the words of a line within the limit say
 abbrev pub within_limit : {A : Type 0} → List ℕ → (List (List ℕ) → Result A Fault) → Result A Fault
-within_limit line read = if nat_lt 256 (length line) then Err LineTooLong else read (words_of line)
+within_limit line read = if nat_lt LINE_LIMIT (length line) then Err LineTooLong else read (words_of line)
 
 -- The command that a line behind the first says, or its first fault.
 abbrev pub command_of : List ℕ → Result Command Fault
@@ -262,11 +264,11 @@ command_of line = within_limit line command_in
 
 -- ---- the first line
 
--- a capacity from 1 to 1,000,000
+-- a capacity, from 1 to the greatest
 abbrev pub capacity_in : Word → Result Kind Fault
 capacity_in (Number number) =
     if number == 0 then Err CapacityZero
-    else if nat_lt 1000000 number then Err CapacityTooLarge
+    else if nat_lt CAPACITY_LIMIT number then Err CapacityTooLarge
     else Ok (Bounded number)
 capacity_in word = Err BadNumber
 

@@ -6,7 +6,7 @@ use Rattle.std.specs.Fmt.{decimal}
 use Rattle.chanrun.specs.Texts.{fault_text}
 use Rattle.chanrun.specs.Script.{script_text, script_fault}
 use Rattle.chanrun.specs.declared.script.TheConstants.{SCRIPT_LIMIT}
-use Rattle.chanrun.specs.declared.grammar.Fault.{Fault}
+use Rattle.chanrun.specs.declared.grammar.fault.Fault.{Fault}
 use Rattle.chanrun.specs.declared.script.ScriptError.{ScriptError}
 use Rattle.chanrun.specs.declared.script.ScriptError.TheVariants.{Fault as FaultAt, Read, Write, OutOfMemory, TooLong}
 

@@ -13,10 +13,10 @@ use Rattle.channel_model.specs.Refusals.{refusal_of}
 use Rattle.channel_model.specs.Answers.{message_in, past_after}
 use Rattle.channel_model.specs.Notices.{notice_of, rosters}
 use Rattle.channel_model.specs.Polling.{finished_polls, most_polls, told_polls, waiting_in}
-use Rattle.chanrun.specs.declared.grammar.Command.{Command}
-use Rattle.chanrun.specs.declared.grammar.Command.TheVariants.{Make, Notice, Settle}
-use Rattle.chanrun.specs.declared.grammar.Fault.{Fault}
-use Rattle.chanrun.specs.declared.grammar.Fault.TheVariants.{ChannelMissing}
+use Rattle.chanrun.specs.declared.grammar.command.Command.{Command}
+use Rattle.chanrun.specs.declared.grammar.command.Command.TheVariants.{Make, Notice, Settle}
+use Rattle.chanrun.specs.declared.grammar.fault.Fault.{Fault}
+use Rattle.chanrun.specs.declared.grammar.fault.Fault.TheVariants.{ChannelMissing}
 use Rattle.chanrun.specs.Grammar.{command_of, kind_of, lines_of}
 use Rattle.chanrun.specs.Texts.{notice_text, reply_text, who_text}
 

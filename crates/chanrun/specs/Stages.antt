@@ -3,7 +3,7 @@ use Rattle.std.specs.Prelude.{◌≡◌, ℕ, ◌+◌, List, length, None, Some,
 use Rattle.std.specs.Io.KnownBytes.{Consumes, Appends}
 use Rattle.chanrun.specs.Device.{one_more, AppendsFront}
 use Rattle.chanrun.specs.declared.script.TheConstants.{SCRIPT_LIMIT}
-use Rattle.chanrun.specs.declared.grammar.Fault.{Fault}
+use Rattle.chanrun.specs.declared.grammar.fault.Fault.{Fault}
 use Rattle.chanrun.specs.declared.script.ScriptError.{ScriptError}
 use Rattle.chanrun.specs.declared.script.ScriptError.TheVariants.{Fault as FaultAt, Read, Write, OutOfMemory, TooLong}
 

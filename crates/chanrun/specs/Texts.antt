@@ -12,8 +12,8 @@ use Rattle.channel_model.specs.declared.step.Reply.{Reply}
 use Rattle.channel_model.specs.declared.step.Reply.TheVariants.{TrySent, Forced, Received, Flag, Count, Capacity, Done, Upgraded, SendPolled, RecvPolled, ClosedPolled, NextPolled, Refused}
 use Rattle.channel_model.specs.declared.step.Who.{Who}
 use Rattle.channel_model.specs.declared.step.Who.TheVariants.{Op, Receiver}
-use Rattle.chanrun.specs.declared.grammar.Fault.{Fault}
-use Rattle.chanrun.specs.declared.grammar.Fault.TheVariants.{LineTooLong, ChannelMissing, UnknownCommand, WrongWordCount, BadName, BadNumber, CapacityZero, CapacityTooLarge}
+use Rattle.chanrun.specs.declared.grammar.fault.Fault.{Fault}
+use Rattle.chanrun.specs.declared.grammar.fault.Fault.TheVariants.{LineTooLong, ChannelMissing, UnknownCommand, WrongWordCount, BadName, BadNumber, CapacityZero, CapacityTooLarge}
 
 -- ---- replies
 

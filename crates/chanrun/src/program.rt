@@ -1,6 +1,6 @@
 //! The whole program over its devices.
 ghost use Rattle.std.specs.Prelude.{◌≡◌, ℕ, ◌<◌, ◌⊎◌, Option, Some, None, IfSome};
-ghost use Rattle.chanrun.specs.declared.grammar.Fault.{Fault};
+ghost use Rattle.chanrun.specs.declared.grammar.fault.Fault.{Fault};
 ghost use Rattle.chanrun.specs.Outcome.{IsDone, status_of};
 
 use crate::device::{Sink, Source};

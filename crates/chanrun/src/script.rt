@@ -12,7 +12,7 @@ ghost use Rattle.chanrun.specs.Texts.{reply_text};
 ghost use Rattle.chanrun.specs.Wants.{wants_memory};
 ghost use Rattle.chanrun.specs.Outcome.{HasRead, IsDone, IsBegun, ending};
 ghost use Rattle.chanrun.specs.Stages.{IsUnread, IsAnswered};
-ghost use Rattle.chanrun.specs.declared.grammar.Command.{Command};
+ghost use Rattle.chanrun.specs.declared.grammar.command.Command.{Command};
 ghost use Rattle.chanrun.specs.declared.script.ScriptError.TheVariants.{OutOfMemory};
 
 use crate::device::{Sink, Source};

@@ -2,7 +2,7 @@ use Rattle.std.proofs.Common.{◌≤◌, length, arith, ◌∙◌, ap, sym}
 use Rattle.std.proofs.lemmas.List.{drop_all}
 use Rattle.chanrun.specs.Digits.{digits_from}
 use Rattle.chanrun.proofs.Numbers.{no_more}
-use Rattle.chanrun.proofs.grammar.digits_of.Goals as goal
+use Rattle.chanrun.proofs.grammar.word.digits_of.Goals as goal
 
 pub returns : goal.returns
 returns c =

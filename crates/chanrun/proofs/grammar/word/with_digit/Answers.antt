@@ -1,6 +1,6 @@
 use Rattle.std.proofs.Common.{arith}
 use Rattle.chanrun.proofs.Numbers.{overflows, with_sum}
-use Rattle.chanrun.proofs.grammar.with_digit.Goals as goal
+use Rattle.chanrun.proofs.grammar.word.with_digit.Goals as goal
 
 pub returns-in_err-checked_mul : goal.returns-in_err-checked_mul
 returns-in_err-checked_mul c =

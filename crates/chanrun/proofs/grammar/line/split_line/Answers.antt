@@ -1,7 +1,7 @@
 use Rattle.std.proofs.Common.{◌+◌, sym}
 use Rattle.std.proofs.lemmas.List.{take_rest}
 use Rattle.chanrun.proofs.Lines.{cut_none, first_line, lines_whole}
-use Rattle.chanrun.proofs.grammar.split_line.Goals as goal
+use Rattle.chanrun.proofs.grammar.line.split_line.Goals as goal
 
 pub returns-in-Some-clause-lines : goal.returns-in-Some-clause-lines
 returns-in-Some-clause-lines c =

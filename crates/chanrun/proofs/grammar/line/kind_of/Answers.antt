@@ -1,6 +1,6 @@
 use Rattle.std.proofs.Common.{arith}
 use Rattle.chanrun.proofs.Words.{has_words, kind_said}
-use Rattle.chanrun.proofs.grammar.kind_of.Goals as goal
+use Rattle.chanrun.proofs.grammar.line.kind_of.Goals as goal
 
 pub returns-clause-said : goal.returns-clause-said
 returns-clause-said c =

@@ -1,7 +1,7 @@
 use Rattle.std.proofs.Common.{◌∙◌, ap, arith}
 use Rattle.chanrun.specs.Grammar.{command_with}
 use Rattle.chanrun.proofs.Words.{command_said, has_words}
-use Rattle.chanrun.proofs.grammar.command_of.Goals as goal
+use Rattle.chanrun.proofs.grammar.line.command_of.Goals as goal
 
 pub returns : goal.returns
 returns c =

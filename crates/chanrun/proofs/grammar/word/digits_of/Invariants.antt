@@ -1,6 +1,6 @@
 use Rattle.std.proofs.Common.{◌≡◌, ◌<◌, ◌^◌, drop}
 use Rattle.chanrun.specs.Digits.{digits_from}
-use Rattle.chanrun.proofs.grammar.digits_of.Given as goal
+use Rattle.chanrun.proofs.grammar.word.digits_of.Given as goal
 
 -- the digits that are left, behind those that were read, spell what all spell
 abbrev pub invariant-loop-byte : goal.invariant-loop-byte

@@ -1,0 +1,114 @@
+//! Lines: where each ends, its words, and what the first line and the others ask for.
+ghost use Rattle.std.specs.Prelude.{◌≡◌, ◌<◌, ◌==◌, ◌∷◌, length, map, position, IfOk};
+ghost use Rattle.std.specs.List.{slice_split};
+ghost use Rattle.channel_model.specs.Capacity.{HasPositiveCapacity};
+ghost use Rattle.chanrun.specs.Grammar.{lines_of, word_of, command_of, kind_of};
+ghost use Rattle.chanrun.specs.Grammar.{bounded_with, unbounded_with, kind_with};
+
+use super::command::{Command, command_with};
+use super::fault::Fault;
+use super::verb::verb_of;
+use super::word::{Word, word_of};
+use channel_model::Kind;
+use std::alloc::{AllocError, Global};
+
+/// How many bytes a line may have, without its end.
+pub const LINE_LIMIT: usize = 256;
+
+// The parts of a line between single spaces.
+fn split_words(alloc: Global, line: &[u8]) -> Result<Vec<&[u8]>, AllocError>
+    ensures { IfOk result (λ words. map (λ word. word.now) words.items ≡ slice_split (λ byte. byte == 32) line.now) }
+{
+    line.split(|byte| *byte == b' ').collect(alloc)
+}
+
+fn words_of(alloc: Global, parts: &[&[u8]]) -> Result<Vec<Word>, AllocError>
+    ensures { IfOk result (λ words. words.items ≡ map (λ part. word_of part.now) parts.now) }
+{
+    parts.iter().map(|part| word_of(part)).collect(alloc)
+}
+
+// Where the first line ends.
+fn line_end(bytes: &[u8]) -> Option<usize>
+    ensures { result ≡ position (λ byte. byte == 10) bytes.now }
+{
+    bytes.iter().position(|byte| *byte == b'\n')
+}
+
+/// The first line without its end, and what stands behind it.
+pub(crate) fn split_line(bytes: &[u8]) -> (&[u8], &[u8])
+    requires { 0 < length bytes.now }
+    ensures lines { lines_of bytes.now ≡ result.0.now ∷ lines_of result.1.now }
+    ensures shorter { length result.1.now < length bytes.now }
+{
+    match line_end(bytes) {
+        Some(end) => (&bytes[..end], &bytes[end + 1..]),
+        None => (bytes, &[]),
+    }
+}
+
+/// What a line behind the first one asks for, or its first fault.
+pub fn command_of(alloc: Global, line: &[u8]) -> Result<Result<Command, Fault>, AllocError>
+    ensures { IfOk result (λ said. said ≡ command_of line.now) }
+{
+    if line.len() > LINE_LIMIT {
+        return Ok(Err(Fault::LineTooLong));
+    }
+    let parts = split_words(alloc, line)?;
+    let [verb, others @ ..] = parts.as_slice() else {
+        return Ok(Err(Fault::UnknownCommand));
+    };
+    let Some(verb) = verb_of(verb) else {
+        return Ok(Err(Fault::UnknownCommand));
+    };
+    let words = words_of(alloc, others)?;
+    Ok(command_with(verb, words.as_slice()))
+}
+
+fn bounded_with(words: &[Word]) -> Result<Kind, Fault>
+    ensures said { result ≡ bounded_with words.now }
+    ensures positive { IfOk result HasPositiveCapacity }
+{
+    match words {
+        [word] => word.capacity(),
+        _ => Err(Fault::WrongWordCount),
+    }
+}
+
+fn unbounded_with(words: &[Word]) -> Result<Kind, Fault>
+    ensures { result ≡ unbounded_with words.now }
+{
+    match words {
+        [] => Ok(Kind::Unbounded),
+        _ => Err(Fault::WrongWordCount),
+    }
+}
+
+fn kind_with(kind: &[u8], words: &[Word]) -> Result<Kind, Fault>
+    ensures said { result ≡ kind_with kind.now words.now }
+    ensures positive { IfOk result HasPositiveCapacity }
+{
+    if kind == b"bounded".as_slice() {
+        bounded_with(words)
+    } else if kind == b"unbounded".as_slice() {
+        unbounded_with(words)
+    } else {
+        Err(Fault::ChannelMissing)
+    }
+}
+
+/// The channel that the first line asks for, or its first fault.
+pub fn kind_of(alloc: Global, line: &[u8]) -> Result<Result<Kind, Fault>, AllocError>
+    ensures said { IfOk result (λ said. said ≡ kind_of line.now) }
+    ensures positive { IfOk result (λ said. IfOk said HasPositiveCapacity) }
+{
+    if line.len() > LINE_LIMIT {
+        return Ok(Err(Fault::LineTooLong));
+    }
+    let parts = split_words(alloc, line)?;
+    let [kind, others @ ..] = parts.as_slice() else {
+        return Ok(Err(Fault::ChannelMissing));
+    };
+    let words = words_of(alloc, others)?;
+    Ok(kind_with(kind, words.as_slice()))
+}
