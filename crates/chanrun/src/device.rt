@@ -19,8 +19,8 @@ pub trait Source {
     /// Whether a read met the end.
     ghost ended: { Self → Bool };
 
-    /// Reads into the front of the buffer, and says how many bytes. For a buffer with room, none says that the
-    /// end is met. An answer of an error is a failure.
+    /// Reads into the front of the buffer, and says how many bytes. For a buffer with room, none
+    /// says that the end is met. An answer of an error is a failure.
     fn read(&mut self, buffer: &mut [u8]) -> io::Result<usize>
         ensures within { ReadsAtMost result buffer.new }
         ensures bytes { ReadConsumes (left self.old) (left self.new) result buffer.new }
@@ -37,13 +37,14 @@ pub trait Sink {
     /// How many writes failed. It stays at the greatest number of 64 bits.
     ghost failures: { Self → ℕ };
 
-    /// Writes the first of these bytes, and says how many. An answer of an error is a failure, and so is none of
-    /// some.
+    /// Writes the first of these bytes, and says how many. An answer of an error is a failure, and
+    /// so is none of some.
     fn write(&mut self, bytes: &[u8]) -> io::Result<usize>
         ensures within { WritesAtMost result bytes.now }
         ensures bytes { WriteAppends (written self.old) (written self.new) result bytes.now }
         ensures failures { failures self.new
-            ≡ (if write_failed result (length bytes.now) then one_more (failures self.old) else failures self.old) };
+            ≡ (if write_failed result (length bytes.now) then one_more (failures self.old)
+            else failures self.old) };
 }
 
 /// A reader or a writer of std, with what contracts say of its calls.
@@ -61,7 +62,11 @@ impl<D> Model for FromStd<D> {
 
     ghost Value = { StdView D };
 
-    ghost view = { λ std. record { device = std.device; failures = std.failures; ended = std.ended } };
+    ghost view = { λ std. record {
+      device = std.device;
+      failures = std.failures;
+      ended = std.ended;
+    } };
 }
 
 impl<D> FromStd<D> {

@@ -1,6 +1,7 @@
 //! What holds of every script.
 //!
-//! The function here does nothing: its contract is a law over the definitions of what is written for a script.
+//! The function here does nothing: its contract is a law over the definitions of what is written
+//! for a script.
 ghost use Rattle.std.specs.Prelude.{ℕ, List, [], length};
 ghost use Rattle.channel_model.specs.declared.step.Kind.{Kind};
 ghost use Rattle.channel_model.specs.Past.{Past};
@@ -12,8 +13,8 @@ ghost use Rattle.chanrun.specs.declared.grammar.command.Command.{Command};
 
 use channel_model::laws;
 
-/// Behind every list of a script's commands stands a past that can come about, and the polls by which a script
-/// settles the channel there are a complete settling.
+/// Behind every list of a script's commands stands a past that can come about, and the polls by
+/// which a script settles the channel there are a complete settling.
 pub fn scripts_settle()
     ensures legal { (kind : Kind) (commands : List Command) → HasPositiveCapacity kind
         → IsLegal kind (past_behind_all kind [] commands) }

@@ -1,4 +1,5 @@
-//! Scripts: lines that name steps on a channel, read as bytes, and the replies to them, written as bytes.
+//! Scripts: lines that name steps on a channel, read as bytes, and the replies to them, written as
+//! bytes.
 //!
 //! ```text
 //! bounded 1
@@ -9,7 +10,8 @@
 //! try_recv r0        closed
 //! ```
 //!
-//! On the left stands a script, on the right what [`script::run_script`] writes for each of its lines.
+//! On the left stands a script, on the right what [`script::run_script`] writes for each of its
+//! lines.
 #![tactic(auto)]
 
 pub mod device;

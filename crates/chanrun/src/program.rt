@@ -40,9 +40,10 @@ fn status_of(error: &ScriptError) -> u8
     }
 }
 
-/// The program over its devices. It answers the exit status: 0 where the whole script was done, 2 for a faulty
-/// line or for arguments, 1 otherwise. A line that says why it isn't 0 goes to `errors`; a failure there changes
-/// nothing. There are no arguments where they couldn't be read for want of memory.
+/// The program over its devices. It answers the exit status: 0 where the whole script was done, 2
+/// for a faulty line or for arguments, 1 otherwise. A line that says why it isn't 0 goes to
+/// `errors`; a failure there changes nothing. There are no arguments where they couldn't be read
+/// for want of memory.
 pub fn program<R: Source, W: Sink, E: Sink>(
     alloc: Global,
     arguments: Option<usize>,
@@ -59,7 +60,8 @@ pub fn program<R: Source, W: Sink, E: Sink>(
         × IsDone (R.left reader.old) (R.left reader.new) (R.ended reader.new)
         (W.written writer.old) (W.written writer.new) (Some fault) }
     ensures known { (result ≡ 0) ⊎ (result ≡ 1) ⊎ (result ≡ 2) }
-    ensures unread { arguments ≡ None → (result ≡ 1) × (reader.new ≡ reader.old) × (writer.new ≡ writer.old) }
+    ensures unread { arguments ≡ None
+        → (result ≡ 1) × (reader.new ≡ reader.old) × (writer.new ≡ writer.old) }
     ensures refused { IfSome arguments (λ count. 0 < count
         → (result ≡ 2) × (reader.new ≡ reader.old) × (writer.new ≡ writer.old)) }
 {

@@ -82,8 +82,8 @@ impl Error for ScriptError {}
 
 // Reads to the end, unless a read fails or the bytes are too many.
 fn read_script<R: Source>(alloc: Global, reader: &mut R) -> Result<Vec<u8>, ScriptError>
-    ensures ok { IfOk result (λ input. HasRead (R.left reader.old) (R.left reader.new) (R.ended reader.new) input.items
-        × (R.failures reader.new ≡ R.failures reader.old)) }
+    ensures ok { IfOk result (λ input. HasRead (R.left reader.old) (R.left reader.new)
+        (R.ended reader.new) input.items × (R.failures reader.new ≡ R.failures reader.old)) }
     ensures err { IfErr result (λ e. IsUnread e (R.left reader.old) (R.left reader.new)
         (R.failures reader.old) (R.failures reader.new)) }
 {
@@ -138,7 +138,8 @@ fn finished_line(alloc: Global, who: Who, reply: Reply<u64>) -> Result<String, A
 
 // The lines for what settling came to.
 fn settled_text(alloc: Global, settled: Settled<u64>) -> Result<String, AllocError>
-    ensures { IfOk result (λ text. string_bytes text ≡ settled_text settled.polls settled.finished.items) }
+    ensures { IfOk result (λ text. string_bytes text
+        ≡ settled_text settled.polls settled.finished.items) }
 {
     let mut text = settled_line(alloc, settled.polls, settled.finished.len())?;
     for (who, reply) in settled.finished {
@@ -162,7 +163,8 @@ fn answer_command(
     command: Command,
 ) -> Result<String, ScriptError>
     ensures ok { (kind : Kind) (past : Past ℕ) → StandsFor kind past run.old → IfOk result (λ text.
-        (string_bytes text ≡ command_text kind past command) × StandsFor kind (past_behind kind past command) run.new) }
+        (string_bytes text ≡ command_text kind past command)
+        × StandsFor kind (past_behind kind past command) run.new) }
     ensures err { IfErr result (λ e. e ≡ ScriptError.OutOfMemory) }
 {
     match command {
@@ -189,14 +191,16 @@ fn answer_line<W: Sink>(
     line: &[u8],
     writer: &mut W,
 ) -> Result<(), ScriptError>
-    ensures ok { (kind : Kind) (past : Past ℕ) → StandsFor kind past run.old → OnOk result ((command : Command)
-        × (command_of line.now ≡ Ok command) × StandsFor kind (past_behind kind past command) run.new
+    ensures ok { (kind : Kind) (past : Past ℕ) → StandsFor kind past run.old
+        → OnOk result ((command : Command) × (command_of line.now ≡ Ok command)
+        × StandsFor kind (past_behind kind past command) run.new
         × Appends (W.written writer.old) (W.written writer.new) (command_text kind past command)
         × (W.failures writer.new ≡ W.failures writer.old)) }
-    ensures err { (kind : Kind) (past : Past ℕ) (others : List (List ℕ)) → StandsFor kind past run.old
-        → IfErr result (λ e. IsAnswered (fault_from number (line.now ∷ others))
+    ensures err { (kind : Kind) (past : Past ℕ) (others : List (List ℕ))
+        → StandsFor kind past run.old → IfErr result (λ e. IsAnswered (fault_from number (line.now ∷ others))
         (texts_after kind past (commands_of (line.now ∷ others))) (Err e)
-        (W.written writer.old) (W.written writer.new) (W.failures writer.old) (W.failures writer.new)) }
+        (W.written writer.old) (W.written writer.new)
+        (W.failures writer.old) (W.failures writer.new)) }
 {
     let command = match command_of(alloc, line)? {
         Ok(command) => command,
@@ -222,7 +226,8 @@ fn answer_lines<W: Sink>(
     requires short { length lines.now ≤ SCRIPT_LIMIT }
     ensures { IsAnswered (fault_from 2 (lines_of lines.now))
         (texts_after kind [] (commands_of (lines_of lines.now))) result
-        (W.written writer.old) (W.written writer.new) (W.failures writer.old) (W.failures writer.new) }
+        (W.written writer.old) (W.written writer.new)
+        (W.failures writer.old) (W.failures writer.new) }
 {
     let mut run = Run::new(alloc, kind)?;
     let mut rest = lines;
@@ -236,11 +241,13 @@ fn answer_lines<W: Sink>(
     Ok(())
 }
 
-// Makes the channel that the first line asks for, and does the other lines in order, up to the first faulty one.
+// Makes the channel that the first line asks for, and does the other lines in order, up to the
+// first faulty one.
 fn answer<W: Sink>(alloc: Global, input: &[u8], writer: &mut W) -> Result<(), ScriptError>
     requires { length input.now ≤ SCRIPT_LIMIT }
     ensures { IsAnswered (script_fault input.now) (script_text input.now) result
-        (W.written writer.old) (W.written writer.new) (W.failures writer.old) (W.failures writer.new) }
+        (W.written writer.old) (W.written writer.new)
+        (W.failures writer.old) (W.failures writer.new) }
 {
     if input.is_empty() {
         return Err(ScriptError::Fault {
@@ -255,27 +262,34 @@ fn answer<W: Sink>(alloc: Global, input: &[u8], writer: &mut W) -> Result<(), Sc
     }
 }
 
-/// Reads a script to its end, and does its lines in order up to the first faulty one. Each reply is written as
-/// it comes.
+/// Reads a script to its end, and does its lines in order up to the first faulty one. Each reply is
+/// written as it comes.
 pub fn run_script<R: Source, W: Sink>(
     alloc: Global,
     reader: &mut R,
     writer: &mut W,
 ) -> Result<(), ScriptError>
-    // `Ok` and `Fault`: the end was met within the limit, and what was written is the text of the bytes read.
-    ensures done { IfSome (ending result) (λ fault. IsDone (R.left reader.old) (R.left reader.new) (R.ended reader.new)
+    // `Ok` and `Fault`: the end was met within the limit, and what was written is the text of the
+    // bytes read.
+    ensures done { IfSome (ending result) (λ fault. IsDone (R.left reader.old)
+        (R.left reader.new) (R.ended reader.new)
         (W.written writer.old) (W.written writer.new) fault) }
     // .. and no call failed.
-    ensures reader_well { IfSome (ending result) (λ _. R.failures reader.new ≡ R.failures reader.old) }
-    ensures writer_well { IfSome (ending result) (λ _. W.failures writer.new ≡ W.failures writer.old) }
+    ensures reader_well { IfSome (ending result)
+        (λ _. R.failures reader.new ≡ R.failures reader.old) }
+    ensures writer_well { IfSome (ending result)
+        (λ _. W.failures writer.new ≡ W.failures writer.old) }
     // `Read`: a read failed, and nothing was written.
     ensures read { IsErrOf result ScriptError.Read
         → (R.failures reader.new ≡ one_more (R.failures reader.old)) × (writer.new ≡ writer.old) }
-    // `Write`: the end was met within the limit, a write failed, and a beginning of the text was written.
-    ensures write { IsErrOf result ScriptError.Write → (W.failures writer.new ≡ one_more (W.failures writer.old))
+    // `Write`: the end was met within the limit, a write failed, and a beginning of the text was
+    // written.
+    ensures write { IsErrOf result ScriptError.Write
+        → (W.failures writer.new ≡ one_more (W.failures writer.old))
         × IsBegun (R.left reader.old) (R.left reader.new) (R.ended reader.new)
         (W.written writer.old) (W.written writer.new) }
-    // `OutOfMemory`: nothing was written, or the end was met and a beginning of the text was written.
+    // `OutOfMemory`: nothing was written, or the end was met and a beginning of the text was
+    // written.
     ensures memory { IsErrOf result ScriptError.OutOfMemory → (writer.new ≡ writer.old)
         ⊎ IsBegun (R.left reader.old) (R.left reader.new) (R.ended reader.new)
         (W.written writer.old) (W.written writer.new) }

@@ -17,7 +17,8 @@ pub const LINE_LIMIT: usize = 256;
 
 // The parts of a line between single spaces.
 fn split_words(alloc: Global, line: &[u8]) -> Result<Vec<&[u8]>, AllocError>
-    ensures { IfOk result (λ words. map (λ word. word.now) words.items ≡ slice_split (λ byte. byte == 32) line.now) }
+    ensures { IfOk result (λ words. map (λ word. word.now) words.items
+        ≡ slice_split (λ byte. byte == 32) line.now) }
 {
     line.split(|byte| *byte == b' ').collect(alloc)
 }

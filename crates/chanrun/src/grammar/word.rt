@@ -1,4 +1,5 @@
-//! A word behind a command: a number, a name, or neither; and what each place of a command asks for.
+//! A word behind a command: a number, a name, or neither; and what each place of a command asks
+//! for.
 ghost use Rattle.std.specs.Prelude.{◌≡◌, ℕ, ◌∷◌, List, MatchOption, IfOk};
 ghost use Rattle.channel_model.specs.Capacity.{HasPositiveCapacity};
 ghost use Rattle.chanrun.specs.Digits.{digits_from};
@@ -40,7 +41,8 @@ fn digits_of(word: &[u8]) -> Option<u64>
 fn with_digit(number: u64, byte: u8) -> Option<u64>
     ensures { MatchOption result
         ((others : List ℕ) → digits_from number (byte ∷ others) ≡ None)
-        (λ longer. (others : List ℕ) → digits_from number (byte ∷ others) ≡ digits_from longer others) }
+        (λ longer. (others : List ℕ) → digits_from number (byte ∷ others)
+        ≡ digits_from longer others) }
 {
     let digit = match byte {
         b'0'..=b'9' => u64::from(byte - b'0'),
