@@ -1,3 +1,5 @@
 mod Refusals
 mod Kept
 mod Marks
+mod Logging
+mod Ready

@@ -3,7 +3,7 @@ ghost use Rattle.std.specs.Prelude.{◌≡◌, ◌<◌, ◌↔◌, ◌≢◌, Is
 ghost use Rattle.std.specs.Arc.{arc_value};
 ghost use Rattle.channel_model.specs.Errors.{message_of};
 ghost use Rattle.async_channel.specs.Stamps.{next_stamp};
-ghost use Rattle.async_channel.specs.Operations.{AreEndsOf};
+ghost use Rattle.async_channel.specs.Operations.{AreEndsOf, handle_of};
 
 use crate::mark::{Mark, Marker};
 use crate::shared::{Link, Shared};
@@ -56,14 +56,14 @@ pub struct Receiver<T: Drop, R: Wait + Clone + Drop> {
     pub(crate) marker: Marker,
 }
 
-/// The tag, and the source that tasks wait for.
+/// The tag, the source that tasks wait for, and the key of the stream's entry.
 impl<T: Drop, R: Wait + Clone + Drop> Model for Receiver<T, R> {
     ghost use Rattle.std.specs.Arc.{arc_value};
-    ghost use Rattle.async_channel.specs.Operations.{HandleView};
+    ghost use Rattle.async_channel.specs.Operations.{ReceiverView};
 
-    ghost Value = { HandleView };
+    ghost Value = { ReceiverView };
 
-    ghost view = { λ handle. record { tag = handle.tag; source = (arc_value handle.link.shared).source.id } };
+    ghost view = { λ handle. record { tag = handle.tag; source = (arc_value handle.link.shared).source.id; ticket = handle.ticket } };
 }
 
 /// Creates a bounded channel, which holds at most `cap` messages at a time.
@@ -190,7 +190,7 @@ impl<T: Drop, R: Wait + Clone + Drop> Sender<T, R> {
         ensures refused { IfOk result (λ answer. IfErr answer (λ error. message_of error ≡ msg)) }
         ensures unsent { IfErr result (λ error. error.0 ≡ msg) }
     {
-        self.link.lock().try_send(msg, &mut self.link.bell())
+        self.link.lock().try_send(msg)
     }
 
     /// Sends a message into the channel, whatever it holds.
@@ -214,14 +214,14 @@ impl<T: Drop, R: Wait + Clone + Drop> Sender<T, R> {
         ensures refused { IfOk result (λ answer. IfErr answer (λ error. error.0 ≡ msg)) }
         ensures unsent { IfErr result (λ error. error.0 ≡ msg) }
     {
-        self.link.lock().force_send(msg, &mut self.link.bell())
+        self.link.lock().force_send(msg)
     }
 
     /// Closes the channel, and answers whether this call closed it.
     ///
     /// The remaining messages can still be received.
     pub fn close(&self) -> bool {
-        self.link.lock().close(&mut self.link.bell())
+        self.link.lock().close()
     }
 
     /// Whether the channel is closed.
@@ -315,7 +315,7 @@ impl<T: Drop, R: Wait + Clone + Drop> Sender<T, R> {
 impl<T: Drop, R: Wait + Clone + Drop> Drop for Sender<T, R> {
     fn drop(self) {
         let Self { tag: _, link } = self;
-        link.lock().drop_sender(&mut link.bell());
+        link.lock().drop_sender();
     }
 }
 
@@ -330,7 +330,7 @@ impl<T: Drop, R: Wait + Clone + Drop> fmt::Debug for Sender<T, R> {
 impl<T: Drop, R: Wait + Clone + Drop> Receiver<T, R> {
     // One without a stream's wait.
     pub(crate) fn new(tag: Tag, link: Link<T, R>) -> Receiver<T, R>
-        ensures { result ≡ record { tag = tag; source = (arc_value link.shared).source.id } }
+        ensures { result ≡ record { tag = tag; source = (arc_value link.shared).source.id; ticket = None } }
     {
         Receiver {
             tag,
@@ -357,14 +357,14 @@ impl<T: Drop, R: Wait + Clone + Drop> Receiver<T, R> {
     /// assert_eq!(rt; r.try_recv(), Err(TryRecvError::Closed));
     /// ```
     pub fn try_recv(&self) -> Result<T, TryRecvError> {
-        self.link.lock().try_recv(&mut self.link.bell())
+        self.link.lock().try_recv()
     }
 
     /// Closes the channel, and answers whether this call closed it.
     ///
     /// The remaining messages can still be received.
     pub fn close(&self) -> bool {
-        self.link.lock().close(&mut self.link.bell())
+        self.link.lock().close()
     }
 
     /// Whether the channel is closed.
@@ -420,7 +420,7 @@ impl<T: Drop, R: Wait + Clone + Drop> Receiver<T, R> {
     ///
     /// It is refused where there are more than `usize::MAX / 2` of them, or memory was refused.
     pub fn try_clone(&self) -> Result<Receiver<T, R>, CloneError>
-        ensures { IfOk result (λ receiver. receiver ≡ self.now) }
+        ensures { IfOk result (λ receiver. receiver ≡ record self.now { ticket = None }) }
     {
         let Ok(link) = self.link.try_clone() else {
             return Err(CloneError::OutOfMemory);
@@ -433,7 +433,7 @@ impl<T: Drop, R: Wait + Clone + Drop> Receiver<T, R> {
 
     /// A weak handle of the channel, which doesn't keep it open.
     pub fn downgrade(&self) -> Result<WeakReceiver<T, R>, OutOfMemory>
-        ensures { IfOk result (λ weak. weak ≡ self.now) }
+        ensures { IfOk result (λ weak. weak ≡ handle_of self.now) }
     {
         let link = self.link.try_clone()?;
         Ok(WeakReceiver {
@@ -451,7 +451,7 @@ impl<T: Drop, R: Wait + Clone + Drop> Drop for Receiver<T, R> {
             mut ticket,
             marker: _,
         } = self;
-        link.lock().drop_receiver(&mut ticket, &mut link.bell());
+        link.lock().drop_receiver(&mut ticket);
     }
 }
 

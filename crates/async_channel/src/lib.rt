@@ -25,9 +25,13 @@
 
 mod blocking;
 mod handles;
+mod locked;
+mod log;
 mod mark;
 mod ops;
+mod polls;
 pub mod record;
+mod ringer;
 mod shared;
 mod stamps;
 mod stream;

@@ -1,16 +1,22 @@
 //! Who waits at a channel, and how it is told.
-ghost use Rattle.std.specs.Prelude.{◌≡◌, OnOk};
+//!
+//! A task's operation and a blocked call each keep their own end of a mark, and leave the other
+//! end in a waiting list. Either end takes memory only where its owner begins to wait.
+ghost use Rattle.std.specs.Prelude.{◌≡◌, true, IfOk, OnOk};
 ghost use Rattle.futures.specs.Task.{Covers, Keeps};
+ghost use Rattle.async_channel.specs.Held.{is_of_task, is_of_thread};
 
-use channel_core::{Bell, OutOfMemory};
+use channel_core::OutOfMemory;
 use futures::task::{Context, Poll, Source, Waker};
 use std::alloc::Global;
-use std::sync::{Arc, Condvar, Mutex, Wait};
+use std::sync::{Arc, Mutex, Wait};
+use std::thread::Parker;
 
 /// Where the waker of an operation's task lies.
 ///
-/// The operation and its entry in a waiting list share it. A waker wakes where it is dropped, so that it
-/// can't lie in the entry itself: a mark that is replaced, or was not needed, is to wake nobody.
+/// The operation and its entry in a waiting list share it. A waker wakes where it is dropped, so
+/// that it can't lie in the entry itself: a mark that is replaced, or was not needed, is to wake
+/// nobody.
 #[derive(Drop)]
 pub(crate) struct Slot {
     waker: Mutex<Option<Waker>>,
@@ -21,11 +27,24 @@ pub(crate) struct Slot {
 pub(crate) enum Mark {
     /// The task whose waker lies in the slot.
     Task(Arc<Slot>),
-    /// A thread that waits at the channel's condition variable.
-    Thread,
+    /// The thread that is parked at the cell, and no other.
+    Thread(Arc<Parker>),
+    /// Nobody: the mark of a poll that is ready.
+    Nobody,
 }
 
-/// An operation's own end of its mark. It takes memory at the first poll.
+impl Mark {
+    /// Drops the waker, which wakes its task, or wakes the thread.
+    pub(crate) fn wake<R: Wait>(self, rt: &R) {
+        match self {
+            Mark::Task(slot) => *slot.waker.lock(rt) = None,
+            Mark::Thread(cell) => cell.unpark(),
+            Mark::Nobody => {}
+        }
+    }
+}
+
+/// An operation's own end of its mark. It takes memory at the first poll that isn't ready.
 #[derive(Drop)]
 pub(crate) struct Marker {
     slot: Option<Arc<Slot>>,
@@ -36,7 +55,8 @@ impl Marker {
         Marker { slot: None }
     }
 
-    /// The mark of one poll. It is refused where no waker could be made, or no memory was left for it.
+    /// The mark of one poll. It is refused where no waker could be made, or no memory was left
+    /// for it.
     pub(crate) fn mark<R: Wait>(
         &mut self,
         rt: &R,
@@ -44,6 +64,7 @@ impl Marker {
         source: &Source,
         cx: &mut Context<'_>,
     ) -> Result<Mark, OutOfMemory>
+        ensures kind { IfOk result (λ mark. is_of_task mark ≡ true) }
         ensures heard { OnOk result (Covers cx.new (λ s. s ≡ source.now.id)) }
         ensures kept { Keeps cx.old cx.new }
     {
@@ -76,30 +97,38 @@ impl Marker {
     }
 }
 
-/// A bell that wakes each mark that it is rung with.
+/// A blocked call's own end of its mark: the cell where its thread is parked. It takes memory
+/// where the call begins to wait.
 #[derive(Drop)]
-pub(crate) struct Ringer<'a, R: Wait> {
-    rt: &'a R,
-    changed: &'a Condvar,
+pub(crate) struct Sleeper {
+    cell: Option<Arc<Parker>>,
 }
 
-impl<'a, R: Wait> Ringer<'a, R> {
-    pub(crate) fn new(rt: &'a R, changed: &'a Condvar) -> Ringer<'a, R> {
-        Ringer { rt, changed }
+impl Sleeper {
+    pub(crate) fn new() -> Sleeper {
+        Sleeper { cell: None }
     }
-}
 
-// What a ring does to other threads no clause can say.
-impl<R: Wait> Bell<Mark> for Ringer<'_, R> {
-    ghost use Rattle.std.specs.Prelude.{⊤};
+    /// The mark of one poll. It is refused where no memory was left for it.
+    pub(crate) fn mark(&mut self, alloc: Global) -> Result<Mark, OutOfMemory>
+        ensures kind { IfOk result (λ mark. is_of_thread mark ≡ true) }
+    {
+        let cell = match self.cell.take() {
+            Some(cell) => cell,
+            None => Arc::new(alloc, Parker::new()).map_err(|_| OutOfMemory)?,
+        };
+        let other = Arc::try_clone(&cell);
+        self.cell = Some(cell);
+        match other {
+            Ok(cell) => Ok(Mark::Thread(cell)),
+            Err(_) => Err(OutOfMemory),
+        }
+    }
 
-    ghost rings = { λ _ _ _. ⊤ };
-
-    /// Drops the waker, which wakes its task, or wakes all threads: those that weren't told wait again.
-    fn ring(&mut self, w: Mark) {
-        match w {
-            Mark::Task(slot) => *slot.waker.lock(self.rt) = None,
-            Mark::Thread => self.changed.notify_all(),
+    /// Sleeps until its mark is rung.
+    pub(crate) fn sleep<R: Wait>(&self, rt: &R) {
+        if let Some(cell) = &self.cell {
+            cell.park(rt);
         }
     }
 }

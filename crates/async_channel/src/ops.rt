@@ -1,5 +1,5 @@
 //! The operations: futures that borrow a handle.
-ghost use Rattle.std.specs.Prelude.{◌≡◌, ⊤, true, false, Some, None, IsTrue, ◌↔◌, OnOk, OnErr};
+ghost use Rattle.std.specs.Prelude.{◌≡◌, ⊤, true, false, Some, None, IsTrue, IsSome, ◌↔◌, OnOk, OnErr};
 ghost use Rattle.async_channel.specs.Operations.{MayGive};
 ghost use Rattle.futures.specs.Poll.{IfReady, OnPending};
 ghost use Rattle.futures.specs.Task.{Covers, Keeps};
@@ -17,9 +17,9 @@ use std::sync::Wait;
 
 /// A future returned by [`Sender::send`].
 ///
-/// It gives `Ok(Ok(()))` once the message is in the channel, the message in a [`SendError`] where the channel
-/// is closed, and `Err` where memory was refused: it is then as it was, and may be polled again. A finished
-/// one stays pending. Dropping it withdraws it, with its message.
+/// It gives `Ok(Ok(()))` once the message is in the channel, the message in a [`SendError`] where
+/// the channel is closed, and `Err` where memory was refused: it is then as it was, and may be
+/// polled again. A finished one stays pending. Dropping it withdraws it, with its message.
 pub struct Send<'a, T: Drop, R: Wait + Clone + Drop> {
     sender: &'a Sender<T, R>,
     message: Option<T>,
@@ -29,9 +29,9 @@ pub struct Send<'a, T: Drop, R: Wait + Clone + Drop> {
 
 /// A future returned by [`Receiver::recv`].
 ///
-/// It gives a message, [`RecvError`] where the channel is closed and empty, and `Err` where memory was
-/// refused: it is then as it was, and may be polled again. A finished one acts as a new one. Dropping it
-/// withdraws it.
+/// It gives a message, [`RecvError`] where the channel is closed and empty, and `Err` where
+/// memory was refused: it is then as it was, and may be polled again. A finished one acts as a
+/// new one. Dropping it withdraws it.
 pub struct Recv<'a, T: Drop, R: Wait + Clone + Drop> {
     receiver: &'a Receiver<T, R>,
     ticket: Option<Ticket>,
@@ -41,8 +41,8 @@ pub struct Recv<'a, T: Drop, R: Wait + Clone + Drop> {
 
 /// A future returned by [`Sender::closed`].
 ///
-/// It completes once no receiver is left, and gives `Err` where memory was refused: it is then as it was, and
-/// may be polled again. A finished one acts as a new one. Dropping it withdraws it.
+/// It completes once no receiver is left, and gives `Err` where memory was refused: it is then as
+/// it was, and may be polled again. A finished one acts as a new one. Dropping it withdraws it.
 pub struct Closed<'a, T: Drop, R: Wait + Clone + Drop> {
     sender: &'a Sender<T, R>,
     ticket: Option<Ticket>,
@@ -50,38 +50,50 @@ pub struct Closed<'a, T: Drop, R: Wait + Clone + Drop> {
     finished: bool,
 }
 
-/// The message of an unfinished send, and the source that its task waits for.
+/// The message of an unfinished send, the source that its task waits for, and the key of its entry.
 impl<'a, T: Drop, R: Wait + Clone + Drop> Model for Send<'a, T, R> {
     ghost use Rattle.async_channel.specs.Operations.{SendView};
 
     ghost Value = { SendView T };
 
-    ghost view = { λ op. record { message = op.message; source = op.sender.now.source } };
+    ghost view = { λ op. record {
+      message = op.message;
+      source = op.sender.now.source;
+      ticket = op.ticket;
+    } };
 }
 
-/// Whether the last poll finished it, and the source that its task waits for.
+/// Whether the last poll finished it, the source that its task waits for, and the key of its entry.
 impl<'a, T: Drop, R: Wait + Clone + Drop> Model for Recv<'a, T, R> {
     ghost use Rattle.async_channel.specs.Operations.{OperationView};
 
     ghost Value = { OperationView };
 
-    ghost view = { λ op. record { finished = op.finished; source = op.receiver.now.source } };
+    ghost view = { λ op. record {
+      finished = op.finished;
+      source = op.receiver.now.source;
+      ticket = op.ticket;
+    } };
 }
 
-/// Whether the last poll finished it, and the source that its task waits for.
+/// Whether the last poll finished it, the source that its task waits for, and the key of its entry.
 impl<'a, T: Drop, R: Wait + Clone + Drop> Model for Closed<'a, T, R> {
     ghost use Rattle.async_channel.specs.Operations.{OperationView};
 
     ghost Value = { OperationView };
 
-    ghost view = { λ op. record { finished = op.finished; source = op.sender.now.source } };
+    ghost view = { λ op. record {
+      finished = op.finished;
+      source = op.sender.now.source;
+      ticket = op.ticket;
+    } };
 }
 
 impl<T: Drop, R: Wait + Clone + Drop> Sender<T, R> {
     /// Sends a message into the channel.
     ///
-    /// The operation waits where the channel is full, and gives an error where it is closed. It does nothing
-    /// until it is polled.
+    /// The operation waits where the channel is full, and gives an error where it is closed. It
+    /// does nothing until it is polled.
     ///
     /// # Examples
     ///
@@ -93,7 +105,7 @@ impl<T: Drop, R: Wait + Clone + Drop> Sender<T, R> {
     /// assert_eq!(rt; block_on(&rt, s.send(2))?, Ok(Err(SendError(2))));
     /// ```
     pub fn send(&self, msg: T) -> Send<'_, T, R>
-        ensures { result ≡ record { message = Some msg; source = self.now.source } }
+        ensures { result ≡ record { message = Some msg; source = self.now.source; ticket = None } }
     {
         Send {
             sender: self,
@@ -105,8 +117,8 @@ impl<T: Drop, R: Wait + Clone + Drop> Sender<T, R> {
 
     /// Completes when all receivers have dropped.
     ///
-    /// This tells producers that nobody wants their messages any more. A channel that is closed by hand, or by
-    /// its last sender, may still have receivers.
+    /// This tells producers that nobody wants their messages any more. A channel that is closed
+    /// by hand, or by its last sender, may still have receivers.
     ///
     /// # Examples
     ///
@@ -116,7 +128,7 @@ impl<T: Drop, R: Wait + Clone + Drop> Sender<T, R> {
     /// assert_eq!(rt; block_on(&rt, s.closed())?, Ok(()));
     /// ```
     pub fn closed(&self) -> Closed<'_, T, R>
-        ensures { result ≡ record { finished = false; source = self.now.source } }
+        ensures { result ≡ record { finished = false; source = self.now.source; ticket = None } }
     {
         Closed {
             sender: self,
@@ -130,7 +142,8 @@ impl<T: Drop, R: Wait + Clone + Drop> Sender<T, R> {
 impl<T: Drop, R: Wait + Clone + Drop> Receiver<T, R> {
     /// Receives a message from the channel.
     ///
-    /// The operation waits where the channel is empty, and gives an error where it is closed and empty.
+    /// The operation waits where the channel is empty, and gives an error where it is closed and
+    /// empty.
     ///
     /// # Examples
     ///
@@ -144,7 +157,7 @@ impl<T: Drop, R: Wait + Clone + Drop> Receiver<T, R> {
     /// assert_eq!(rt; block_on(&rt, r.recv())?, Ok(Err(RecvError)));
     /// ```
     pub fn recv(&self) -> Recv<'_, T, R>
-        ensures { result ≡ record { finished = false; source = self.now.source } }
+        ensures { result ≡ record { finished = false; source = self.now.source; ticket = None } }
     {
         Recv {
             receiver: self,
@@ -188,23 +201,23 @@ impl<T: Drop, R: Wait + Clone + Drop> Future for Send<'_, T, R> {
     fn poll(&mut self, cx: &mut Context<'_>) -> Poll<Self::Output>
         ensures value { IfReady result (MayGive self.old.message) }
         ensures again { OnPending result ⊤ }
-        ensures same { OnPending result ((x : _) → MayGive self.new.message x → MayGive self.old.message x) }
+        ensures same { OnPending result ((x : _) → MayGive self.new.message x → MayGive
+            self.old.message x) }
         ensures registered { OnPending result (Covers cx.new (λ source. source ≡ self.new.source)) }
         ensures kept { Keeps cx.old cx.new }
 
-        ensures finished { IfReady result (λ answer. OnOk answer (self.new ≡ record self.old { message = None })) }
+        ensures finished { IfReady result (λ answer. OnOk answer (self.new ≡ record self.old {
+          message = None;
+          ticket = None;
+        })) }
         ensures refused { IfReady result (λ answer. OnErr answer (self.new ≡ self.old)) }
-        ensures waits { OnPending result (self.new ≡ self.old) }
+        ensures waits { OnPending result (self.new ≡ record self.old { ticket = self.new.ticket }) }
+        ensures holds { OnPending result (IsSome self.old.message → IsSome self.new.ticket) }
+        ensures rests { OnPending result (self.old.message ≡ None → self.new ≡ self.old) }
     {
         let sender = self.sender;
-        let link = &sender.link;
-        let shared = &*link.shared;
-        let mut core = link.lock();
-        let Ok(mark) = self.marker.mark(&link.rt, shared.alloc, &shared.source, cx) else {
-            return Poll::Ready(Err(OutOfMemory));
-        };
-        let polled = core.poll_send(&mut self.message, &mut self.ticket, mark, &mut link.bell());
-        match polled {
+        let mut locked = sender.link.lock();
+        match locked.poll_send(&mut self.message, &mut self.ticket, &mut self.marker, cx) {
             Ok(Poll::Ready(answer)) => Poll::Ready(Ok(answer)),
             Ok(Poll::Pending) => Poll::Pending,
             Err(OutOfMemory) => Poll::Ready(Err(OutOfMemory)),
@@ -221,8 +234,7 @@ impl<T: Drop, R: Wait + Clone + Drop> Drop for Send<'_, T, R> {
             marker: _,
         } = self;
         if ticket.is_some() {
-            let link = &sender.link;
-            link.lock().cancel_send(&mut ticket, &mut link.bell());
+            sender.link.lock().cancel_send(&mut ticket);
         }
     }
 }
@@ -248,18 +260,21 @@ impl<T: Drop, R: Wait + Clone + Drop> Future for Recv<'_, T, R> {
         ensures registered { OnPending result (Covers cx.new (λ source. source ≡ self.new.source)) }
         ensures kept { Keeps cx.old cx.new }
 
-        ensures finished { IfReady result (λ answer. OnOk answer (self.new ≡ record self.old { finished = true })) }
+        ensures finished { IfReady result (λ answer. OnOk answer (self.new ≡ record self.old {
+          finished = true;
+          ticket = None;
+        })) }
         ensures refused { IfReady result (λ answer. OnErr answer (self.new ≡ self.old)) }
-        ensures waits { OnPending result (self.new ≡ record self.old { finished = false }) }
+        ensures waits { OnPending result (self.new ≡ record self.old {
+          finished = false;
+          ticket =
+              self.new.ticket;
+        }) }
+        ensures holds { OnPending result (IsSome self.new.ticket) }
     {
         let receiver = self.receiver;
-        let link = &receiver.link;
-        let shared = &*link.shared;
-        let mut core = link.lock();
-        let Ok(mark) = self.marker.mark(&link.rt, shared.alloc, &shared.source, cx) else {
-            return Poll::Ready(Err(OutOfMemory));
-        };
-        match core.poll_recv(&mut self.ticket, mark, &mut link.bell()) {
+        let mut locked = receiver.link.lock();
+        match locked.poll_recv(&mut self.ticket, &mut self.marker, cx) {
             Ok(Poll::Ready(answer)) => {
                 self.finished = true;
                 Poll::Ready(Ok(answer))
@@ -282,8 +297,7 @@ impl<T: Drop, R: Wait + Clone + Drop> Drop for Recv<'_, T, R> {
             finished: _,
         } = self;
         if ticket.is_some() {
-            let link = &receiver.link;
-            link.lock().cancel_recv(&mut ticket, &mut link.bell());
+            receiver.link.lock().cancel_recv(&mut ticket);
         }
     }
 }
@@ -309,18 +323,21 @@ impl<T: Drop, R: Wait + Clone + Drop> Future for Closed<'_, T, R> {
         ensures registered { OnPending result (Covers cx.new (λ source. source ≡ self.new.source)) }
         ensures kept { Keeps cx.old cx.new }
 
-        ensures finished { IfReady result (λ answer. OnOk answer (self.new ≡ record self.old { finished = true })) }
+        ensures finished { IfReady result (λ answer. OnOk answer (self.new ≡ record self.old {
+          finished = true;
+          ticket = None;
+        })) }
         ensures refused { IfReady result (λ answer. OnErr answer (self.new ≡ self.old)) }
-        ensures waits { OnPending result (self.new ≡ record self.old { finished = false }) }
+        ensures waits { OnPending result (self.new ≡ record self.old {
+          finished = false;
+          ticket =
+              self.new.ticket;
+        }) }
+        ensures holds { OnPending result (IsSome self.new.ticket) }
     {
         let sender = self.sender;
-        let link = &sender.link;
-        let shared = &*link.shared;
-        let mut core = link.lock();
-        let Ok(mark) = self.marker.mark(&link.rt, shared.alloc, &shared.source, cx) else {
-            return Poll::Ready(Err(OutOfMemory));
-        };
-        match core.poll_closed(&mut self.ticket, mark) {
+        let mut locked = sender.link.lock();
+        match locked.poll_closed(&mut self.ticket, &mut self.marker, cx) {
             Ok(Poll::Ready(())) => {
                 self.finished = true;
                 Poll::Ready(Ok(()))

@@ -1,12 +1,25 @@
 //! What the handles of a channel share, and how each of them gets at it.
-ghost use Rattle.std.specs.Prelude.{◌≡◌, IfOk};
+ghost use Rattle.std.specs.Prelude.{◌≡◌, [], IfOk};
 ghost use Rattle.std.specs.Arc.{arc_value};
 
-use crate::mark::{Mark, Ringer};
+use crate::locked::Locked;
+use crate::mark::Mark;
 use channel_core::{Core, OutOfMemory};
 use futures::task::Source;
 use std::alloc::Global;
-use std::sync::{Arc, Condvar, Mutex, MutexGuard, Wait};
+use std::sync::{Arc, Mutex, MutexGuard, Wait};
+use std::thread;
+
+/// How often a thread looks again before it sleeps: at the lock, and at the channel in a blocking
+/// call.
+///
+/// Ten looks were measured to pay: one producer and one consumer at 128 places took 3.8 times as
+/// long as the original without them, and 0.7 times with them.
+pub(crate) const LOOKS: u32 = 10;
+
+// How often a thread gives others a turn between two looks at the lock. Spinning in place of that
+// took two to three times as long.
+const YIELDS: u32 = 4;
 
 /// What all handles of a channel share.
 #[derive(Drop)]
@@ -14,12 +27,11 @@ pub(crate) struct Shared<T> {
     pub(crate) alloc: Global,
     // What tasks wait for, by its name.
     pub(crate) source: Source,
-    pub(crate) core: Mutex<Core<T, Mark>>,
-    // Where blocking calls wait.
-    pub(crate) changed: Condvar,
+    core: Mutex<Core<T, Mark>>,
 }
 
-/// What each handle has of its channel: the shared part, and the runtime by which it takes the lock.
+/// What each handle has of its channel: the shared part, and the runtime by which it takes the
+/// lock.
 #[derive(Drop)]
 pub(crate) struct Link<T, R> {
     pub(crate) shared: Arc<Shared<T>>,
@@ -32,20 +44,42 @@ impl<T: Drop> Shared<T> {
             alloc,
             source: Source::new(),
             core: Mutex::new(core),
-            changed: Condvar::new(),
         }
+    }
+
+    // The lock, which is mostly free.
+    #[inline(always)]
+    fn lock<R: Wait>(&self, rt: &R) -> MutexGuard<'_, Core<T, Mark>> {
+        match self.core.try_lock() {
+            Some(guard) => guard,
+            None => self.lock_in_turns(rt),
+        }
+    }
+
+    // The lock, where somebody has it. Others get turns before this thread asks for it: whoever
+    // has it then takes several steps, and its cache lines stay where they are.
+    fn lock_in_turns<R: Wait>(&self, rt: &R) -> MutexGuard<'_, Core<T, Mark>> {
+        for _ in 0..LOOKS {
+            for _ in 0..YIELDS {
+                thread::yield_now();
+            }
+            if let Some(guard) = self.core.try_lock() {
+                return guard;
+            }
+        }
+        self.core.lock(rt)
     }
 }
 
 impl<T: Drop, R: Wait> Link<T, R> {
-    /// The locked core. Each call of it is one step of the channel.
-    pub(crate) fn lock(&self) -> MutexGuard<'_, Core<T, Mark>> {
-        self.shared.core.lock(&self.rt)
-    }
-
-    /// The bell that a step under the lock rings.
-    pub(crate) fn bell(&self) -> Ringer<'_, R> {
-        Ringer::new(&self.rt, &self.shared.changed)
+    /// The channel while its lock is held. Each call of it is one step of the channel.
+    #[inline(always)]
+    pub(crate) fn lock(&self) -> Locked<'_, T, R>
+        ensures silent { result.rung ≡ [] }
+        ensures source { result.source ≡ (arc_value self.now.shared).source.id }
+    {
+        let shared = &*self.shared;
+        Locked::new(shared.lock(&self.rt), shared, &self.rt)
     }
 }
 

@@ -1,5 +1,5 @@
 //! The stream of a receiver.
-ghost use Rattle.std.specs.Prelude.{◌≡◌, ⊤, [], IfSome, OnSome};
+ghost use Rattle.std.specs.Prelude.{◌≡◌, ⊤, [], None, IfSome, OnSome, OnOk, OnErr, IsSome};
 ghost use Rattle.channel_model.specs.declared.errors.OutOfMemory.{OutOfMemory};
 ghost use Rattle.futures.specs.Poll.{IfReady, OnPending};
 ghost use Rattle.futures.specs.Runs.{After, Within};
@@ -12,10 +12,11 @@ use futures::Stream;
 use futures::task::{Context, Poll};
 use std::sync::Wait;
 
-/// The messages of a channel, as this receiver gets them. The stream ends where the channel is closed and
-/// empty.
+/// The messages of a channel, as this receiver gets them. The stream ends where the channel is
+/// closed and empty.
 impl<T: Drop, R: Wait + Clone + Drop> Stream for Receiver<T, R> {
-    /// A message, or `Err` where memory was refused: the stream is then as it was, and may be polled again.
+    /// A message, or `Err` where memory was refused: the stream is then as it was, and may be
+    /// polled again.
     type Item = Result<T, OutOfMemory>;
 
     ghost needs = { λ receiver source. source ≡ receiver.source };
@@ -31,15 +32,17 @@ impl<T: Drop, R: Wait + Clone + Drop> Stream for Receiver<T, R> {
         ensures registered { OnPending result (Covers cx.new (λ source. source ≡ self.new.source)) }
         ensures kept { Keeps cx.old cx.new }
 
-        ensures unchanged { self.new ≡ self.old }
+        ensures gives { IfReady result
+            (λ o. IfSome o (λ item. OnOk item (self.new ≡ record self.old { ticket = None }))) }
+        ensures ends { IfReady result
+            (λ o. o ≡ None → self.new ≡ record self.old { ticket = None }) }
+        ensures refused { IfReady result (λ o. IfSome o (λ item. OnErr item (self.new ≡
+            self.old))) }
+        ensures waits { OnPending result (self.new ≡ record self.old { ticket = self.new.ticket }) }
+        ensures holds { OnPending result (IsSome self.new.ticket) }
     {
-        let link = &self.link;
-        let shared = &*link.shared;
-        let mut core = link.lock();
-        let Ok(mark) = self.marker.mark(&link.rt, shared.alloc, &shared.source, cx) else {
-            return Poll::Ready(Some(Err(OutOfMemory)));
-        };
-        match core.poll_next(&mut self.ticket, mark, &mut link.bell()) {
+        let mut locked = self.link.lock();
+        match locked.poll_next(&mut self.ticket, &mut self.marker, cx) {
             Ok(Poll::Ready(item)) => Poll::Ready(item.map(Ok)),
             Ok(Poll::Pending) => Poll::Pending,
             Err(OutOfMemory) => Poll::Ready(Some(Err(OutOfMemory))),

@@ -34,7 +34,7 @@ fn channel<T: Drop, R: Wait + Clone + Drop>(
 /// Takes turns until as many wait in the group.
 fn are_waiting<T: Drop, R: Wait>(link: &Link<T, R>, group: Group, count: usize) -> bool {
     for _ in 0..TURNS {
-        if link.lock().waiting(group) == count {
+        if link.lock().core().waiting(group) == count {
             return true;
         }
         thread::yield_now();
@@ -55,8 +55,8 @@ fn is_set(flag: &AtomicBool) -> bool {
 
 /// How many wait in the group, and how many of them are told.
 fn numbers<T: Drop, R: Wait>(link: &Link<T, R>, group: Group) -> (usize, usize) {
-    let core = link.lock();
-    (core.waiting(group), core.told(group))
+    let locked = link.lock();
+    (locked.core().waiting(group), locked.core().told(group))
 }
 
 fn is_pending<F: Future>(task: &MockTask, future: &mut F) -> bool

@@ -1,5 +1,6 @@
 //! Handles that don't keep a channel open.
 ghost use Rattle.std.specs.Prelude.{◌≡◌, IfOk, IfSome, Some, codes};
+ghost use Rattle.async_channel.specs.Operations.{receiver_at};
 
 use crate::handles::{Receiver, Sender};
 use crate::shared::Link;
@@ -109,7 +110,7 @@ impl<T: Drop, R: Wait + Clone + Drop> WeakReceiver<T, R> {
     /// It is refused where memory was refused or, on an open channel, there are more than `usize::MAX / 2`
     /// receivers.
     pub fn upgrade(&self) -> Result<Option<Receiver<T, R>>, CloneError>
-        ensures { IfOk result (λ upgraded. IfSome upgraded (λ receiver. receiver ≡ self.now)) }
+        ensures { IfOk result (λ upgraded. IfSome upgraded (λ receiver. receiver ≡ receiver_at self.now)) }
     {
         let Ok(link) = self.link.try_clone() else {
             return Err(CloneError::OutOfMemory);

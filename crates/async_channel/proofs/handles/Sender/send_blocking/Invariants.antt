@@ -1,8 +1,6 @@
-use Rattle.std.proofs.Common.{◌≡◌, Some}
+use Rattle.std.proofs.Common.{◌≡◌}
 use Rattle.async_channel.proofs.handles.Sender.send_blocking.Given as goal
 
--- the message is still there, so that each round may hand it back
+-- the message is still there, so that each look may hand it back
 abbrev pub invariant-loop : goal.invariant-loop
-invariant-loop g l =
-    (goal.iterator-loop g).can_next l.iterator' × (goal.iterator-loop g).is_finite l.iterator'
-    × (l.message ≡ Some l.fn.msg)
+invariant-loop g l = l.message ≡ l.fn.msg

@@ -1,0 +1,64 @@
+-- What is rung at a bell that keeps a log stands behind what was there.
+use Rattle.std.proofs.Common.{◌≡◌, sym, ap, ◌∙◌, ℕ, List, [], ◌∷◌, ◌++◌, Bool, true, false, Option, Some, None, Result, Ok, Err, OnOk, refl}
+use Rattle.std.specs.Prelude.{slice_get, is_some}
+use Rattle.std.proofs.lemmas.List.{append_assoc, append-nil}
+use Rattle.event_list.specs.Waiting.{RingsEach}
+use Rattle.futures.specs.declared.task.Poll.{Poll}
+use Rattle.futures.specs.declared.task.Poll.TheVariants.{Ready, Pending}
+use Rattle.channel_model.specs.Tables.{OnReady}
+use Rattle.channel_core.specs.Channel.{Channel, Change}
+use Rattle.async_channel.specs.declared.mark.Mark.{Mark}
+use Rattle.async_channel.specs.Held.{Held, then}
+
+-- the log from before, and then what is rung
+abbrev pub Logs : {W : Type 0} → List W → W → List W → Type 0
+Logs earlier payload later = later ≡ earlier ++ payload ∷ []
+
+module _ {W : Type 0} where
+  pub logs : (before payloads after : List W) → RingsEach Logs before payloads after → after ≡ before ++ payloads
+  logs before [] after rung = rung ∙ sym (append-nil before)
+  logs before (payload ∷ rest) after rung =
+      logs rung.0 rest after rung.2 ∙ ap (λ (log : List W). log ++ rest) rung.1
+      ∙ append_assoc before (payload ∷ []) rest
+
+module _ {T : Type 0} (step : Channel T Mark → Change T Mark) (held : Held T) (start : Channel T Mark)
+    (bell : List Mark) (source : ℕ) (channel : Channel T Mark) (log : List Mark)
+    (is : record { channel = start; rung = bell; source = source } ≡ held) where
+  -- a step of the core that rings the log's bell
+  pub steps : channel ≡ (step start).channel → RingsEach Logs bell (step start).rung log
+      → record { channel = channel; rung = log; source = source } ≡ then step held
+  steps after rung =
+      ap (λ (left : Channel T Mark). record { channel = left; rung = log; source = source }) after
+      ∙ ap (λ (rings : List Mark). record { channel = (step start).channel; rung = rings; source = source })
+      (logs bell (step start).rung log rung)
+      ∙ ap (then step) is
+
+  -- one that may be refused
+  pub steps_or_not : {A E : Type 0} (result : Result A E) → OnOk result (channel ≡ (step start).channel)
+      → OnOk result (RingsEach Logs bell (step start).rung log)
+      → OnOk result (record { channel = channel; rung = log; source = source } ≡ then step held)
+  steps_or_not (Ok answer) after rung = steps after rung
+  steps_or_not (Err error) after rung = tt
+
+  -- one of a poll that may be pending
+  pub steps_if_ready : {A E : Type 0} (result : Result (Poll A) E)
+      → OnReady result (channel ≡ (step start).channel)
+      → OnReady result (RingsEach Logs bell (step start).rung log)
+      → OnReady result (record { channel = channel; rung = log; source = source } ≡ then step held)
+  steps_if_ready (Ok (Ready answer)) after rung = steps after rung
+  steps_if_ready (Ok Pending) after rung = tt
+  steps_if_ready (Err error) after rung = tt
+
+-- A longer log begins as before, or with what is new where it was empty.
+module _ {W : Type 0} where
+  pub first_of_one : (first : Option W) (log after : List W) (mark : W) → first ≡ slice_get log 0
+      → after ≡ log ++ mark ∷ [] → is_some first ≡ false → Some mark ≡ slice_get after 0
+  first_of_one (Some other) log after mark is more none = absurd (cc none)
+  first_of_one None [] after mark is more none = rw more refl
+  first_of_one None (rung ∷ log) after mark is more none = absurd (cc is)
+
+  pub first_kept : (first : Option W) (log after : List W) (mark : W) → first ≡ slice_get log 0
+      → after ≡ log ++ mark ∷ [] → is_some first ≡ true → first ≡ slice_get after 0
+  first_kept None log after mark is more some = absurd (cc some)
+  first_kept (Some first) [] after mark is more some = absurd (cc is)
+  first_kept (Some first) (rung ∷ log) after mark is more some = rw more is

@@ -1,0 +1,76 @@
+-- What contracts see of a channel while its lock is held.
+use Rattle.std.specs.Prelude.{◌≡◌, ◌==◌, ℕ, Bool, true, false, List, ◌++◌, Option, Result}
+use Rattle.futures.specs.declared.task.Poll.{Poll}
+use Rattle.futures.specs.declared.task.Poll.TheVariants.{Ready, Pending}
+use Rattle.channel_model.specs.declared.errors.SendError.{SendError}
+use Rattle.channel_model.specs.declared.errors.RecvError.{RecvError}
+use Rattle.channel_model.specs.Tables.{send_poll, recv_poll, next_poll, closed_poll}
+use Rattle.channel_core.specs.Channel.{Channel, Change, is_channel_full, oldest}
+use Rattle.channel_core.specs.Tickets.{handed_on, rung_by_handing_on}
+use Rattle.async_channel.specs.declared.mark.Mark.{Mark}
+use Rattle.async_channel.specs.declared.mark.Mark.TheVariants.{Task, Thread, Nobody}
+
+-- The channel, the marks that were rung since the lock was taken, in order, and the name of the
+-- source that tasks wait for.
+pub record Held (T : Type 0) : Type 0 where
+  pub channel : Channel T Mark
+  pub rung : List Mark
+  pub source : ℕ
+
+-- The two kinds of marks by which somebody can be woken.
+abbrev pub is_of_task : Mark → Bool
+is_of_task (Task slot) = true
+is_of_task (Thread cell) = false
+is_of_task Nobody = false
+
+abbrev pub is_of_thread : Mark → Bool
+is_of_thread (Task slot) = false
+is_of_thread (Thread cell) = true
+is_of_thread Nobody = false
+
+-- whether a poll can't go on
+abbrev pub is_pending : {A : Type 0} → Poll A → Bool
+is_pending (Ready answer) = false
+is_pending Pending = true
+
+-- There is a mark of the kind that makes the fact true.
+pub record WithMark (kind : Mark → Bool) (Fact : Mark → Type 0) : Type 0 where
+  pub mark : Mark
+  pub is_of : kind mark ≡ true
+  pub holds : Fact mark
+
+module _ {T : Type 0} where
+  -- A step that is made while the lock is held: what it rings stands behind what was rung before.
+  abbrev pub then : (Channel T Mark → Change T Mark) → Held T → Held T
+  then step held = record held {
+    channel = (step held.channel).channel;
+    rung = held.rung ++ (step held.channel).rung;
+  }
+
+  -- a send's wait is given up, and a notice that it had goes on
+  abbrev pub send_cancelled : Option ℕ → Channel T Mark → Change T Mark
+  send_cancelled ticket channel = record {
+    channel = record channel { sends = handed_on ticket channel.sends };
+    rung = rung_by_handing_on ticket channel.sends;
+  }
+
+  -- a receive's wait is given up, and a notice that it had goes on
+  abbrev pub recv_cancelled : Option ℕ → Channel T Mark → Change T Mark
+  recv_cancelled ticket channel = record {
+    channel = record channel { receives = handed_on ticket channel.receives };
+    rung = rung_by_handing_on ticket channel.receives;
+  }
+
+  -- ### What polls answer
+
+  abbrev pub send_reply : Option T → Channel T Mark → Poll (Result (Unit {0}) (SendError T))
+  send_reply message channel = send_poll message channel.closed (is_channel_full channel)
+
+  abbrev pub recv_reply : Channel T Mark → Poll (Result T RecvError)
+  recv_reply channel = recv_poll (oldest channel) channel.closed
+
+  abbrev pub next_reply : Channel T Mark → Poll (Option T)
+  next_reply channel = next_poll (oldest channel) channel.closed
+
+  abbrev pub closed_reply : Channel T Mark → Poll (Unit {0})
+  closed_reply channel = closed_poll (channel.receivers == 0)

@@ -1,0 +1,269 @@
+//! A channel while its lock is held.
+//!
+//! Whoever takes the lock gets a [`Locked`]: the channel, and the bell with which its steps tell
+//! others. Each call of it is one step of the channel. Where it is dropped, the lock is free
+//! first, and then who was told first is woken.
+ghost use Rattle.std.specs.Prelude.{◌≡◌, ◌==◌, ◌&&◌, length, [], None, IfOk, IfErr, OnOk, OnErr, not};
+ghost use Rattle.channel_model.specs.Tables.{try_send_answer, force_send_answer, try_recv_answer};
+ghost use Rattle.channel_core.specs.Channel.{is_channel_full, oldest, GrowsWithMessages, sent, force_sent, received, closing, sender_dropped, receiver_dropped_by};
+ghost use Rattle.channel_core.specs.Counts.{may_add, count_added, upgrade_answer, count_upgraded};
+ghost use Rattle.channel_core.specs.Tickets.{left};
+ghost use Rattle.async_channel.specs.Held.{then, send_cancelled, recv_cancelled};
+
+use crate::mark::Mark;
+use crate::ringer::Ringer;
+use crate::shared::Shared;
+use channel_core::{Core, NoMemory, SendError, Ticket, TryRecvError, TrySendError, Upgrade};
+use std::marker::Model;
+use std::sync::{MutexGuard, Wait};
+
+/// A channel while its lock is held, and those to be woken behind it.
+pub(crate) struct Locked<'a, T: Drop, R: Wait> {
+    pub(crate) core: MutexGuard<'a, Core<T, Mark>>,
+    pub(crate) bell: Ringer<'a, R>,
+    // Where its memory comes from, and what its tasks wait for.
+    pub(crate) shared: &'a Shared<T>,
+}
+
+/// The channel, the marks that were rung since the lock was taken, in order, and the source that
+/// tasks wait for.
+impl<'a, T: Drop, R: Wait> Model for Locked<'a, T, R> {
+    ghost use Rattle.std.specs.Sync.Mutex.{mutex_guard_value};
+    ghost use Rattle.async_channel.specs.Held.{Held};
+
+    ghost Value = { Held T };
+
+    ghost view = { λ locked. record {
+      channel = mutex_guard_value locked.core;
+      rung = locked.bell;
+      source = locked.shared.now.source.id;
+    } };
+}
+
+impl<'a, T: Drop, R: Wait> Locked<'a, T, R> {
+    #[inline(always)]
+    pub(crate) fn new(
+        core: MutexGuard<'a, Core<T, Mark>>,
+        shared: &'a Shared<T>,
+        rt: &'a R,
+    ) -> Locked<'a, T, R>
+        ensures silent { result.rung ≡ [] }
+        ensures source { result.source ≡ shared.now.source.id }
+    {
+        Locked {
+            core,
+            bell: Ringer::new(rt),
+            shared,
+        }
+    }
+}
+
+// ## Steps that may tell somebody
+impl<T: Drop, R: Wait> Locked<'_, T, R> {
+    #[inline]
+    pub(crate) fn try_send(&mut self, m: T) -> Result<Result<(), TrySendError<T>>, NoMemory<T>>
+        ensures reply { IfOk result (λ answer. answer ≡ try_send_answer self.old.channel.closed
+            (is_channel_full self.old.channel) m) }
+        ensures after { OnOk result (self.new ≡ then (sent m) self.old) }
+        ensures refused { IfErr result (λ error. error.0 ≡ m) }
+        ensures unchanged { OnErr result (self.new ≡ self.old) }
+        ensures wanted { OnErr result (GrowsWithMessages self.old.channel) }
+    {
+        self.core.try_send(m, &mut self.bell)
+    }
+
+    #[inline]
+    pub(crate) fn force_send(
+        &mut self,
+        m: T,
+    ) -> Result<Result<Option<T>, SendError<T>>, NoMemory<T>>
+        ensures reply { IfOk result (λ answer. answer ≡ force_send_answer self.old.channel.closed
+            (is_channel_full self.old.channel) (oldest self.old.channel) m) }
+        ensures after { OnOk result (self.new ≡ then (force_sent m) self.old) }
+        ensures refused { IfErr result (λ error. error.0 ≡ m) }
+        ensures unchanged { OnErr result (self.new ≡ self.old) }
+        ensures wanted { OnErr result (GrowsWithMessages self.old.channel) }
+    {
+        self.core.force_send(m, &mut self.bell)
+    }
+
+    #[inline]
+    #[tactic(auto, using(crate::proofs::Logging::logs))]
+    pub(crate) fn try_recv(&mut self) -> Result<T, TryRecvError>
+        ensures reply { result ≡ try_recv_answer (oldest self.old.channel) self.old.channel.closed }
+        ensures after { self.new ≡ then received self.old }
+    {
+        self.core.try_recv(&mut self.bell)
+    }
+
+    pub(crate) fn close(&mut self) -> bool
+        ensures reply { result ≡ not self.old.channel.closed }
+        ensures after { self.new ≡ then closing self.old }
+    {
+        self.core.close(&mut self.bell)
+    }
+
+    pub(crate) fn drop_sender(&mut self) -> bool
+        ensures reply { result ≡ ((self.old.channel.senders == 1) && not self.old.channel.closed) }
+        ensures after { self.new ≡ then sender_dropped self.old }
+    {
+        self.core.drop_sender(&mut self.bell)
+    }
+
+    pub(crate) fn drop_receiver(&mut self, stream: &mut Option<Ticket>) -> bool
+        ensures reply { result ≡ ((self.old.channel.receivers == 1) && not
+            self.old.channel.closed) }
+        ensures after { self.new ≡ then (receiver_dropped_by stream.old) self.old }
+        ensures ticket { stream.new ≡ None }
+    {
+        self.core.drop_receiver(stream, &mut self.bell)
+    }
+
+    #[tactic(auto, using(crate::proofs::Logging::logs))]
+    pub(crate) fn cancel_send(&mut self, t: &mut Option<Ticket>)
+        ensures after { self.new ≡ then (send_cancelled t.old) self.old }
+        ensures ticket { t.new ≡ None }
+    {
+        self.core.cancel_send(t, &mut self.bell);
+    }
+
+    #[tactic(auto, using(crate::proofs::Logging::logs))]
+    pub(crate) fn cancel_recv(&mut self, t: &mut Option<Ticket>)
+        ensures after { self.new ≡ then (recv_cancelled t.old) self.old }
+        ensures ticket { t.new ≡ None }
+    {
+        self.core.cancel_recv(t, &mut self.bell);
+    }
+}
+
+// ## Steps that tell nobody
+impl<T: Drop, R: Wait> Locked<'_, T, R> {
+    pub(crate) fn cancel_closed(&mut self, t: &mut Option<Ticket>)
+        ensures after { self.new ≡ record self.old {
+          channel = record self.old.channel {
+            closeds =
+                left t.old self.old.channel.closeds;
+          };
+        } }
+        ensures ticket { t.new ≡ None }
+    {
+        self.core.cancel_closed(t);
+    }
+
+    pub(crate) fn add_sender(&mut self) -> bool
+        ensures reply { result ≡ may_add self.old.channel.senders }
+        ensures after { self.new ≡ record self.old {
+          channel = record self.old.channel {
+            senders =
+                count_added result self.old.channel.senders;
+          };
+        } }
+    {
+        self.core.add_sender()
+    }
+
+    pub(crate) fn add_receiver(&mut self) -> bool
+        ensures reply { result ≡ may_add self.old.channel.receivers }
+        ensures after { self.new ≡ record self.old {
+          channel = record self.old.channel {
+            receivers
+                = count_added result self.old.channel.receivers;
+          };
+        } }
+    {
+        self.core.add_receiver()
+    }
+
+    pub(crate) fn upgrade_sender(&mut self) -> Upgrade
+        ensures reply { result ≡ upgrade_answer self.old.channel.closed self.old.channel.senders }
+        ensures after { self.new ≡ record self.old {
+          channel = record self.old.channel {
+            senders =
+                count_upgraded result self.old.channel.senders;
+          };
+        } }
+    {
+        self.core.upgrade_sender()
+    }
+
+    pub(crate) fn upgrade_receiver(&mut self) -> Upgrade
+        ensures reply { result ≡ upgrade_answer self.old.channel.closed self.old.channel.receivers }
+        ensures after { self.new ≡ record self.old {
+          channel = record self.old.channel {
+            receivers
+                = count_upgraded result self.old.channel.receivers;
+          };
+        } }
+    {
+        self.core.upgrade_receiver()
+    }
+}
+
+// ## Questions
+impl<T: Drop, R: Wait> Locked<'_, T, R> {
+    #[inline]
+    pub(crate) fn is_closed(&self) -> bool
+        ensures { result ≡ self.now.channel.closed }
+    {
+        self.core.is_closed()
+    }
+
+    #[inline]
+    pub(crate) fn is_empty(&self) -> bool
+        ensures { result ≡ (length self.now.channel.messages == 0) }
+    {
+        self.core.is_empty()
+    }
+
+    #[inline]
+    pub(crate) fn is_full(&self) -> bool
+        ensures { result ≡ is_channel_full self.now.channel }
+    {
+        self.core.is_full()
+    }
+
+    pub(crate) fn is_terminated(&self) -> bool
+        ensures { result ≡ (self.now.channel.closed && (length self.now.channel.messages == 0)) }
+    {
+        self.core.is_terminated()
+    }
+
+    #[inline]
+    pub(crate) fn len(&self) -> usize
+        ensures { result ≡ length self.now.channel.messages }
+    {
+        self.core.len()
+    }
+
+    pub(crate) fn sender_count(&self) -> usize
+        ensures { result ≡ self.now.channel.senders }
+    {
+        self.core.sender_count()
+    }
+
+    pub(crate) fn receiver_count(&self) -> usize
+        ensures { result ≡ self.now.channel.receivers }
+    {
+        self.core.receiver_count()
+    }
+}
+
+#[cfg(test)]
+impl<T: Drop, R: Wait> Locked<'_, T, R> {
+    /// The channel itself, for tests that look at its waiting lists.
+    pub(crate) fn core(&self) -> &Core<T, Mark> {
+        &*self.core
+    }
+}
+
+impl<T: Drop, R: Wait> Drop for Locked<'_, T, R> {
+    #[inline]
+    fn drop(self) {
+        let Self {
+            core,
+            bell,
+            shared: _,
+        } = self;
+        bell.wake_behind(MutexGuard::unlock(core));
+    }
+}
