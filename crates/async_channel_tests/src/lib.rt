@@ -4,6 +4,8 @@
 #[cfg(test)]
 mod handles;
 #[cfg(test)]
+mod names;
+#[cfg(test)]
 mod operations;
 #[cfg(test)]
 mod probe;
