@@ -47,3 +47,4 @@ pub use channel_model::Kind;
 pub use handles::{Receiver, Sender, bounded, unbounded};
 pub use ops::{Closed, Recv, Send};
 pub use stamps::{Stamp, StampMaker, Tag};
+pub use weak::{WeakReceiver, WeakSender};

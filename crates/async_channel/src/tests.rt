@@ -1,6 +1,10 @@
 //! Tests that look at the locked core.
+mod blocked;
+mod scene;
+mod telling;
+mod waiting;
+
 use crate::handles::{Receiver, Sender, bounded, unbounded};
-use crate::shared::Link;
 use crate::stamps::StampMaker;
 use channel_core::{Group, MakeError, RecvError, SendError, TryRecvError, TrySendError};
 use futures::executor::block_on;
@@ -15,11 +19,10 @@ use std::sync::Wait;
 use std::sync::atomic::{AtomicBool, AtomicU64, Ordering};
 use std::test::Fail;
 use std::thread;
-
-const TURNS: u32 = 10_000_000;
+use waiting::{TURNS, are_waiting, numbers, waiting};
 
 /// A bounded channel where there is a capacity, and else an unbounded one.
-fn channel<T: Drop, R: Wait + Clone + Drop>(
+pub(crate) fn channel<T: Drop, R: Wait + Clone + Drop>(
     rt: &R,
     alloc: Global,
     capacity: Option<usize>,
@@ -31,17 +34,6 @@ fn channel<T: Drop, R: Wait + Clone + Drop>(
     }
 }
 
-/// Takes turns until as many wait in the group.
-fn are_waiting<T: Drop, R: Wait>(link: &Link<T, R>, group: Group, count: usize) -> bool {
-    for _ in 0..TURNS {
-        if link.lock().core().waiting(group) == count {
-            return true;
-        }
-        thread::yield_now();
-    }
-    false
-}
-
 /// Takes turns until the flag is set.
 fn is_set(flag: &AtomicBool) -> bool {
     for _ in 0..TURNS {
@@ -51,12 +43,6 @@ fn is_set(flag: &AtomicBool) -> bool {
         thread::yield_now();
     }
     false
-}
-
-/// How many wait in the group, and how many of them are told.
-fn numbers<T: Drop, R: Wait>(link: &Link<T, R>, group: Group) -> (usize, usize) {
-    let locked = link.lock();
-    (locked.core().waiting(group), locked.core().told(group))
 }
 
 fn is_pending<F: Future>(task: &MockTask, future: &mut F) -> bool
@@ -248,42 +234,61 @@ fn send(rt: HostRuntime) -> Result<(), Fail> {
     Ok(())
 }
 
+/// Blocks four threads in a receive, and closes the channel by one of its sides.
 #[test]
 fn blocked_receives_are_closed(rt: HostRuntime) -> Result<(), Fail> {
-    let (s, r) = channel::<u8, _>(&rt, rt.alloc(), None)?;
-    let ended = AtomicU64::new(0);
-    let (count, receiver) = (&ended, &r);
-    thread::scope(thread::scope_env(), &rt, |scope| {
-        for _ in 0..4u8 {
-            let started = scope.spawn(move || {
-                assert_eq!(rt; receiver.recv_blocking(), Ok(Err(RecvError)));
-                count.fetch_add(1, Ordering::SeqCst);
-            });
-            assert!(rt; started.is_ok());
-        }
-        assert!(rt; are_waiting(&s.link, Group::Receives, 4));
-        assert!(rt; s.close());
-    });
-    assert_eq!(rt; ended.load(Ordering::SeqCst), 4);
+    for (capacity, by_sender) in [
+        (None, true),
+        (None, false),
+        (Some(1), true),
+        (Some(1), false),
+    ] {
+        let (s, r) = channel::<u8, _>(&rt, rt.alloc(), capacity)?;
+        let ended = AtomicU64::new(0);
+        let (count, receiver) = (&ended, &r);
+        thread::scope(thread::scope_env(), &rt, |scope| {
+            for _ in 0..4u8 {
+                let started = scope.spawn(move || {
+                    assert_eq!(rt; receiver.recv_blocking(), Ok(Err(RecvError)));
+                    count.fetch_add(1, Ordering::SeqCst);
+                });
+                assert!(rt; started.is_ok());
+            }
+            assert!(rt; are_waiting(&s.link, Group::Receives, 4));
+            let is_closed = if by_sender {
+                s.close()
+            } else {
+                receiver.close()
+            };
+            assert!(rt; is_closed);
+        });
+        assert_eq!(rt; ended.load(Ordering::SeqCst), 4);
+        assert_eq!(rt; waiting(&s.link), [0; 4]);
+    }
     Ok(())
 }
 
+/// Blocks four threads in sends into a channel that holds 0, and closes it by one of its sides.
 #[test]
 fn blocked_sends_are_closed(rt: HostRuntime) -> Result<(), Fail> {
-    let (s, r) = channel(&rt, rt.alloc(), Some(1))?;
-    assert_eq!(rt; s.try_send(0u8)?, Ok(()));
-    let sender = &s;
-    thread::scope(thread::scope_env(), &rt, |scope| {
-        for n in 1..=4u8 {
-            let started = scope.spawn(move || {
-                assert_eq!(rt; sender.send_blocking(n), Ok(Err(SendError(n))));
-            });
-            assert!(rt; started.is_ok());
-        }
-        assert!(rt; are_waiting(&r.link, Group::Sends, 4));
-        assert!(rt; r.close());
-    });
-    assert_eq!(rt; s.len(), 1);
+    for by_sender in [true, false] {
+        let (s, r) = channel(&rt, rt.alloc(), Some(1))?;
+        assert_eq!(rt; s.try_send(0u8)?, Ok(()));
+        let sender = &s;
+        thread::scope(thread::scope_env(), &rt, |scope| {
+            for n in 1..=4u8 {
+                let started = scope.spawn(move || {
+                    assert_eq!(rt; sender.send_blocking(n), Ok(Err(SendError(n))));
+                });
+                assert!(rt; started.is_ok());
+            }
+            assert!(rt; are_waiting(&r.link, Group::Sends, 4));
+            let is_closed = if by_sender { sender.close() } else { r.close() };
+            assert!(rt; is_closed);
+        });
+        assert_eq!(rt; s.len(), 1);
+        assert_eq!(rt; waiting(&s.link), [0; 4]);
+    }
     Ok(())
 }
 

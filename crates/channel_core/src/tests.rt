@@ -1,52 +1,12 @@
-ghost use Rattle.std.specs.Prelude.{◌≡◌, ◌<◌, ℕ, List, [], ◌∷◌, ◌++◌, ◌≤◌, nat_lt, length, take, if◌then◌else◌};
+//! Calls of a core and of a queue, as rows of calls and answers.
+mod log;
 
 use super::*;
 use futures::task::Poll;
+use log::Log;
 use std::alloc::Global;
-use std::marker::Model;
 use std::process::Abort;
 use std::test::Fail;
-
-/// A bell that stores the payloads of the first `N` rings.
-#[derive(Drop)]
-struct Log<const N: usize> {
-    places: [u64; N],
-    len: usize,
-}
-
-impl<const N: usize> Model for Log<N> {
-    ghost Value = { List ℕ };
-
-    ghost view = { λ log. take log.len log.places };
-
-    ghost invariant = { λ log. log.len ≤ N };
-}
-
-impl<const N: usize> Bell<u64> for Log<N> {
-    ghost rings = { λ before payload after. after ≡ (if nat_lt (length before) N then before ++ payload ∷ [] else before) };
-
-    fn ring(&mut self, w: u64) {
-        if self.len < N {
-            self.places[self.len] = w;
-            self.len += 1;
-        }
-    }
-}
-
-impl<const N: usize> Log<N> {
-    fn new() -> Self
-        ensures { result ≡ [] }
-    {
-        Log {
-            places: [0; N],
-            len: 0,
-        }
-    }
-
-    fn stored(&self) -> &[u64] {
-        &self.places[..self.len]
-    }
-}
 
 /// A call of a core. A number in front names the ticket that is lent.
 #[derive(Clone, Copy, Debug)]
@@ -245,19 +205,24 @@ fn messages_without_size(rt: HostRuntime) -> Result<(), Fail> {
 
 #[test]
 fn a_core_rings_its_bell(rt: HostRuntime) -> Result<(), Fail> {
-    let probe = run(
-        &rt,
-        Core::bounded(rt.alloc(), 1)?,
-        &[
-            (PollRecv(0, 1), Answer::RecvPolled(Poll::Pending)),
-            (PollRecv(1, 2), Answer::RecvPolled(Poll::Pending)),
-            (TrySend(9), Answer::TrySent(Ok(()))),
-            (IsTold(Group::Receives, 0), Answer::Notice(Some(true))),
-            (IsTold(Group::Receives, 1), Answer::Notice(Some(false))),
-            (Close, Answer::Flag(true)),
-        ],
-    )?;
-    assert_eq!(rt; probe.log.stored(), [1, 2].as_slice());
+    let rows: [(Call, Answer, &[u64]); 6] = [
+        (PollRecv(0, 1), Answer::RecvPolled(Poll::Pending), &[]),
+        (PollRecv(1, 2), Answer::RecvPolled(Poll::Pending), &[]),
+        (TrySend(9), Answer::TrySent(Ok(())), &[1]),
+        (IsTold(Group::Receives, 0), Answer::Notice(Some(true)), &[1]),
+        (
+            IsTold(Group::Receives, 1),
+            Answer::Notice(Some(false)),
+            &[1],
+        ),
+        (Close, Answer::Flag(true), &[1, 2]),
+    ];
+    let mut probe = Probe::of(Core::bounded(rt.alloc(), 1)?);
+    for (call, want, rung) in rows {
+        let got = probe.answer(call)?;
+        assert!(rt; got == want, "{call:?} answers {got:?}");
+        assert_eq!(rt; probe.log.stored(), rung);
+    }
     Ok(())
 }
 

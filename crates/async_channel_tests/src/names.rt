@@ -1,0 +1,153 @@
+//! Each public item by its path, as a user names it: this file isn't built where one is missing.
+use async_channel::record;
+use futures::Stream;
+use std::fmt;
+use std::sync::Wait;
+use std::test::Fail;
+
+/// The types of handles and operations, each with what it has from traits.
+fn is_named<T: Drop, R: Wait + Clone + Drop>(
+    _strong: (&async_channel::Sender<T, R>, &async_channel::Receiver<T, R>),
+    _weak: (
+        &async_channel::WeakSender<T, R>,
+        &async_channel::WeakReceiver<T, R>,
+    ),
+    _send: &async_channel::Send<'_, T, R>,
+    _recv: &async_channel::Recv<'_, T, R>,
+    _closed: &async_channel::Closed<'_, T, R>,
+) -> bool {
+    true
+}
+
+fn is_stream<S: Stream + fmt::Debug>(_stream: &S) -> bool {
+    true
+}
+
+#[test]
+fn handles_and_operations(rt: HostRuntime) -> Result<(), Fail> {
+    let mut maker = async_channel::StampMaker::new();
+    let (s, r) = async_channel::bounded(&rt, rt.alloc(), 2, &mut maker)?;
+    let weak = (&s.downgrade()?, &r.downgrade()?);
+    assert!(rt; is_named((&s, &r), weak, &s.send(1u64), &r.recv(), &s.closed()));
+    assert!(rt; is_stream(&r));
+    Ok(())
+}
+
+#[test]
+fn calls_of_senders(rt: HostRuntime) -> Result<(), Fail> {
+    use async_channel::{NoMemory, SendError, Sender, Tag, TrySendError, WeakSender};
+    let mut maker = async_channel::StampMaker::new();
+    let (s, _r) = async_channel::unbounded(&rt, rt.alloc(), &mut maker)?;
+    let sent: Result<Result<(), TrySendError<u64>>, NoMemory<u64>> = Sender::try_send(&s, 1);
+    assert_eq!(rt; sent, Ok(Ok(())));
+    let forced: Result<Result<Option<u64>, SendError<u64>>, NoMemory<u64>> = Sender::force_send(
+        &s, 2,
+    );
+    assert_eq!(rt; forced, Ok(Ok(None)));
+    let blocked: Result<Result<(), SendError<u64>>, NoMemory<u64>> = Sender::send_blocking(&s, 3);
+    assert_eq!(rt; blocked, Ok(Ok(())));
+    assert!(rt; !Sender::is_closed(&s) && !Sender::is_empty(&s) && !Sender::is_full(&s));
+    assert_eq!(rt; (Sender::len(&s), Sender::capacity(&s)), (3, None));
+    assert_eq!(rt;
+        (Sender::sender_count(&s), Sender::receiver_count(&s)),
+        (1, 1)
+    );
+    let weak = Sender::downgrade(&s)?;
+    let upgraded = WeakSender::upgrade(&WeakSender::try_clone(&weak)?)?.ok_or("a sender")?;
+    assert!(rt; Sender::same_channel(&Sender::try_clone(&s)?, &upgraded));
+    assert!(rt; Tag::same_channel(&s.tag, &weak.tag) && Tag::capacity(&s.tag).is_none());
+    let (closed, send) = (Sender::closed(&s), Sender::send(&s, 4));
+    assert!(rt; !async_channel::Closed::is_terminated(&closed));
+    assert!(rt; !async_channel::Send::is_terminated(&send));
+    assert_eq!(rt; async_channel::Send::into_msg(send), Some(4));
+    assert!(rt; Sender::close(&s));
+    Ok(())
+}
+
+#[test]
+fn calls_of_receivers(rt: HostRuntime) -> Result<(), Fail> {
+    use async_channel::{OutOfMemory, Receiver, RecvError, Tag, TryRecvError, WeakReceiver};
+    let mut maker = async_channel::StampMaker::starting_at(5);
+    let (s, r) = async_channel::unbounded(&rt, rt.alloc(), &mut maker)?;
+    assert_eq!(rt; s.try_send(1u64)?, Ok(()));
+    let blocked: Result<Result<u64, RecvError>, OutOfMemory> = Receiver::recv_blocking(&r);
+    assert_eq!(rt; blocked, Ok(Ok(1)));
+    let tried: Result<u64, TryRecvError> = Receiver::try_recv(&r);
+    assert_eq!(rt; tried, Err(TryRecvError::Empty));
+    assert!(rt; !Receiver::is_closed(&r) && Receiver::is_empty(&r) && !Receiver::is_full(&r));
+    assert_eq!(rt; (Receiver::len(&r), Receiver::capacity(&r)), (0, None));
+    assert_eq!(rt;
+        (Receiver::sender_count(&r), Receiver::receiver_count(&r)),
+        (1, 1)
+    );
+    let weak = Receiver::downgrade(&r)?;
+    let upgraded = WeakReceiver::upgrade(&WeakReceiver::try_clone(&weak)?)?.ok_or("a receiver")?;
+    assert!(rt; Receiver::same_channel(&Receiver::try_clone(&r)?, &upgraded));
+    assert!(rt; Tag::same_channel(&r.tag, &weak.tag));
+    assert!(rt; !async_channel::Recv::is_terminated(&Receiver::recv(&r)));
+    assert!(rt; !Receiver::is_terminated(&r) && Receiver::close(&r));
+    let stamp: Option<async_channel::Stamp> = async_channel::StampMaker::draw(&mut maker);
+    assert!(rt; stamp.is_some());
+    Ok(())
+}
+
+#[test]
+fn errors(rt: HostRuntime) -> Result<(), Fail> {
+    use async_channel::{CloneError, MakeError, NoMemory, OutOfMemory};
+    use async_channel::{RecvError, SendError, TryRecvError, TrySendError};
+    assert_eq!(rt; SendError::into_inner(SendError(1u64)), 1);
+    assert_eq!(rt; TrySendError::into_inner(TrySendError::Full(2u64)), 2);
+    assert!(rt; TrySendError::is_full(&TrySendError::Full(3u64)));
+    assert!(rt; TrySendError::is_closed(&TrySendError::Closed(4u64)));
+    assert!(rt; TryRecvError::is_empty(&TryRecvError::Empty));
+    assert!(rt; TryRecvError::is_closed(&TryRecvError::Closed));
+    assert!(rt; RecvError == RecvError && OutOfMemory == OutOfMemory);
+    assert!(rt; NoMemory(5u64).0 == 5 && SendError(6u64).0 == 6);
+    assert!(rt; MakeError::OutOfMemory != MakeError::NoStamps);
+    assert!(rt; CloneError::OutOfMemory != CloneError::TooMany);
+    Ok(())
+}
+
+fn rings<B: async_channel::Bell<u64>>(bell: &mut B) {
+    bell.ring(1);
+}
+
+#[test]
+fn the_parts_of_a_channel(rt: HostRuntime) -> Result<(), Fail> {
+    use async_channel::{Core, Group, Queue, Quiet, Ticket, Upgrade};
+    let mut queue: Queue<u64> = Queue::unbounded(rt.alloc());
+    assert!(rt; matches!(queue.push(1), Ok(Ok(()))));
+    let mut core: Core<u64, u64> = Core::unbounded(rt.alloc());
+    let mut ticket: Option<Ticket> = None;
+    assert!(rt; core.poll_recv(&mut ticket, 1, &mut Quiet).is_ok());
+    assert!(rt; matches!(core.upgrade_sender(), Upgrade::Raised));
+    for (group, count) in [
+        (Group::Sends, 0),
+        (Group::Receives, 1),
+        (Group::Streams, 0),
+        (Group::Closeds, 0),
+    ] {
+        assert_eq!(rt; core.waiting(group), count);
+    }
+    rings(&mut Quiet);
+    Ok(())
+}
+
+fn is_exact<X: record::Exact>(_message: &X) -> bool {
+    true
+}
+
+#[test]
+fn recorders(rt: HostRuntime) -> Result<(), Fail> {
+    use record::{Book, Call, Clerk, FinishError, Journal, Outcome, Recorder};
+    let mut maker = async_channel::StampMaker::new();
+    let recorder: Recorder<u64> = Recorder::unbounded(rt.alloc(), &mut maker)?;
+    let clerk: Clerk<u64> = recorder.clerk(&rt)?;
+    let clerks = vec![in rt.alloc(); clerk]?;
+    let book: Result<Book<u64>, FinishError> = recorder.finish(clerks);
+    assert_eq!(rt; book?.clerks(), 1);
+    assert!(rt; is_exact(&1u64));
+    let mut journal: Journal<u64> = Journal::new(rt.alloc(), async_channel::Kind::Unbounded)?;
+    assert_eq!(rt; journal.call(Call::Len)?, (0, Outcome::Count(0)));
+    Ok(())
+}
