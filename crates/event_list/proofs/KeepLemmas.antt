@@ -68,12 +68,6 @@ module _ {W : Type 0} where
       } in
       record { links = linked; counted = keeps.counted; total = keeps.total; held = rw slots keeps.held }
 
-  -- nor does a look
-  pub keeps_unread : {old new : Slab (Entry W)} {ends : Ends} {len told : ℕ} {list : Waiting W} → new ≡ old
-      → Keeps old ends len told list → Keeps new ends len told list
-  keeps_unread {ends = ends} {len} {told} {list} same keeps =
-      subst (λ (s : Slab (Entry W)). Keeps s ends len told list) (sym same) keeps
-
   -- a new entry goes last
   pub keeps_joined : {old new : Slab (Entry W)} {ends left : Ends} {len told : ℕ} {list : Waiting W} (key : ℕ)
       (payload : W) → Keeps old ends len told list → IsLinked new left (joined list key payload)

@@ -89,3 +89,7 @@ module _ {W : Type 0} where
     pub counted : told ≡ length list.told
     pub total : len ≡ length list.told + length list.untold
     pub held : len ≡ slab_len slab
+
+  -- The fields of a `WaitList` keep the list that they show.
+  abbrev pub KeepShown : Slab (Entry W) → Ends → ℕ → ℕ → Type 0
+  KeepShown slab ends len told = Keeps slab ends len told (shown slab ends len told)

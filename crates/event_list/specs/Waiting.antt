@@ -1,5 +1,5 @@
 -- What a contract sees of a waiting list, and what each call makes of it.
-use Rattle.std.specs.Prelude.{◌≡◌, ℕ, ◌+◌, ◌==◌, Bool, true, false, not, if◌then◌else◌, List, [], ◌∷◌, ◌++◌, map, filter, length, Option, Some, None}
+use Rattle.std.specs.Prelude.{◌≡◌, ℕ, ◌+◌, ◌==◌, Bool, true, false, not, if◌then◌else◌, List, [], ◌∷◌, ◌++◌, map, filter, length, take, Option, Some, None}
 use Rattle.event_list.specs.Keys.{is_among}
 
 -- Those who wait, in order of arrival: first the told ones, by their keys, and then the untold ones,
@@ -94,6 +94,11 @@ module _ {W : Type 0} where
   abbrev pub cancelled : Waiting W → ℕ → Waiting W
   cancelled list key =
       if is_among key list.told then told_one (without list key) else without list key
+
+  -- the payload that is rung with where the key's entry leaves: of the one told in its place
+  abbrev pub rung_by_cancelling : Waiting W → ℕ → List W
+  rung_by_cancelling list key =
+      if is_among key list.told then take 1 (payloads (without list key)) else []
 
 module _ {B W : Type 0} where
   -- A bell goes from `before` to `after` by one ring for each payload, in this order.

@@ -7,7 +7,7 @@ ghost use Rattle.event_list.specs.Entries.{ends_with, ends_without};
 ghost use Rattle.event_list.specs.Chain.{IsLinked};
 
 use crate::entries::{Entries, Entry, Notice};
-use crate::steps::Steps;
+use crate::list::steps::Lookups;
 use std::sync::ledger::Ledger;
 
 /// The keys of the first entry, of the last, and of the first untold one.
@@ -51,7 +51,7 @@ impl Ends {
         &mut self,
         entries: &mut Entries<W>,
         key: usize,
-        steps: &mut Steps<L>,
+        lookups: &mut Lookups<L>,
     ) -> Option<bool>
         ensures leaves { (list : Waiting W) → IsLinked entries.old self.old list → IsLinked entries.new self.new (without list key) }
         ensures was_told { (list : Waiting W) → IsLinked entries.old self.old list → result ≡ mark list key }
@@ -59,11 +59,12 @@ impl Ends {
         ensures held { OnSome result (slab_len entries.new + 1 ≡ slab_len entries.old) }
         ensures next { OnSome result (entries.new.vacant_key ≡ key) }
         ensures room { OnSome result (HasRoomFor entries.new 1) }
-        ensures counted { steps.new ≤ steps.old + 3 }
+        ensures counted { lookups.new ≤ lookups.old + 3 }
+        ensures on_this_ledger { lookups.old < lookups.new }
     {
-        let entry = entries.remove(key, steps)?;
-        entries.set_behind(entry.before, entry.behind, steps);
-        entries.set_before(entry.behind, entry.before, steps);
+        let entry = entries.remove(key, lookups)?;
+        entries.set_behind(entry.before, entry.behind, lookups);
+        entries.set_before(entry.behind, entry.before, lookups);
         *self = self.without(key, entry.before, entry.behind);
         Some(entry.notice.is_told())
     }
@@ -73,7 +74,7 @@ impl Ends {
         &mut self,
         entries: &mut Entries<W>,
         payload: W,
-        steps: &mut Steps<L>,
+        lookups: &mut Lookups<L>,
     ) -> usize
         requires { HasRoomFor entries.old 1 }
         ensures key { result ≡ entries.old.vacant_key }
@@ -81,15 +82,16 @@ impl Ends {
         ensures joins { (list : Waiting W) → IsLinked entries.old self.old list → IsLinked entries.new self.new (joined list result payload) }
         ensures held { slab_len entries.new ≡ slab_len entries.old + 1 }
         ensures fits { slab_len entries.new < 2 ^ 64 }
-        ensures counted { steps.new ≤ steps.old + 2 }
+        ensures counted { lookups.new ≤ lookups.old + 2 }
+        ensures on_this_ledger { lookups.old < lookups.new }
     {
         let entry = Entry {
             before: self.last,
             behind: None,
             notice: Notice::Untold(payload),
         };
-        let key = entries.insert(entry, steps);
-        entries.set_behind(self.last, Some(key), steps);
+        let key = entries.insert(entry, lookups);
+        entries.set_behind(self.last, Some(key), lookups);
         *self = self.with(key);
         key
     }

@@ -5,7 +5,7 @@ ghost use Rattle.std.specs.Option.{option_map, option_and_then};
 ghost use Rattle.slab.specs.Slab.{get, slab_len, HasRoomFor, Updates};
 ghost use Rattle.event_list.specs.Entries.{with_behind, with_before, with_notice, is_told, payload_at, Rewrites, MayRewrite};
 
-use crate::steps::Steps;
+use crate::list::steps::Lookups;
 use slab::Slab;
 use std::alloc::Global;
 use std::marker::Model;
@@ -39,8 +39,7 @@ pub struct Entry<W> {
 
 /// The entries, each under its key: the one way to the slab.
 ///
-/// Each call on `&mut self` is one look-up and raises `steps` by one. `mark` counts nothing: it serves
-/// the questions `contains` and `is_told` of a list, and says nothing of an entry's neighbours.
+/// Each call is one look-up, and raises `lookups` by one; none reaches an entry without it.
 #[derive(Drop)]
 pub struct Entries<W> {
     slab: Slab<Entry<W>>,
@@ -67,26 +66,26 @@ impl<W: Drop> Entries<W> {
     }
 
     /// Makes room for one more entry. The answer is whether there is room.
-    pub fn reserve<L: Ledger>(&mut self, steps: &mut Steps<L>) -> bool
+    pub fn reserve<L: Ledger>(&mut self, lookups: &mut Lookups<L>) -> bool
         ensures room { OnTrue result (HasRoomFor self.new 1) }
         ensures same { self.new ≡ record self.old { capacity = self.new.capacity } }
-        ensures counted { steps.new ≡ steps.old + 1 }
+        ensures counted { lookups.new ≡ lookups.old + 1 }
     {
-        steps.raise();
+        lookups.raise();
         self.slab.reserve(1).is_ok()
     }
 
     /// Makes an entry, under the key that the slab picks.
-    pub fn insert<L: Ledger>(&mut self, entry: Entry<W>, steps: &mut Steps<L>) -> usize
+    pub fn insert<L: Ledger>(&mut self, entry: Entry<W>, lookups: &mut Lookups<L>) -> usize
         requires { HasRoomFor self.old 1 }
         ensures key { result ≡ self.old.vacant_key }
         ensures fresh { get self.old result ≡ None }
         ensures updates { Updates self.old self.new result (Some entry) }
         ensures held { slab_len self.new ≡ slab_len self.old + 1 }
         ensures fits { slab_len self.new < 2 ^ 64 }
-        ensures counted { steps.new ≡ steps.old + 1 }
+        ensures counted { lookups.new ≡ lookups.old + 1 }
     {
-        steps.raise();
+        lookups.raise();
         let key = self.slab.insert_reserved(entry);
         // The slab's number of entries is a `usize`, which the clause `fits` hands on.
         let _len = self.slab.len();
@@ -94,16 +93,16 @@ impl<W: Drop> Entries<W> {
     }
 
     /// Takes an entry out, if it is there.
-    pub fn remove<L: Ledger>(&mut self, key: usize, steps: &mut Steps<L>) -> Option<Entry<W>>
+    pub fn remove<L: Ledger>(&mut self, key: usize, lookups: &mut Lookups<L>) -> Option<Entry<W>>
         ensures value { result ≡ get self.old key }
         ensures updates { Updates self.old self.new key None }
         ensures held { OnSome result (slab_len self.new + 1 ≡ slab_len self.old) }
         ensures next { OnSome result (self.new.vacant_key ≡ key) }
         ensures room { OnSome result (HasRoomFor self.new 1) }
         ensures absent { IfNone result (self.new ≡ self.old) }
-        ensures counted { steps.new ≡ steps.old + 1 }
+        ensures counted { lookups.new ≡ lookups.old + 1 }
     {
-        steps.raise();
+        lookups.raise();
         self.slab.try_remove(key)
     }
 
@@ -112,12 +111,12 @@ impl<W: Drop> Entries<W> {
         &mut self,
         at: Option<usize>,
         behind: Option<usize>,
-        steps: &mut Steps<L>,
+        lookups: &mut Lookups<L>,
     )
         ensures rewrites { MayRewrite (with_behind behind) self.old self.new at }
-        ensures counted { steps.new ≡ steps.old + 1 }
+        ensures counted { lookups.new ≡ lookups.old + 1 }
     {
-        steps.raise();
+        lookups.raise();
         let Some(key) = at else {
             return;
         };
@@ -131,12 +130,12 @@ impl<W: Drop> Entries<W> {
         &mut self,
         at: Option<usize>,
         before: Option<usize>,
-        steps: &mut Steps<L>,
+        lookups: &mut Lookups<L>,
     )
         ensures rewrites { MayRewrite (with_before before) self.old self.new at }
-        ensures counted { steps.new ≡ steps.old + 1 }
+        ensures counted { lookups.new ≡ lookups.old + 1 }
     {
-        steps.raise();
+        lookups.raise();
         let Some(key) = at else {
             return;
         };
@@ -146,11 +145,11 @@ impl<W: Drop> Entries<W> {
     }
 
     /// Makes an entry an untold one with this payload.
-    pub fn set_payload<L: Ledger>(&mut self, key: usize, payload: W, steps: &mut Steps<L>)
+    pub fn set_payload<L: Ledger>(&mut self, key: usize, payload: W, lookups: &mut Lookups<L>)
         ensures rewrites { Rewrites self.old self.new key (option_map (with_notice (Notice.Untold payload)) (get self.old key)) }
-        ensures counted { steps.new ≡ steps.old + 1 }
+        ensures counted { lookups.new ≡ lookups.old + 1 }
     {
-        steps.raise();
+        lookups.raise();
         if let Some(entry) = self.slab.get_mut(key) {
             entry.notice = Notice::Untold(payload);
         }
@@ -160,13 +159,13 @@ impl<W: Drop> Entries<W> {
     pub fn tell<L: Ledger>(
         &mut self,
         key: usize,
-        steps: &mut Steps<L>,
+        lookups: &mut Lookups<L>,
     ) -> Option<(W, Option<usize>)>
         ensures answer { result ≡ option_and_then payload_at (get self.old key) }
         ensures rewrites { Rewrites self.old self.new key (option_map (with_notice Notice.Told) (get self.old key)) }
-        ensures counted { steps.new ≡ steps.old + 1 }
+        ensures counted { lookups.new ≡ lookups.old + 1 }
     {
-        steps.raise();
+        lookups.raise();
         let entry = self.slab.get_mut(key)?;
         match std::mem::replace(&mut entry.notice, Notice::Told) {
             Notice::Untold(payload) => Some((payload, entry.behind)),
@@ -175,19 +174,11 @@ impl<W: Drop> Entries<W> {
     }
 
     /// Whether an entry is told, if it is there.
-    pub fn is_told<L: Ledger>(&mut self, key: usize, steps: &mut Steps<L>) -> Option<bool>
-        ensures value { result ≡ option_map (λ entry. is_told entry.notice) (get self.old key) }
-        ensures same { self.new ≡ self.old }
-        ensures counted { steps.new ≡ steps.old + 1 }
+    pub fn is_told<L: Ledger>(&self, key: usize, lookups: &mut Lookups<L>) -> Option<bool>
+        ensures value { result ≡ option_map (λ entry. is_told entry.notice) (get self.now key) }
+        ensures counted { lookups.new ≡ lookups.old + 1 }
     {
-        steps.raise();
-        self.slab.get(key).map(|entry| entry.notice.is_told())
-    }
-
-    /// Whether an entry is told, if it is there. It counts nothing, and is for questions alone.
-    pub fn mark(&self, key: usize) -> Option<bool>
-        ensures { result ≡ option_map (λ entry. is_told entry.notice) (get self.now key) }
-    {
+        lookups.raise();
         self.slab.get(key).map(|entry| entry.notice.is_told())
     }
 }

@@ -12,13 +12,13 @@
 mod bell;
 mod ends;
 mod entries;
+mod links;
 mod list;
-mod steps;
 #[cfg(test)]
 mod tests;
 mod ticket;
 
 pub use bell::{Bell, Quiet};
+pub use list::steps::Steps;
 pub use list::{NoRoom, WaitList};
-pub use steps::Steps;
 pub use ticket::Ticket;

@@ -1,18 +1,22 @@
-//! The waiting list.
-ghost use Rattle.std.specs.Prelude.{◌≡◌, ℕ, ◌+◌, ◌<◌, ◌≤◌, ◌↔◌, [], length, take, is_some, IsTrue, IfNone, IfOk, IfErr, OnErr, slice_get, if◌then◌else◌, false};
+//! The waiting list: its public calls.
+//!
+//! A counted call hands the ledger that it is given to the call of the same name of `links`, where the
+//! work is done. A call of the plain name opens a ledger and runs the counted one on it.
+ghost use Rattle.std.specs.Prelude.{◌≡◌, ◌+◌, ◌<◌, ◌≤◌, ◌↔◌, length, take, is_some, IsTrue, IfNone, IfOk, IfErr, OnErr, slice_get, false};
 ghost use Rattle.std.specs.Bool.{OnTrue, OnFalse};
 ghost use Rattle.event_list.specs.Keys.{is_among, AreDifferent};
-ghost use Rattle.event_list.specs.Waiting.{LosesOne, IsWaiting, nobody, keys, told_count, payloads, mark, joined, without, renewed, told_one, told_all, cancelled, RingsEach};
+ghost use Rattle.event_list.specs.Waiting.{LosesOne, IsWaiting, nobody, keys, told_count, payloads, mark, joined, without, renewed, told_one, told_all, cancelled, rung_by_cancelling, RingsEach};
 ghost use Rattle.event_list.specs.Opens.{Opens};
 
+pub(crate) mod steps;
+
 use crate::bell::Bell;
-use crate::ends::Ends;
-use crate::entries::Entries;
-use crate::steps::Steps;
+use crate::links::Links;
 use crate::ticket::Ticket;
 use std::alloc::Global;
 use std::marker::{Brand, Model};
 use std::sync::ledger::{Blank, Ledger};
+use steps::Steps;
 
 /// There was no memory for another entry. It hands the payload back.
 #[derive(Drop)]
@@ -23,7 +27,8 @@ pub struct NoRoom<W>(pub W);
 /// The entries lie in a slab, each with the keys of the one before and the one behind it. So each call
 /// looks up a fixed number of them, however many wait; `tell_all` looks up one for each that it tells.
 /// The counted calls say how many: they have the contracts of the calls of the plain names, which run
-/// them on a ledger of their own.
+/// them on a ledger of their own. Each counts on the ledger that it is handed, at most so many and at
+/// least one where it reaches an entry.
 ///
 /// ```
 /// let mut list = WaitList::new(rt.alloc());
@@ -35,10 +40,8 @@ pub struct NoRoom<W>(pub W);
 /// ```
 #[derive(Drop)]
 pub struct WaitList<W> {
-    entries: Entries<W>,
-    ends: Ends,
-    len: usize,
-    told: usize,
+    // The entries, and all work on them.
+    links: Links<W>,
 }
 
 impl<W> Model for WaitList<W> {
@@ -46,11 +49,7 @@ impl<W> Model for WaitList<W> {
 
     ghost Value = { Waiting W };
 
-    ghost use Rattle.event_list.specs.Chain.{shown, Keeps};
-
-    ghost view = { λ list. shown list.entries list.ends list.len list.told };
-
-    ghost invariant = { λ list. Keeps list.entries list.ends list.len list.told (shown list.entries list.ends list.len list.told) };
+    ghost view = { λ list. list.links };
 }
 
 impl<W: Drop> WaitList<W> {
@@ -59,14 +58,7 @@ impl<W: Drop> WaitList<W> {
         ensures { result ≡ nobody }
     {
         WaitList {
-            entries: Entries::new(alloc),
-            ends: Ends {
-                first: None,
-                last: None,
-                cursor: None,
-            },
-            len: 0,
-            told: 0,
+            links: Links::new(alloc),
         }
     }
 
@@ -95,22 +87,30 @@ impl<W: Drop> WaitList<W> {
     }
 
     /// Tells the longest waiting untold entry. The answer is whether there was one.
+    #[inline(always)]
     pub fn tell_one<B: Bell<W>>(&mut self, bell: &mut B) -> bool
         ensures told { IsTrue result ↔ (0 < length (payloads self.old)) }
         ensures after { self.new ≡ told_one self.old }
         ensures rung { RingsEach B.rings bell.old (take 1 (payloads self.old)) bell.new }
         ensures different { AreDifferent (keys self.new) }
     {
+        if !self.links.has_untold() {
+            return false;
+        }
         self.tell_one_from::<B, Brand>(bell, Blank::new(1))
     }
 
     /// Tells every untold entry, and answers how many there were.
+    #[inline(always)]
     pub fn tell_all<B: Bell<W>>(&mut self, bell: &mut B) -> usize
         ensures told { result ≡ length (payloads self.old) }
         ensures after { self.new ≡ told_all self.old }
         ensures rung { RingsEach B.rings bell.old (payloads self.old) bell.new }
         ensures different { AreDifferent (keys self.new) }
     {
+        if !self.links.has_untold() {
+            return 0;
+        }
         self.tell_all_from::<B, Brand>(bell, Blank::new(1))
     }
 
@@ -128,7 +128,7 @@ impl<W: Drop> WaitList<W> {
     /// The entry leaves, and where it was told, one is told in its place.
     pub fn cancel<B: Bell<W>>(&mut self, t: Ticket, bell: &mut B)
         ensures after { self.new ≡ cancelled self.old t }
-        ensures rung { RingsEach B.rings bell.old (if is_among t self.old.told then take 1 (payloads (without self.old t)) else []) bell.new }
+        ensures rung { RingsEach B.rings bell.old (rung_by_cancelling self.old t) bell.new }
         ensures different { AreDifferent (keys self.new) }
         ensures sizes { LosesOne self.old t }
     {
@@ -148,13 +148,9 @@ impl<W: Drop> WaitList<W> {
         ensures unchanged { OnErr result (self.new ≡ self.old) }
         ensures different { AreDifferent (keys self.new) }
         ensures counted { steps.new ≤ steps.old + 6 }
+        ensures on_this_ledger { steps.old < steps.new }
     {
-        if !self.entries.reserve(steps) {
-            return Err(NoRoom(w));
-        }
-        let key = self.ends.put_last(&mut self.entries, w, steps);
-        self.len += 1;
-        Ok(Ticket { key })
+        self.links.listen(w, &mut steps.lookups)
     }
 
     /// `again`, which counts its look-ups: at most 6.
@@ -166,21 +162,12 @@ impl<W: Drop> WaitList<W> {
         ensures different { AreDifferent (keys self.new) }
         ensures sizes { LosesOne self.old t.now }
         ensures counted { steps.new ≤ steps.old + 6 }
+        ensures on_this_ledger { steps.old < steps.new }
     {
-        let Some(was_told) = self.entries.is_told(t.key, steps) else {
-            return false;
-        };
-        if !was_told {
-            self.entries.set_payload(t.key, w, steps);
-            return true;
-        }
-        self.ends.take_out(&mut self.entries, t.key, steps);
-        self.ends.put_last(&mut self.entries, w, steps);
-        self.told -= 1;
-        true
+        self.links.again(t, w, &mut steps.lookups)
     }
 
-    /// `tell_one`, which counts its look-ups: at most one.
+    /// `tell_one`, which counts its look-ups: one where one is told, and else none.
     pub fn tell_one_counted<B: Bell<W>, L: Ledger>(
         &mut self,
         bell: &mut B,
@@ -190,21 +177,12 @@ impl<W: Drop> WaitList<W> {
         ensures after { self.new ≡ told_one self.old }
         ensures rung { RingsEach B.rings bell.old (take 1 (payloads self.old)) bell.new }
         ensures different { AreDifferent (keys self.new) }
-        ensures counted { steps.new ≤ steps.old + 1 }
+        ensures counted { steps.new ≡ steps.old + length (take 1 (payloads self.old)) }
     {
-        let Some(key) = self.ends.cursor else {
-            return false;
-        };
-        let Some((payload, behind)) = self.entries.tell(key, steps) else {
-            unreachable!()
-        };
-        self.ends.cursor = behind;
-        self.told += 1;
-        bell.ring(payload);
-        true
+        self.links.tell_one(bell, &mut steps.lookups)
     }
 
-    /// `tell_all`, which counts its look-ups: at most one for each untold entry.
+    /// `tell_all`, which counts its look-ups: one for each untold entry.
     pub fn tell_all_counted<B: Bell<W>, L: Ledger>(
         &mut self,
         bell: &mut B,
@@ -214,13 +192,9 @@ impl<W: Drop> WaitList<W> {
         ensures after { self.new ≡ told_all self.old }
         ensures rung { RingsEach B.rings bell.old (payloads self.old) bell.new }
         ensures different { AreDifferent (keys self.new) }
-        ensures counted { steps.new ≤ steps.old + length (payloads self.old) }
+        ensures counted { steps.new ≡ steps.old + length (payloads self.old) }
     {
-        let untold = self.len() - self.told();
-        for _turn in 0..untold {
-            self.tell_one_counted(bell, steps);
-        }
-        untold
+        self.links.tell_all(bell, &mut steps.lookups)
     }
 
     /// `remove`, which counts its look-ups: at most 6.
@@ -231,13 +205,9 @@ impl<W: Drop> WaitList<W> {
         ensures different { AreDifferent (keys self.new) }
         ensures sizes { LosesOne self.old t }
         ensures counted { steps.new ≤ steps.old + 6 }
+        ensures on_this_ledger { steps.old < steps.new }
     {
-        let was_told = self.ends.take_out(&mut self.entries, t.key, steps)?;
-        self.len -= 1;
-        if was_told {
-            self.told -= 1;
-        }
-        Some(was_told)
+        self.links.remove(t, &mut steps.lookups)
     }
 
     /// `cancel`, which counts its look-ups: at most 12.
@@ -248,14 +218,13 @@ impl<W: Drop> WaitList<W> {
         steps: &mut Steps<L>,
     )
         ensures after { self.new ≡ cancelled self.old t }
-        ensures rung { RingsEach B.rings bell.old (if is_among t self.old.told then take 1 (payloads (without self.old t)) else []) bell.new }
+        ensures rung { RingsEach B.rings bell.old (rung_by_cancelling self.old t) bell.new }
         ensures different { AreDifferent (keys self.new) }
         ensures sizes { LosesOne self.old t }
         ensures counted { steps.new ≤ steps.old + 12 }
+        ensures on_this_ledger { steps.old < steps.new }
     {
-        if self.remove_counted(t, steps) == Some(true) {
-            self.tell_one_counted(bell, steps);
-        }
+        self.links.cancel(t, bell, &mut steps.lookups);
     }
 
     /// How many wait.
@@ -263,38 +232,35 @@ impl<W: Drop> WaitList<W> {
         ensures count { result ≡ length (keys self.now) }
         ensures different { AreDifferent (keys self.now) }
     {
-        self.len
+        self.links.len()
     }
 
     /// How many are told.
     pub fn told(&self) -> usize
         ensures { result ≡ told_count self.now }
     {
-        self.told
+        self.links.told()
     }
 
     /// Whether the ticket's entry is in the list.
     pub fn contains(&self, t: &Ticket) -> bool
         ensures { result ≡ is_some (mark self.now t.now) }
     {
-        self.entries.mark(t.key).is_some()
+        self.is_told(t).is_some()
     }
 
     /// Whether the ticket's entry is told, or nothing where it isn't in the list.
     pub fn is_told(&self, t: &Ticket) -> Option<bool>
         ensures { result ≡ mark self.now t.now }
     {
-        self.entries.mark(t.key)
+        self.is_told_from::<Brand>(t, Blank::new(1))
     }
 
     /// The key of the first entry, where somebody is told.
     pub fn first_told(&self) -> Option<usize>
         ensures { result ≡ slice_get self.now.told 0 }
     {
-        if self.told == 0 {
-            return None;
-        }
-        self.ends.first
+        self.links.first_told()
     }
 }
 
@@ -359,10 +325,18 @@ impl<W: Drop> WaitList<W> {
     fn cancel_from<B: Bell<W>, L: Ledger>(&mut self, t: Ticket, bell: &mut B, blank: Blank)
         requires { Opens blank.name blank.parts L.name L.parts }
         ensures after { self.new ≡ cancelled self.old t }
-        ensures rung { RingsEach B.rings bell.old (if is_among t self.old.told then take 1 (payloads (without self.old t)) else []) bell.new }
+        ensures rung { RingsEach B.rings bell.old (rung_by_cancelling self.old t) bell.new }
         ensures different { AreDifferent (keys self.new) }
         ensures sizes { LosesOne self.old t }
     {
         self.cancel_counted(t, bell, &mut Steps::<L>::of(blank));
+    }
+
+    fn is_told_from<L: Ledger>(&self, t: &Ticket, blank: Blank) -> Option<bool>
+        requires { Opens blank.name blank.parts L.name L.parts }
+        ensures { result ≡ mark self.now t.now }
+    {
+        let mut steps = Steps::<L>::of(blank);
+        self.links.is_told(t, &mut steps.lookups)
     }
 }

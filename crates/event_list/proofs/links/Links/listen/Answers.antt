@@ -2,7 +2,7 @@ use Rattle.std.proofs.Common.{ap}
 use Rattle.slab.specs.Slab.{Slab}
 use Rattle.event_list.specs.declared.entries.Entry.{Entry}
 use Rattle.event_list.proofs.KeepLemmas.{opened, shows, closed, keeps_same, keeps_joined, waits_newly}
-use Rattle.event_list.proofs.list.WaitList.listen_counted.Goals as goal
+use Rattle.event_list.proofs.links.Links.listen.Goals as goal
 
 pub invariant_of-self : goal.invariant_of-self
 invariant_of-self g c =

@@ -1,7 +1,7 @@
 use Rattle.std.proofs.Common.{◌≡◌, ◌∙◌, sym, ap, Some, None, true, false}
 use Rattle.event_list.specs.Waiting.{mark, without}
 use Rattle.event_list.proofs.KeepLemmas.{opened, shows, closed, loses, some_told, keeps_without_told, keeps_without_untold, keeps_untouched, without_none}
-use Rattle.event_list.proofs.list.WaitList.remove_counted.Goals as goal
+use Rattle.event_list.proofs.links.Links.remove.Goals as goal
 
 pub invariant_of-self : goal.invariant_of-self
 invariant_of-self g c =

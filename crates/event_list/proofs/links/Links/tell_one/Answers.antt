@@ -1,5 +1,5 @@
 use Rattle.event_list.proofs.KeepLemmas.{opened, shows, closed, tells_first, is_untold_there, rings_first}
-use Rattle.event_list.proofs.list.WaitList.tell_one_counted.Goals as goal
+use Rattle.event_list.proofs.links.Links.tell_one.Goals as goal
 
 pub unreachable-requires : goal.unreachable-requires
 unreachable-requires g c = is_untold_there

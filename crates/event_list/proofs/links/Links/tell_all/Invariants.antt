@@ -1,6 +1,6 @@
-use Rattle.std.proofs.Common.{◌≡◌, ◌+◌, ◌≤◌, length}
+use Rattle.std.proofs.Common.{◌≡◌, ◌+◌, length}
 use Rattle.event_list.specs.Waiting.{payloads, told_all, RingsEach}
-use Rattle.event_list.proofs.list.WaitList.tell_all_counted.Given as goal
+use Rattle.event_list.proofs.links.Links.tell_all.Given as goal
 
 -- so many are told by now, and what is rung from here on completes the whole
 abbrev pub invariant-loop-turn : goal.invariant-loop-turn
@@ -10,5 +10,5 @@ invariant-loop-turn g l =
       after : told_all l.self ≡ told_all l.fn.self;
       rung : (last : g.row.B.Denot) → RingsEach g.B.Bell.rings l.bell (payloads l.self) last
           → RingsEach g.B.Bell.rings l.fn.bell (payloads l.fn.self) last;
-      counted : l.steps ≤ l.fn.steps + l._turn;
+      counted : l.lookups ≡ l.fn.lookups + l._turn;
     }

@@ -1,8 +1,8 @@
 use Rattle.std.proofs.Common.{◌≡◌, ◌∙◌, refl, sym, ap, Some, None, true, false}
 use Rattle.std.specs.Option.{is_some}
 use Rattle.event_list.specs.Waiting.{mark, renewed}
-use Rattle.event_list.proofs.KeepLemmas.{opened, shows, closed, loses, marked, there, some_told, keeps_unread, keeps_repaid, keeps_moved, renewed_none, waits_again}
-use Rattle.event_list.proofs.list.WaitList.again_counted.Goals as goal
+use Rattle.event_list.proofs.KeepLemmas.{opened, shows, closed, loses, marked, there, some_told, keeps_repaid, keeps_moved, renewed_none, waits_again}
+use Rattle.event_list.proofs.links.Links.again.Goals as goal
 
 pub returns-in_default-clause-found : goal.returns-in_default-clause-found
 returns-in_default-clause-found g c =
@@ -12,15 +12,13 @@ returns-in_default-clause-found g c =
 
 pub returns-in_default-clause-after : goal.returns-in_default-clause-after
 returns-in_default-clause-after g c =
-    let keeps = keeps_unread c.is_told.ensures.same (opened c.self.invariant c.self.view_is) in
     let is : mark c.args.self.now c.t.inside.key ≡ None =
     sym (marked (opened c.self.invariant c.self.view_is) refl c.is_told.ensures.value) ∙ c.in_default.is in
-    shows keeps ∙ sym (renewed_none c.t.inside.key c.args.w is)
-    ∙ ap (λ k. renewed c.args.self.now k c.args.w) c.t.view_is
+    sym (renewed_none c.t.inside.key c.args.w is) ∙ ap (λ k. renewed c.args.self.now k c.args.w) c.t.view_is
 
-pub invariant_of-self-then-not-was_told : goal.invariant_of-self-then-not-was_told
-invariant_of-self-then-not-was_told g c =
-    let keeps = keeps_unread c.is_told.ensures.same (opened c.self.invariant c.self.view_is) in
+pub invariant_of-self : goal.invariant_of-self
+invariant_of-self g c =
+    let keeps = opened c.self.invariant c.self.view_is in
     let is : mark c.args.self.now c.t.inside.key ≡ Some false =
     sym (marked (opened c.self.invariant c.self.view_is) refl c.is_told.ensures.value) ∙ c.in-Some.is
     ∙ ap Some c.if-not-was_told.true in
@@ -29,7 +27,7 @@ invariant_of-self-then-not-was_told g c =
 
 pub returns-then-not-was_told-clause-after : goal.returns-then-not-was_told-clause-after
 returns-then-not-was_told-clause-after g c =
-    let keeps = keeps_unread c.is_told.ensures.same (opened c.self.invariant c.self.view_is) in
+    let keeps = opened c.self.invariant c.self.view_is in
     let is : mark c.args.self.now c.t.inside.key ≡ Some false =
     sym (marked (opened c.self.invariant c.self.view_is) refl c.is_told.ensures.value) ∙ c.in-Some.is
     ∙ ap Some c.if-not-was_told.true in
@@ -38,7 +36,7 @@ returns-then-not-was_told-clause-after g c =
 
 pub put_last-requires : goal.put_last-requires
 put_last-requires g c =
-    let keeps = keeps_unread c.is_told.ensures.same (opened c.self.invariant c.self.view_is) in
+    let keeps = opened c.self.invariant c.self.view_is in
     let is : mark c.args.self.now c.t.inside.key ≡ Some true =
     sym (marked (opened c.self.invariant c.self.view_is) refl c.is_told.ensures.value) ∙ c.in-Some.is
     ∙ ap Some c.if-not-was_told.false in
@@ -47,7 +45,7 @@ put_last-requires g c =
 
 pub overflow_sub-self : goal.overflow_sub-self
 overflow_sub-self g c =
-    let keeps = keeps_unread c.is_told.ensures.same (opened c.self.invariant c.self.view_is) in
+    let keeps = opened c.self.invariant c.self.view_is in
     let is : mark c.args.self.now c.t.inside.key ≡ Some true =
     sym (marked (opened c.self.invariant c.self.view_is) refl c.is_told.ensures.value) ∙ c.in-Some.is
     ∙ ap Some c.if-not-was_told.false in
@@ -55,7 +53,7 @@ overflow_sub-self g c =
 
 pub invariant_of-self-2 : goal.invariant_of-self-2
 invariant_of-self-2 g c =
-    let keeps = keeps_unread c.is_told.ensures.same (opened c.self.invariant c.self.view_is) in
+    let keeps = opened c.self.invariant c.self.view_is in
     let is : mark c.args.self.now c.t.inside.key ≡ Some true =
     sym (marked (opened c.self.invariant c.self.view_is) refl c.is_told.ensures.value) ∙ c.in-Some.is
     ∙ ap Some c.if-not-was_told.false in
@@ -68,7 +66,7 @@ invariant_of-self-2 g c =
 
 pub returns-clause-after : goal.returns-clause-after
 returns-clause-after g c =
-    let keeps = keeps_unread c.is_told.ensures.same (opened c.self.invariant c.self.view_is) in
+    let keeps = opened c.self.invariant c.self.view_is in
     let is : mark c.args.self.now c.t.inside.key ≡ Some true =
     sym (marked (opened c.self.invariant c.self.view_is) refl c.is_told.ensures.value) ∙ c.in-Some.is
     ∙ ap Some c.if-not-was_told.false in
@@ -80,7 +78,7 @@ returns-clause-after g c =
     shows done ∙ ap (λ k. renewed c.args.self.now k c.args.w) c.t.view_is
 
 pub returns-then-not-was_told-clause-different : goal.returns-then-not-was_told-clause-different
-returns-then-not-was_told-clause-different g c = (invariant_of-self-then-not-was_told g c).links.different
+returns-then-not-was_told-clause-different g c = (invariant_of-self g c).links.different
 
 pub returns-then-not-was_told-clause-waits : goal.returns-then-not-was_told-clause-waits
 returns-then-not-was_told-clause-waits g c =

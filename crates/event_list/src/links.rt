@@ -1,0 +1,236 @@
+//! The entries of a waiting list with what is kept beside them, and all work on them.
+//!
+//! A new entry goes behind the last one, untold. Those told are the front of the list, and `cursor` is
+//! the first behind them: to tell one is to tell the entry at the cursor and to move the cursor to its
+//! neighbour behind. An entry leaves by letting its neighbours name one another, and an end or the
+//! cursor that named it names its neighbour. Who waits again leaves and comes last where it was told,
+//! and stays where it is otherwise. So no call walks along the list.
+//!
+//! Each look-up is counted on the ledger that a call is handed. No other can be opened here, and no
+//! entry is reached without one: see `steps`.
+ghost use Rattle.std.specs.Prelude.{◌≡◌, ◌+◌, ◌<◌, ◌≤◌, ◌↔◌, length, take, is_some, IsTrue, IfNone, IfOk, IfErr, OnErr, slice_get, false};
+ghost use Rattle.std.specs.Bool.{OnTrue, OnFalse};
+ghost use Rattle.event_list.specs.Keys.{is_among, AreDifferent};
+ghost use Rattle.event_list.specs.Waiting.{LosesOne, IsWaiting, nobody, keys, told_count, payloads, mark, joined, without, renewed, told_one, told_all, cancelled, rung_by_cancelling, RingsEach};
+
+use crate::bell::Bell;
+use crate::ends::Ends;
+use crate::entries::Entries;
+use crate::list::NoRoom;
+use crate::list::steps::Lookups;
+use crate::ticket::Ticket;
+use std::alloc::Global;
+use std::marker::Model;
+use std::sync::ledger::Ledger;
+
+/// The entries in order of arrival, of which the first `told` are told.
+#[derive(Drop)]
+pub(crate) struct Links<W> {
+    // Each with the keys of its neighbours.
+    entries: Entries<W>,
+    // The keys of the first one, of the last, and of the first untold one.
+    ends: Ends,
+    // How many entries there are.
+    len: usize,
+    // How many of them are told.
+    told: usize,
+}
+
+impl<W> Model for Links<W> {
+    ghost use Rattle.event_list.specs.Waiting.{Waiting};
+
+    ghost Value = { Waiting W };
+
+    ghost use Rattle.event_list.specs.Chain.{shown, KeepShown};
+
+    ghost view = { λ list. shown list.entries list.ends list.len list.told };
+
+    ghost invariant = { λ list. KeepShown list.entries list.ends list.len list.told };
+}
+
+impl<W: Drop> Links<W> {
+    /// A list where nobody waits. It takes no memory.
+    pub(crate) fn new(alloc: Global) -> Self
+        ensures { result ≡ nobody }
+    {
+        Links {
+            entries: Entries::new(alloc),
+            ends: Ends {
+                first: None,
+                last: None,
+                cursor: None,
+            },
+            len: 0,
+            told: 0,
+        }
+    }
+
+    /// A new entry goes last, untold, under a key that isn't in the list. At most 6 look-ups.
+    pub(crate) fn listen<L: Ledger>(
+        &mut self,
+        w: W,
+        lookups: &mut Lookups<L>,
+    ) -> Result<Ticket, NoRoom<W>>
+        ensures fresh { IfOk result (λ ticket. is_among ticket (keys self.old) ≡ false) }
+        ensures after { IfOk result (λ ticket. self.new ≡ joined self.old ticket w) }
+        ensures waits { IfOk result (λ ticket. IsWaiting self.new ticket w) }
+        ensures refused { IfErr result (λ error. error.0 ≡ w) }
+        ensures unchanged { OnErr result (self.new ≡ self.old) }
+        ensures different { AreDifferent (keys self.new) }
+        ensures counted { lookups.new ≤ lookups.old + 6 }
+        ensures on_this_ledger { lookups.old < lookups.new }
+    {
+        if !self.entries.reserve(lookups) {
+            return Err(NoRoom(w));
+        }
+        let key = self.ends.put_last(&mut self.entries, w, lookups);
+        self.len += 1;
+        Ok(Ticket { key })
+    }
+
+    /// The entry waits again with this payload. At most 6 look-ups.
+    pub(crate) fn again<L: Ledger>(&mut self, t: &Ticket, w: W, lookups: &mut Lookups<L>) -> bool
+        ensures found { result ≡ is_some (mark self.old t.now) }
+        ensures after { self.new ≡ renewed self.old t.now w }
+        ensures waits { OnTrue result (IsWaiting self.new t.now w) }
+        ensures unchanged { OnFalse result (self.new ≡ self.old) }
+        ensures different { AreDifferent (keys self.new) }
+        ensures sizes { LosesOne self.old t.now }
+        ensures counted { lookups.new ≤ lookups.old + 6 }
+        ensures on_this_ledger { lookups.old < lookups.new }
+    {
+        let Some(was_told) = self.entries.is_told(t.key, lookups) else {
+            return false;
+        };
+        if !was_told {
+            self.entries.set_payload(t.key, w, lookups);
+            return true;
+        }
+        self.ends.take_out(&mut self.entries, t.key, lookups);
+        self.ends.put_last(&mut self.entries, w, lookups);
+        self.told -= 1;
+        true
+    }
+
+    /// Tells the longest waiting untold entry. At most one look-up.
+    pub(crate) fn tell_one<B: Bell<W>, L: Ledger>(
+        &mut self,
+        bell: &mut B,
+        lookups: &mut Lookups<L>,
+    ) -> bool
+        ensures told { IsTrue result ↔ (0 < length (payloads self.old)) }
+        ensures after { self.new ≡ told_one self.old }
+        ensures rung { RingsEach B.rings bell.old (take 1 (payloads self.old)) bell.new }
+        ensures different { AreDifferent (keys self.new) }
+        ensures counted { lookups.new ≡ lookups.old + length (take 1 (payloads self.old)) }
+    {
+        let Some(key) = self.ends.cursor else {
+            return false;
+        };
+        let Some((payload, behind)) = self.entries.tell(key, lookups) else {
+            unreachable!()
+        };
+        self.ends.cursor = behind;
+        self.told += 1;
+        bell.ring(payload);
+        true
+    }
+
+    /// Tells every untold entry. At most one look-up for each.
+    pub(crate) fn tell_all<B: Bell<W>, L: Ledger>(
+        &mut self,
+        bell: &mut B,
+        lookups: &mut Lookups<L>,
+    ) -> usize
+        ensures told { result ≡ length (payloads self.old) }
+        ensures after { self.new ≡ told_all self.old }
+        ensures rung { RingsEach B.rings bell.old (payloads self.old) bell.new }
+        ensures different { AreDifferent (keys self.new) }
+        ensures counted { lookups.new ≡ lookups.old + length (payloads self.old) }
+    {
+        let untold = self.len() - self.told();
+        for _turn in 0..untold {
+            self.tell_one(bell, lookups);
+        }
+        untold
+    }
+
+    /// The entry leaves. At most 6 look-ups.
+    pub(crate) fn remove<L: Ledger>(&mut self, t: Ticket, lookups: &mut Lookups<L>) -> Option<bool>
+        ensures was_told { result ≡ mark self.old t }
+        ensures after { self.new ≡ without self.old t }
+        ensures unchanged { IfNone result (self.new ≡ self.old) }
+        ensures different { AreDifferent (keys self.new) }
+        ensures sizes { LosesOne self.old t }
+        ensures counted { lookups.new ≤ lookups.old + 6 }
+        ensures on_this_ledger { lookups.old < lookups.new }
+    {
+        let was_told = self.ends.take_out(&mut self.entries, t.key, lookups)?;
+        self.len -= 1;
+        if was_told {
+            self.told -= 1;
+        }
+        Some(was_told)
+    }
+
+    /// The entry leaves, and where it was told, one is told in its place. At most 12 look-ups.
+    pub(crate) fn cancel<B: Bell<W>, L: Ledger>(
+        &mut self,
+        t: Ticket,
+        bell: &mut B,
+        lookups: &mut Lookups<L>,
+    )
+        ensures after { self.new ≡ cancelled self.old t }
+        ensures rung { RingsEach B.rings bell.old (rung_by_cancelling self.old t) bell.new }
+        ensures different { AreDifferent (keys self.new) }
+        ensures sizes { LosesOne self.old t }
+        ensures counted { lookups.new ≤ lookups.old + 12 }
+        ensures on_this_ledger { lookups.old < lookups.new }
+    {
+        if self.remove(t, lookups) == Some(true) {
+            self.tell_one(bell, lookups);
+        }
+    }
+
+    /// Whether the ticket's entry is told, or nothing where it isn't in the list. One look-up.
+    pub(crate) fn is_told<L: Ledger>(&self, t: &Ticket, lookups: &mut Lookups<L>) -> Option<bool>
+        ensures value { result ≡ mark self.now t.now }
+        ensures counted { lookups.new ≡ lookups.old + 1 }
+    {
+        self.entries.is_told(t.key, lookups)
+    }
+
+    /// Whether somebody is untold.
+    #[inline(always)]
+    pub(crate) fn has_untold(&self) -> bool
+        ensures answer { IsTrue result ↔ (0 < length (payloads self.now)) }
+        ensures different { AreDifferent (keys self.now) }
+    {
+        self.ends.cursor.is_some()
+    }
+
+    /// How many wait.
+    pub(crate) fn len(&self) -> usize
+        ensures count { result ≡ length (keys self.now) }
+        ensures different { AreDifferent (keys self.now) }
+    {
+        self.len
+    }
+
+    /// How many are told.
+    pub(crate) fn told(&self) -> usize
+        ensures { result ≡ told_count self.now }
+    {
+        self.told
+    }
+
+    /// The key of the first entry, where somebody is told.
+    pub(crate) fn first_told(&self) -> Option<usize>
+        ensures { result ≡ slice_get self.now.told 0 }
+    {
+        if self.told == 0 {
+            return None;
+        }
+        self.ends.first
+    }
+}
