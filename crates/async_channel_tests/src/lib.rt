@@ -2,7 +2,11 @@
 #![tactic(auto)]
 
 #[cfg(test)]
+mod answers;
+#[cfg(test)]
 mod handles;
+#[cfg(test)]
+mod large;
 #[cfg(test)]
 mod names;
 #[cfg(test)]

@@ -34,15 +34,27 @@ fn documentation_of_force_send(rt: HostRuntime) -> Result<(), Fail> {
         &rt,
         Some(3),
         &[
-            (Send(1), Sent(Ok(()))),
-            (Send(2), Sent(Ok(()))),
+            (TrySend(1), TrySent(Ok(()))),
+            (TrySend(2), TrySent(Ok(()))),
             (ForceSend(3), Forced(Ok(None))),
             (ForceSend(4), Forced(Ok(Some(1)))),
-            (Recv, Got(Ok(2))),
-            (Recv, Got(Ok(3))),
-            (Recv, Got(Ok(4))),
+            (TryRecv, Received(Ok(2))),
+            (TryRecv, Received(Ok(3))),
+            (TryRecv, Received(Ok(4))),
+        ],
+    )
+}
+
+#[test]
+fn a_forced_send_into_a_closed_channel(rt: HostRuntime) -> Result<(), Fail> {
+    run(
+        &rt,
+        Some(3),
+        &[
+            (Send(1), Sent(Ok(()))),
             (CloseReceiver, Flag(true)),
             (ForceSend(5), Forced(Err(SendError(5)))),
+            (Recv, Got(Ok(1))),
         ],
     )
 }
@@ -72,12 +84,15 @@ fn forced_sends_into_new_channels(rt: HostRuntime) -> Result<(), Fail> {
 
 #[test]
 fn smoke(rt: HostRuntime) -> Result<(), Fail> {
-    for capacity in [Some(1), None] {
+    for (capacity, call, sent) in [
+        (Some(1), Send(7), Sent(Ok(()))),
+        (None, TrySend(7), TrySent(Ok(()))),
+    ] {
         run(
             &rt,
             capacity,
             &[
-                (TrySend(7), TrySent(Ok(()))),
+                (call, sent),
                 (TryRecv, Received(Ok(7))),
                 (Send(8), Sent(Ok(()))),
                 (Recv, Got(Ok(8))),

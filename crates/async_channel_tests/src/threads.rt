@@ -142,19 +142,21 @@ fn send(rt: HostRuntime) -> Result<(), Fail> {
     Ok(())
 }
 
-/// Sends fifty messages and receives them, and looks at the length behind each.
+/// Sends so many messages and receives them, and looks at the length behind each.
 fn fills_and_drains<R: Wait + Clone + Drop + RandomSource + AllocGlobal>(
     rt: &R,
     s: &Sender<usize, R>,
     r: &Receiver<usize, R>,
+    count: usize,
 ) -> bool {
-    for i in 0..50usize {
+    for i in 0..count {
         if !matches!(block_on(rt, s.send(i)), Ok(Ok(Ok(())))) || s.len() != i + 1 {
             return false;
         }
     }
-    for i in 0..50usize {
-        if !matches!(block_on(rt, r.recv()), Ok(Ok(Ok(m))) if m == i) || r.len() != 49 - i {
+    for i in 0..count {
+        let is_next = matches!(block_on(rt, r.recv()), Ok(Ok(Ok(m))) if m == i);
+        if !is_next || r.len() != count - i - 1 {
             return false;
         }
     }
@@ -166,29 +168,34 @@ fn len(rt: HostRuntime) -> Result<(), Fail> {
     for capacity in [Some(1_000), None] {
         let (s, r) = channel(&rt, rt.alloc(), capacity)?;
         assert!(rt; s.len() == 0 && r.len() == 0);
-        assert!(rt; fills_and_drains(&rt, &s, &r) && fills_and_drains(&rt, &s, &r));
-        assert!(rt; s.len() == 0 && r.len() == 0);
+        for count in [50, 50, 1_000] {
+            assert!(rt; fills_and_drains(&rt, &s, &r, count));
+            assert!(rt; s.len() == 0 && r.len() == 0);
+        }
     }
     Ok(())
 }
 
 #[test]
 fn len_under_threads(rt: HostRuntime) -> Result<(), Fail> {
-    let (s, r) = channel(&rt, rt.alloc(), Some(100))?;
-    let sender = thread::spawn(&rt, move || {
-        for number in 0..COUNT {
-            if !matches!(block_on(&rt, s.send(number)), Ok(Ok(Ok(())))) || s.len() > 100 {
-                return false;
+    for capacity in [1, 10, 1_000] {
+        let (s, r) = channel(&rt, rt.alloc(), Some(capacity))?;
+        let sender = thread::spawn(&rt, move || {
+            for number in 0..COUNT {
+                let is_sent = matches!(block_on(&rt, s.send(number)), Ok(Ok(Ok(()))));
+                if !is_sent || s.len() > capacity {
+                    return false;
+                }
             }
+            true
+        })?;
+        for number in 0..COUNT {
+            assert_eq!(rt; block_on(&rt, r.recv())?, Ok(Ok(number)));
+            assert!(rt; r.len() <= capacity);
         }
-        true
-    })?;
-    for number in 0..COUNT {
-        assert_eq!(rt; block_on(&rt, r.recv())?, Ok(Ok(number)));
-        assert!(rt; r.len() <= 100);
+        assert!(rt; sender.join(&rt));
+        assert_eq!(rt; r.len(), 0);
     }
-    assert!(rt; sender.join(&rt));
-    assert_eq!(rt; r.len(), 0);
     Ok(())
 }
 

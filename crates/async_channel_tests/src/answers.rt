@@ -1,0 +1,299 @@
+//! What both sides say of a channel, call by call: rows of calls, with the answers of all questions
+//! behind each.
+use async_channel::{
+    CloneError, Receiver, Sender, StampMaker, WeakReceiver, WeakSender, bounded, unbounded,
+};
+use std::alloc::{AllocError, AllocGlobal, Global};
+use std::process::Abort;
+use std::sync::Wait;
+use std::test::Fail;
+
+/// A call that changes what the questions answer. A copy is made of the first handle of a kind, or
+/// of the first weak one, and the last of a kind is given up.
+#[derive(Clone, Copy, Debug)]
+enum Call {
+    Send(u64),
+    Take,
+    CloseSender,
+    CloseReceiver,
+    CopySender,
+    CopyReceiver,
+    DropSender,
+    DropReceiver,
+    DowngradeSender,
+    DowngradeReceiver,
+    CopyWeakSender,
+    CopyWeakReceiver,
+    DropWeakSender,
+    DropWeakReceiver,
+    UpgradeSender,
+    UpgradeReceiver,
+}
+
+use Call::*;
+
+/// All handles of a channel.
+#[derive(Drop)]
+struct Handles<R: Wait + Clone + Drop> {
+    senders: Vec<Sender<u64, R>>,
+    receivers: Vec<Receiver<u64, R>>,
+    weak_senders: Vec<WeakSender<u64, R>>,
+    weak_receivers: Vec<WeakReceiver<u64, R>>,
+}
+
+impl<R: Wait + Clone + Drop> Handles<R> {
+    fn make(&mut self, call: Call) -> Result<(), Fail> {
+        match call {
+            Send(_) | CloseSender | CopySender | DowngradeSender => self.by_sender(call),
+            Take | CloseReceiver | CopyReceiver | DowngradeReceiver => self.by_receiver(call),
+            CopyWeakSender | UpgradeSender => self.by_weak_sender(call),
+            CopyWeakReceiver | UpgradeReceiver => self.by_weak_receiver(call),
+            DropSender => Ok(drop(self.senders.pop().ok_or("a sender")?)),
+            DropReceiver => Ok(drop(self.receivers.pop().ok_or("a receiver")?)),
+            DropWeakSender => Ok(drop(self.weak_senders.pop().ok_or("a weak sender")?)),
+            DropWeakReceiver => Ok(drop(self.weak_receivers.pop().ok_or("a weak receiver")?)),
+        }
+    }
+
+    fn by_sender(&mut self, call: Call) -> Result<(), Fail> {
+        let sender = self.senders.first().ok_or("a sender")?;
+        match call {
+            Send(m) => drop(sender.try_send(m)?),
+            CopySender => {
+                let copy = sender.try_clone()?;
+                self.senders.push(copy)?;
+            }
+            DowngradeSender => self.weak_senders.push(sender.downgrade()?)?,
+            _ => drop(sender.close()),
+        }
+        Ok(())
+    }
+
+    fn by_receiver(&mut self, call: Call) -> Result<(), Fail> {
+        let receiver = self.receivers.first().ok_or("a receiver")?;
+        match call {
+            Take => drop(receiver.try_recv()),
+            CopyReceiver => {
+                let copy = receiver.try_clone()?;
+                self.receivers.push(copy)?;
+            }
+            DowngradeReceiver => self.weak_receivers.push(receiver.downgrade()?)?,
+            _ => drop(receiver.close()),
+        }
+        Ok(())
+    }
+
+    fn by_weak_sender(&mut self, call: Call) -> Result<(), Fail> {
+        let weak = self.weak_senders.first().ok_or("a weak sender")?;
+        if matches!(call, CopyWeakSender) {
+            let copy = weak.try_clone()?;
+            self.weak_senders.push(copy)?;
+        } else if let Some(sender) = weak.upgrade()? {
+            self.senders.push(sender)?;
+        }
+        Ok(())
+    }
+
+    fn by_weak_receiver(&mut self, call: Call) -> Result<(), Fail> {
+        let weak = self.weak_receivers.first().ok_or("a weak receiver")?;
+        if matches!(call, CopyWeakReceiver) {
+            let copy = weak.try_clone()?;
+            self.weak_receivers.push(copy)?;
+        } else if let Some(receiver) = weak.upgrade()? {
+            self.receivers.push(receiver)?;
+        }
+        Ok(())
+    }
+}
+
+/// What a sender says of its channel.
+fn said_by_sender<R: Wait + Clone + Drop>(
+    alloc: Global,
+    s: &Sender<u64, R>,
+) -> Result<String, AllocError> {
+    let (held, senders, receivers) = (s.len(), s.sender_count(), s.receiver_count());
+    let mut said = format!(in alloc; "{held} held, {senders} to {receivers}")?;
+    for (is_so, word) in [
+        (s.is_empty(), ", empty"),
+        (s.is_full(), ", full"),
+        (s.is_closed(), ", closed"),
+    ] {
+        said.push_str(if is_so { word } else { "" })?;
+    }
+    Ok(said)
+}
+
+/// What a receiver says of its channel, but for whether it is terminated.
+fn said_by_receiver<R: Wait + Clone + Drop>(
+    alloc: Global,
+    r: &Receiver<u64, R>,
+) -> Result<String, AllocError> {
+    let (held, senders, receivers) = (r.len(), r.sender_count(), r.receiver_count());
+    let mut said = format!(in alloc; "{held} held, {senders} to {receivers}")?;
+    for (is_so, word) in [
+        (r.is_empty(), ", empty"),
+        (r.is_full(), ", full"),
+        (r.is_closed(), ", closed"),
+    ] {
+        said.push_str(if is_so { word } else { "" })?;
+    }
+    Ok(said)
+}
+
+/// Makes the calls in order on a new channel. Behind each all strong handles say the same of it:
+/// how many messages it holds, how many senders and receivers live, and which of the questions are
+/// answered by true.
+fn run<R: Wait + Clone + Drop + AllocGlobal + Abort>(
+    rt: &R,
+    capacity: Option<usize>,
+    rows: &[(Call, &str)],
+) -> Result<(), Fail> {
+    let alloc = rt.alloc();
+    let mut maker = StampMaker::new();
+    let (other_s, other_r) = unbounded(rt, alloc, &mut maker)?;
+    let (s, r) = match capacity {
+        Some(cap) if cap > 0 => bounded(rt, alloc, cap, &mut maker)?,
+        _ => unbounded(rt, alloc, &mut maker)?,
+    };
+    let tag = s.tag;
+    let mut handles = Handles {
+        senders: vec![in alloc; s]?,
+        receivers: vec![in alloc; r]?,
+        weak_senders: Vec::new(alloc),
+        weak_receivers: Vec::new(alloc),
+    };
+    for (call, want) in rows {
+        handles.make(*call)?;
+        for s in &handles.senders {
+            let said = said_by_sender(alloc, s)?;
+            assert!(rt; said.as_str() == *want, "{call:?}: {said}");
+            assert!(rt; s.capacity() == capacity && s.tag.same_channel(&tag));
+            assert!(rt; s.same_channel(s) && !s.same_channel(&other_s));
+        }
+        for r in &handles.receivers {
+            let said = said_by_receiver(alloc, r)?;
+            assert!(rt; said.as_str() == *want, "{call:?}: {said}");
+            assert!(rt; r.is_terminated() == (r.is_closed() && r.is_empty()));
+            assert!(rt; r.capacity() == capacity && r.tag.same_channel(&tag));
+            assert!(rt; r.same_channel(r) && !r.same_channel(&other_r));
+        }
+    }
+    Ok(())
+}
+
+#[test]
+fn messages_are_counted(rt: HostRuntime) -> Result<(), Fail> {
+    run(
+        &rt,
+        Some(2),
+        &[
+            (Take, "0 held, 1 to 1, empty"),
+            (Send(1), "1 held, 1 to 1"),
+            (Send(2), "2 held, 1 to 1, full"),
+            (Send(3), "2 held, 1 to 1, full"),
+            (Take, "1 held, 1 to 1"),
+            (CloseSender, "1 held, 1 to 1, closed"),
+            (Send(3), "1 held, 1 to 1, closed"),
+            (Take, "0 held, 1 to 1, empty, closed"),
+            (Take, "0 held, 1 to 1, empty, closed"),
+            (CloseReceiver, "0 held, 1 to 1, empty, closed"),
+        ],
+    )?;
+    run(
+        &rt,
+        None,
+        &[
+            (Send(1), "1 held, 1 to 1"),
+            (Send(2), "2 held, 1 to 1"),
+            (CloseReceiver, "2 held, 1 to 1, closed"),
+            (Take, "1 held, 1 to 1, closed"),
+            (Take, "0 held, 1 to 1, empty, closed"),
+        ],
+    )?;
+    run(
+        &rt,
+        Some(1),
+        &[
+            (Send(1), "1 held, 1 to 1, full"),
+            (CloseReceiver, "1 held, 1 to 1, full, closed"),
+            (DropSender, "1 held, 0 to 1, full, closed"),
+            (Take, "0 held, 0 to 1, empty, closed"),
+        ],
+    )
+}
+
+#[test]
+fn senders_are_counted(rt: HostRuntime) -> Result<(), Fail> {
+    for capacity in [Some(1), None] {
+        run(
+            &rt,
+            capacity,
+            &[
+                (CopySender, "0 held, 2 to 1, empty"),
+                (CopySender, "0 held, 3 to 1, empty"),
+                (DropSender, "0 held, 2 to 1, empty"),
+                (DowngradeSender, "0 held, 2 to 1, empty"),
+                (CopyWeakSender, "0 held, 2 to 1, empty"),
+                (DropWeakSender, "0 held, 2 to 1, empty"),
+                (UpgradeSender, "0 held, 3 to 1, empty"),
+                (DropSender, "0 held, 2 to 1, empty"),
+                (DropSender, "0 held, 1 to 1, empty"),
+                (UpgradeSender, "0 held, 2 to 1, empty"),
+                (DropSender, "0 held, 1 to 1, empty"),
+                // a weak one alone doesn't keep it open, and comes too late
+                (DropSender, "0 held, 0 to 1, empty, closed"),
+                (UpgradeSender, "0 held, 0 to 1, empty, closed"),
+                (DropWeakSender, "0 held, 0 to 1, empty, closed"),
+                (CopyReceiver, "0 held, 0 to 2, empty, closed"),
+            ],
+        )?;
+    }
+    Ok(())
+}
+
+#[test]
+fn receivers_are_counted(rt: HostRuntime) -> Result<(), Fail> {
+    for capacity in [Some(1), None] {
+        run(
+            &rt,
+            capacity,
+            &[
+                (CopyReceiver, "0 held, 1 to 2, empty"),
+                (CopyReceiver, "0 held, 1 to 3, empty"),
+                (DropReceiver, "0 held, 1 to 2, empty"),
+                (DowngradeReceiver, "0 held, 1 to 2, empty"),
+                (CopyWeakReceiver, "0 held, 1 to 2, empty"),
+                (DropWeakReceiver, "0 held, 1 to 2, empty"),
+                (UpgradeReceiver, "0 held, 1 to 3, empty"),
+                (DropReceiver, "0 held, 1 to 2, empty"),
+                (DropReceiver, "0 held, 1 to 1, empty"),
+                (UpgradeReceiver, "0 held, 1 to 2, empty"),
+                (DropReceiver, "0 held, 1 to 1, empty"),
+                // a weak one alone doesn't keep it open, and comes too late
+                (DropReceiver, "0 held, 1 to 0, empty, closed"),
+                (UpgradeReceiver, "0 held, 1 to 0, empty, closed"),
+                (DropWeakReceiver, "0 held, 1 to 0, empty, closed"),
+                (CopySender, "0 held, 2 to 0, empty, closed"),
+            ],
+        )?;
+    }
+    Ok(())
+}
+
+#[test]
+fn no_weak_handle_is_upgraded_on_a_closed_channel(rt: HostRuntime) -> Result<(), Fail> {
+    run(
+        &rt,
+        None,
+        &[
+            (DowngradeSender, "0 held, 1 to 1, empty"),
+            (DowngradeReceiver, "0 held, 1 to 1, empty"),
+            (CloseSender, "0 held, 1 to 1, empty, closed"),
+            (UpgradeSender, "0 held, 1 to 1, empty, closed"),
+            (UpgradeReceiver, "0 held, 1 to 1, empty, closed"),
+            (CopySender, "0 held, 2 to 1, empty, closed"),
+            (CopyReceiver, "0 held, 2 to 2, empty, closed"),
+            (DropSender, "0 held, 1 to 2, empty, closed"),
+        ],
+    )
+}
