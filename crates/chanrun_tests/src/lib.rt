@@ -1,4 +1,5 @@
-//! Tests of scripts, by public calls: worked rows, faults, devices that fail, and the ends of the program.
+//! Tests of scripts, by public calls: worked rows, faults, devices that fail, and the ends of the
+//! program.
 #![tactic(auto)]
 
 #[cfg(test)]
@@ -7,6 +8,8 @@ mod devices;
 mod ends;
 #[cfg(test)]
 mod hostile;
+#[cfg(test)]
+mod replay;
 #[cfg(test)]
 mod rows;
 #[cfg(test)]
