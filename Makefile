@@ -14,6 +14,7 @@ run:
 
 test:
 	rt ci
+	python3 tools/chanrun_runs.py
 
 check:
 	rt all check

@@ -1,0 +1,68 @@
+#!/usr/bin/env python3
+"""Runs the built chanrun on each case of tools/chanrun_runs.
+
+A case is a folder: args (one a line), stdin, stdout, stderr and status. The file stdout_to, where
+there is one, names a device that standard output goes to. Status and both streams are compared.
+The gate leaves the program built; where it isn't, `rt run` builds it. The last line counts the
+cases, and the status is 0 where all passed.
+"""
+
+import pathlib
+import subprocess
+import sys
+
+TOOLS = pathlib.Path(__file__).resolve().parent
+CRATE = TOOLS.parent / "crates" / "chanrun_program"
+PROGRAM = CRATE / "out" / "chanrun_program"
+SECONDS = 60
+
+
+def built():
+    """The program as the gate leaves it, or as `rt run` builds it."""
+    if not PROGRAM.is_file():
+        with open(CRATE / "stdin", "rb") as script:
+            subprocess.run(["rt", "run"], cwd=CRATE, stdin=script, stdout=subprocess.DEVNULL)
+    return PROGRAM
+
+
+def told(case, name):
+    """What the case says under that name, or nothing."""
+    path = case / name
+    return path.read_bytes() if path.is_file() else b""
+
+
+def differences(program, case):
+    """Runs one case, and names what is other than it says."""
+    arguments = told(case, "args").decode().splitlines()
+    device = told(case, "stdout_to").decode().strip()
+    with open(device or "/dev/null", "wb") as output:
+        ran = subprocess.run(
+            [program, *arguments],
+            input=told(case, "stdin"),
+            stdout=output if device else subprocess.PIPE,
+            stderr=subprocess.PIPE,
+            timeout=SECONDS,
+        )
+    wanted = {
+        "status": int(told(case, "status")),
+        "stdout": told(case, "stdout"),
+        "stderr": told(case, "stderr"),
+    }
+    given = {"status": ran.returncode, "stdout": ran.stdout or b"", "stderr": ran.stderr}
+    return [f"{it}: {given[it]!r}, not {wanted[it]!r}" for it in wanted if given[it] != wanted[it]]
+
+
+def main():
+    program = built()
+    cases = sorted(it for it in (TOOLS / "chanrun_runs").iterdir() if it.is_dir())
+    failed = 0
+    for case in cases:
+        wrong = differences(program, case)
+        failed += bool(wrong)
+        print(f"chanrun: {case.name}: {'; '.join(wrong) or 'ok'}")
+    print(f"chanrun: {len(cases) - failed} passed, {failed} failed")
+    return 0 if cases and not failed else 1
+
+
+if __name__ == "__main__":
+    sys.exit(main())
