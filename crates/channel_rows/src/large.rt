@@ -7,6 +7,9 @@ use std::test::Fail;
 
 const MANY: u64 = 100_000;
 
+/// How many operations of a run live at once: a run looks some of them up one by one.
+const NAMES: u64 = 10_000;
+
 #[test]
 fn a_waiting_list(rt: HostRuntime) -> Result<(), Fail> {
     let mut list = WaitList::new(rt.alloc());
@@ -85,18 +88,15 @@ fn steps_of_a_run(rt: HostRuntime) -> Result<(), Fail> {
 #[test]
 fn operations_of_a_run(rt: HostRuntime) -> Result<(), Fail> {
     let mut run: Run<u64> = Run::new(rt.alloc(), Kind::Unbounded)?;
-    for op in 0..MANY {
+    for op in 0..NAMES {
         assert_eq!(rt; run.step(Step::StartRecv { op, receiver: 0 }), Reply::Done);
         assert_eq!(rt; run.step(Step::Poll(op)), Reply::RecvPolled(Poll::Pending));
     }
-    for m in 0..MANY {
+    for m in 0..NAMES {
         assert_eq!(rt; run.step(Step::TrySend(0, m)), Reply::TrySent(Ok(())));
     }
-    for op in 0..MANY {
-        assert_eq!(rt;
-            run.step(Step::Poll(op)),
-            Reply::RecvPolled(Poll::Ready(Ok(op)))
-        );
-    }
+    let settled = run.settle()?;
+    assert_eq!(rt; settled.polls, 10_000);
+    assert_eq!(rt; settled.finished.len() as u64, NAMES);
     Ok(())
 }
