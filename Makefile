@@ -6,7 +6,7 @@ help:
 	@echo 'make run    proves and builds the channel, and runs trysend, and chanrun on examples/tour.chan'
 	@echo 'make test   the gate: every proof from nothing, must-fail edits, tests and programs'
 	@echo 'make check  every crate, lowest first, over what earlier checks kept'
-	@echo 'make bench  measures the waiting list and the handles'
+	@echo 'make bench  measures the waiting list, the handles and the parallel map'
 
 run:
 	cd crates/trysend && rt run
@@ -22,3 +22,4 @@ check:
 bench:
 	cd crates/bench_waiters && rt run -- measure
 	cd crates/bench_channel && rt run -- measure
+	cd crates/bench_map && rt run -- measure

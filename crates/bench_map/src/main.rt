@@ -1,0 +1,84 @@
+//! Measures what a map by many threads costs, where it is given the argument `measure`. Else it
+//! prints one line.
+//!
+//! The same job runs over the same inputs in the plain loop, in the kit's `rayon`, and in `map_all`
+//! with one, two and four workers. All have to come to the same total.
+#![tactic(auto)]
+
+mod job;
+mod ways;
+
+use anyhow::Result;
+use job::Stir;
+use std::alloc::AllocGlobal;
+use std::env;
+use std::rt::{Clock, Env};
+use std::sync::Wait;
+use std::thread::Threads;
+use ways::{Best, Way, best_of};
+
+/// The greatest number of workers.
+const MOST_WORKERS: usize = 4;
+
+/// Whether the only argument asks for the measuring.
+fn is_asked<R: Env + AllocGlobal>(rt: &R) -> Result<bool> {
+    let mut arguments = env::args(rt)?;
+    let _program = arguments.next();
+    Ok(matches!(arguments.next(), Some(word) if word.as_str() == "measure"))
+}
+
+/// So many hundredths of a number, as text with a point.
+fn hundredths<R: AllocGlobal>(rt: &R, nanos: u128, of: u128) -> Result<String> {
+    let parts = nanos.saturating_mul(100) / of.max(1);
+    Ok(format!(in rt.alloc(); "{}.{:02}", parts / 100, parts % 100)?)
+}
+
+/// Prints the row of one way: its time, and its ratios to the plain loop and to rayon.
+fn row<R: Print + AllocGlobal>(
+    rt: &R,
+    job: &str,
+    way: &str,
+    best: &Best,
+    plain: &Best,
+    rayon: &Best,
+) -> Result<()> {
+    let micros = best.nanos / 1000;
+    let to_plain = hundredths(rt, best.nanos, plain.nanos)?;
+    let to_rayon = hundredths(rt, best.nanos, rayon.nanos)?;
+    println!(rt; "| {job} | {way} | {micros} | {to_plain} | {to_rayon} |")?;
+    Ok(())
+}
+
+/// Prints the rows of one job over so many inputs.
+fn report<const STEPS: u64, R>(rt: &R, job: &Stir<STEPS>, name: &str, count: u64) -> Result<()>
+where
+    R: Threads + Wait + Clone + Drop + AllocGlobal + Clock + Print + Send + Sync,
+{
+    let inputs = (0..count).collect::<Vec<_>>(rt.alloc())?;
+    let inputs = inputs.as_slice();
+    let plain = best_of(rt, job, inputs, Way::Plain)?;
+    let rayon = best_of(rt, job, inputs, Way::Rayon)?;
+    row(rt, name, "plain loop", &plain, &plain, &rayon)?;
+    row(rt, name, "rayon", &rayon, &plain, &rayon)?;
+    for workers in [1, 2, MOST_WORKERS] {
+        let best = best_of(rt, job, inputs, Way::Map { workers })?;
+        anyhow::ensure!(
+            best.total == plain.total && rayon.total == plain.total,
+            "totals differ"
+        );
+        let way = format!(in rt.alloc(); "`map_all`, workers: {workers}")?;
+        row(rt, name, way.as_str(), &best, &plain, &rayon)?;
+    }
+    Ok(())
+}
+
+fn main(rt: HostRuntime) -> Result<()> {
+    if !is_asked(&rt)? {
+        println!(rt; "bench_map measures only with the argument: measure")?;
+        return Ok(());
+    }
+    println!(rt; "| Job | Way | µs | to the plain loop | to rayon |")?;
+    println!(rt; "|---|---|---|---|---|")?;
+    report(&rt, &Stir::<1>, "1,000,000 cheap", 1_000_000)?;
+    report(&rt, &Stir::<60_000>, "1,000 dear", 1_000)
+}
