@@ -29,8 +29,8 @@ use std::sync::Arc;
 #[cfg(feature = "run")]
 #[doc(hidden)]
 pub mod run {
-    pub use crate::proved::channel_core::{Kind, Notice, Refusal, Reply, Run, Side, Step, Who};
-    pub use crate::proved::channel_core::{SendError, Settled, TryRecvError, TrySendError};
+    pub use crate::proved::channel_core::{Kind, Notice, OutOfMemory, Refusal, Reply, Side, Step, Who};
+    pub use crate::proved::channel_core::{Run, Settled};
     pub use crate::shim::Global;
 }
 
