@@ -6,6 +6,7 @@
 
 use crate::proved::event_list::Bell;
 use std::cell::Cell;
+use std::mem;
 use std::task::{Context, Waker};
 
 thread_local! {
@@ -54,31 +55,42 @@ pub(crate) fn catch<A>(step: impl FnOnce() -> A) -> (A, Option<Waker>) {
 
 /// The wakers of those whom a step told, in the order in which it told them.
 ///
-/// Most steps tell one at the most, so that the list of the others takes no memory.
+/// Most steps tell one at the most, which takes no memory.
 #[derive(Default)]
-pub(crate) struct Told {
-    first: Option<Waker>,
-    others: Vec<Waker>,
+pub(crate) enum Told {
+    #[default]
+    Nobody,
+    One(Waker),
+    Many(Vec<Waker>),
 }
 
 impl Told {
     /// Wakes them. The lock has been let go by now.
     #[inline]
     pub(crate) fn wake(self) {
-        if let Some(waker) = self.first {
-            waker.wake();
-            self.others.into_iter().for_each(Waker::wake);
+        match self {
+            Told::Nobody => {}
+            Told::One(waker) => waker.wake(),
+            Told::Many(wakers) => wakers.into_iter().for_each(Waker::wake),
+        }
+    }
+
+    fn add(&mut self, waker: Waker) {
+        *self = match mem::take(self) {
+            Told::Nobody => Told::One(waker),
+            Told::One(first) => Told::Many(vec![first, waker]),
+            Told::Many(mut wakers) => {
+                wakers.push(waker);
+                Told::Many(wakers)
+            }
         }
     }
 }
 
 impl Bell<Mark> for Told {
-    #[inline]
     fn ring(&mut self, mut mark: Mark) {
-        if self.first.is_none() {
-            self.first = mark.0.take();
-        } else {
-            self.others.extend(mark.0.take());
+        if let Some(waker) = mark.0.take() {
+            self.add(waker);
         }
     }
 }
