@@ -6,18 +6,15 @@
 
 use crate::lock::Lock;
 use crate::marks::{catch, Mark, Told};
-use crate::proved::channel_core::{Core as ProvedCore, RecvError, SendError};
-use crate::proved::channel_core::{TryRecvError, TrySendError};
+use crate::proved::channel_core::{Core as ProvedCore, HANDLE_LIMIT};
 use crate::proved::event_list::Ticket;
 use crate::shim::Global;
+use crate::{RecvError, SendError, TryRecvError, TrySendError};
 use std::process::abort;
 use std::sync::atomic::{AtomicUsize, Ordering};
 use std::task::{Context, Poll};
 
 type Core<T> = ProvedCore<T, Mark>;
-
-/// Copying a handle ends the program where there are more handles of its kind than this.
-const HANDLE_LIMIT: usize = usize::MAX / 2;
 
 /// What the handles of a channel share.
 pub(crate) struct Channel<T> {
@@ -258,7 +255,7 @@ impl<T> Channel<T> {
     }
 }
 
-/// Counts one more handle, a copy of one that there is.
+/// Counts one more handle, a copy of one that there is. The program ends where they are too many.
 #[inline]
 fn add(count: &AtomicUsize) {
     if count.fetch_add(1, Ordering::SeqCst) > HANDLE_LIMIT {

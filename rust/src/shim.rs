@@ -1,8 +1,8 @@
-//! What the proved source stands on, over `std` and `slab`. It is written by hand and trusted; its
-//! tests say what the proofs rely on.
+//! What the proved source stands on, over `std` and `slab`: written by hand, and trusted. Its tests
+//! say what the proofs rely on.
 //!
-//! Memory isn't refused here: where there is none, the program ends, as with every collection of
-//! `std`. So an answer that tells of a refusal can't be made.
+//! Memory isn't refused here. Where there is none the program ends, as with every collection of
+//! `std`, so that an answer which tells of a refusal can't be made.
 
 use std::collections;
 use std::convert::Infallible;
@@ -15,132 +15,114 @@ pub struct Global;
 
 /// A value for which there was no memory.
 pub struct Refused<T> {
-    pub(crate) value: T,
+    pub value: T,
     _never: Infallible,
 }
 
-/// The name of a ledger. Ledgers are for the prover, so these count nothing.
+/// A ledger counts for the prover alone, so these count nothing and take no bytes.
 pub trait Ledger {}
 pub struct Brand;
 impl Ledger for Brand {}
 pub struct Blank;
 pub struct Book<L>(PhantomData<L>);
-pub struct Share<L>(PhantomData<L>);
+pub type Share<L> = Book<L>;
 
 impl Blank {
-    pub(crate) fn new(_parts: u64) -> Self {
+    pub fn new(_parts: u64) -> Self {
         Blank
     }
-    pub(crate) fn open<L: Ledger>(self) -> (Book<L>, Share<L>) {
-        (Book(PhantomData), Share(PhantomData))
+    pub fn open<L: Ledger>(self) -> (Book<L>, Share<L>) {
+        (Book(PhantomData), Book(PhantomData))
     }
 }
-
 impl<L> Book<L> {
-    pub(crate) fn add(&mut self, _share: &mut Share<L>, _amount: u64) {}
+    pub fn add(&mut self, _share: &mut Share<L>, _amount: u64) {}
 }
 
-/// Types that have the calls of another one. Below are the calls that are made or answered otherwise.
-macro_rules! over {
-    ($($name:ident<$($part:ident),*>: $inner:ty;)*) => {$(
-        pub struct $name<$($part),*>($inner, PhantomData<($($part),*,)>);
-        impl<$($part),*> Deref for $name<$($part),*> {
-            type Target = $inner;
-            fn deref(&self) -> &$inner {
-                &self.0
-            }
-        }
-        impl<$($part),*> DerefMut for $name<$($part),*> {
-            fn deref_mut(&mut self) -> &mut $inner {
-                &mut self.0
-            }
-        }
-        impl<$($part),*> $name<$($part),*> {
-            pub(crate) fn new(_: Global) -> Self {
-                $name(<$inner>::new(), PhantomData)
-            }
-        }
-    )*};
-}
+/// A collection, and what is kept beside it. It has all calls of the collection; those below are made
+/// or answered otherwise.
+pub struct Over<C, K = Global>(C, K);
+pub type BTreeMap<K, V> = Over<collections::BTreeMap<K, V>>;
+pub type Slab<V> = Over<slab::Slab<V>>;
+pub type Vec<T> = Over<std::vec::Vec<T>>;
+pub type VecDeque<T, A> = Over<collections::VecDeque<T>, A>;
+/// A queue that never holds more than the number beside it, for which it has room from the start.
+pub type HeapCircularBuffer<T> = Over<collections::VecDeque<T>, usize>;
 
-over! {
-    BTreeMap<K, V>: collections::BTreeMap<K, V>;
-    Slab<V>: slab::Slab<V>;
-    Vec<T>: std::vec::Vec<T>;
-    VecDeque<T, A>: collections::VecDeque<T>;
+impl<C, K> Deref for Over<C, K> {
+    type Target = C;
+    fn deref(&self) -> &C {
+        &self.0
+    }
 }
-
+impl<C, K> DerefMut for Over<C, K> {
+    fn deref_mut(&mut self) -> &mut C {
+        &mut self.0
+    }
+}
+impl<C: IntoIterator, K> IntoIterator for Over<C, K> {
+    type Item = C::Item;
+    type IntoIter = C::IntoIter;
+    fn into_iter(self) -> C::IntoIter {
+        self.0.into_iter()
+    }
+}
+impl<C: Default> Over<C> {
+    pub fn new(alloc: Global) -> Self {
+        Over(C::default(), alloc)
+    }
+}
 impl<K: Ord, V> BTreeMap<K, V> {
-    pub(crate) fn insert(&mut self, key: K, value: V) -> Result<Option<V>, Refused<(K, V)>> {
+    pub fn insert(&mut self, key: K, value: V) -> Result<Option<V>, Refused<(K, V)>> {
         Ok(self.0.insert(key, value))
     }
 }
-
 impl<V> Slab<V> {
-    pub(crate) fn reserve(&mut self, more: usize) -> Result<(), Infallible> {
+    pub fn reserve(&mut self, more: usize) -> Result<(), Infallible> {
         self.0.reserve(more);
         Ok(())
     }
-    pub(crate) fn insert_reserved(&mut self, value: V) -> usize {
+    pub fn insert_reserved(&mut self, value: V) -> usize {
         self.0.insert(value)
     }
 }
-
 impl<T> Vec<T> {
-    pub(crate) fn with_capacity(_: Global, capacity: usize) -> Result<Self, Infallible> {
-        Ok(Vec(std::vec::Vec::with_capacity(capacity), PhantomData))
+    pub fn with_capacity(alloc: Global, capacity: usize) -> Result<Self, Infallible> {
+        Ok(Over(std::vec::Vec::with_capacity(capacity), alloc))
     }
-    pub(crate) fn push(&mut self, value: T) -> Result<(), Refused<T>> {
+    pub fn push(&mut self, value: T) -> Result<(), Refused<T>> {
         self.0.push(value);
         Ok(())
     }
 }
-
-impl<T> IntoIterator for Vec<T> {
-    type Item = T;
-    type IntoIter = std::vec::IntoIter<T>;
-    fn into_iter(self) -> Self::IntoIter {
-        self.0.into_iter()
-    }
-}
-
-impl<T, A> VecDeque<T, A> {
-    pub(crate) fn push_back(&mut self, value: T) -> Result<(), Refused<T>> {
+impl<T> VecDeque<T, Global> {
+    pub fn push_back(&mut self, value: T) -> Result<(), Refused<T>> {
         self.0.push_back(value);
         Ok(())
     }
 }
-
-/// A queue that never holds more than it has room for from the start.
-pub struct HeapCircularBuffer<T> {
-    items: collections::VecDeque<T>,
-    capacity: usize,
-}
-
 impl<T> HeapCircularBuffer<T> {
-    pub(crate) fn with_capacity(_: Global, capacity: usize) -> Result<Self, Infallible> {
+    pub fn with_capacity(_: Global, capacity: usize) -> Result<Self, Infallible> {
         let items = collections::VecDeque::with_capacity(capacity);
-        Ok(HeapCircularBuffer { items, capacity })
+        Ok(Over(items, capacity))
     }
-    pub(crate) fn try_push_back(&mut self, value: T) -> Result<(), T> {
-        if self.items.len() == self.capacity {
+    pub fn try_push_back(&mut self, value: T) -> Result<(), T> {
+        if self.0.len() == self.1 {
             return Err(value);
         }
-        self.items.push_back(value);
+        self.0.push_back(value);
         Ok(())
     }
-    pub(crate) fn push_back(&mut self, value: T) -> Option<T> {
-        let oldest = if self.items.len() == self.capacity { self.items.pop_front() } else { None };
-        self.items.push_back(value);
+    pub fn push_back(&mut self, value: T) -> Option<T> {
+        let is_full = self.0.len() == self.1;
+        let oldest = if is_full { self.0.pop_front() } else { None };
+        self.0.push_back(value);
         oldest
     }
-    pub(crate) fn pop_front(&mut self) -> Option<T> {
-        self.items.pop_front()
-    }
-    pub(crate) fn len(&self) -> usize {
-        self.items.len()
-    }
-    pub(crate) fn capacity(&self) -> usize {
-        self.capacity
+    pub fn capacity(&self) -> usize {
+        self.1
     }
 }
+
+#[cfg(test)]
+mod tests;

@@ -1,24 +1,15 @@
 // Taken out of crates/channel_core/src/lib.rt by tools/erase. Change that file, not this one.
-//! The channel as one owner sees it: its errors, its queue, its state, and what its past decides.
+//! The channel as one owner sees it: its errors, its queue and its state.
 //!
-//! Each call of [`Core`] is one atomic step of a channel. A [`Step`] is such a call by a named party, and
-//! [`laws`] has what holds behind every list of them.
+//! Each call of [`Core`] is one atomic step of a channel.
 
-mod names;
-mod operations;
 mod queue;
-mod run;
-mod settle;
 mod state;
-mod tickets;
 mod waiting;
 
 pub use crate::proved::channel_model::{
-    CloneError, Kind, MakeError, NoMemory, Notice, OutOfMemory, RecvError, Refusal, Reply,
-    SendError, Side, Step, TryRecvError, TrySendError, Who,
+    CloneError, MakeError, NoMemory, OutOfMemory, RecvError, SendError, TryRecvError, TrySendError,
 };
 pub use crate::proved::event_list::{Bell, Quiet, Ticket};
 pub use queue::Queue;
-pub use run::{End, Run, RunError, run_all};
-pub use settle::Settled;
-pub use state::{Core, Group, Upgrade};
+pub use state::{Core, Group, HANDLE_LIMIT, Upgrade};

@@ -56,8 +56,12 @@ pub struct Core<T, W> {
     lists: WaitLists<W>,
 }
 
-// A copy is refused where there are more handles of its kind than this.
-pub(crate) const HANDLE_LIMIT: usize = usize::MAX / 2;
+/// Half of what a `usize` can count. Where there are more handles of a kind, no further one is made.
+///
+/// ```text
+/// core.sender_count() > HANDLE_LIMIT     // then `core.add_sender()` answers false
+/// ```
+pub const HANDLE_LIMIT: usize = usize::MAX / 2;
 
 // Closes a channel by its flag and its lists, and answers whether it was open.
 fn shut<W, B: Bell<W>>(closed: &mut bool, lists: &mut WaitLists<W>, bell: &mut B) -> bool {

@@ -1,8 +1,8 @@
-// Taken out of crates/channel_core/src/tickets.rt by tools/erase. Change that file, not this one.
+// Taken out of crates/channel_run/src/tickets.rt by tools/erase. Change that file, not this one.
 //! Who holds a ticket, by its key.
 
-use crate::proved::channel_core::operations::Operation;
-use crate::proved::channel_core::state::Group;
+use crate::proved::channel_run::operations::Operation;
+use crate::proved::channel_core::Group;
 use crate::proved::event_list::Ticket;
 use crate::shim::BTreeMap;
 

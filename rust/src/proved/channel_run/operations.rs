@@ -1,8 +1,8 @@
-// Taken out of crates/channel_core/src/operations.rt by tools/erase. Change that file, not this one.
+// Taken out of crates/channel_run/src/operations.rt by tools/erase. Change that file, not this one.
 //! Operations that were started, with the tickets of their waits.
 
-use crate::proved::channel_core::state::Group;
-use crate::proved::channel_core::tickets::has_key;
+use crate::proved::channel_run::tickets::has_key;
+use crate::proved::channel_core::Group;
 use crate::proved::event_list::Ticket;
 use crate::shim::BTreeMap;
 

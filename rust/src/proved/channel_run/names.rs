@@ -1,4 +1,4 @@
-// Taken out of crates/channel_core/src/names.rt by tools/erase. Change that file, not this one.
+// Taken out of crates/channel_run/src/names.rt by tools/erase. Change that file, not this one.
 //! Names of one space that are live, and what stands under them.
 
 use crate::shim::Vec;

@@ -1,9 +1,9 @@
-// Taken out of crates/channel_core/src/settle.rt by tools/erase. Change that file, not this one.
+// Taken out of crates/channel_run/src/settle.rt by tools/erase. Change that file, not this one.
 //! Settling: those who were told are polled until nobody is told.
 
 use crate::shim::Vec;
 
-use crate::proved::channel_core::run::Run;
+use crate::proved::channel_run::run::Run;
 use crate::proved::channel_model::{OutOfMemory, Reply, Who};
 
 /// What settling a run came to.
@@ -15,13 +15,15 @@ pub struct Settled<T> {
 }
 
 impl<T> Run<T> {
-    /// Polls those who were told, one after the other, until nobody is told. Then nobody waits who could go on.
+    /// Polls those who were told, one after the other, until nobody is told. Then nobody waits who
+    /// could go on.
     ///
-    /// Each time it polls the first told receive; where none is told, the first told stream, then send, then closed
-    /// operation. A told stream is polled also where a live receive borrows its receiver. Where `w` wait, it takes
-    /// `w * (w + 1) / 2` polls at the most.
+    /// Each time it polls the first told receive; where none is told, the first told stream, then
+    /// send, then closed operation. A told stream is polled also where a live receive borrows its
+    /// receiver. Where `w` wait, it takes `w * (w + 1) / 2` polls at the most.
     ///
-    /// Memory is wanted before the first poll alone, for as many replies as there are waiting entries.
+    /// Memory is wanted before the first poll alone, for as many replies as there are waiting
+    /// entries.
     pub fn settle(&mut self) -> Result<Settled<T>, OutOfMemory> {
         let mut finished = self.room_for_replies()?;
         for polls in 0..u128::MAX {
