@@ -108,9 +108,7 @@ fn number(word: Word<'_>) -> Result<u64, Fault> {
 
 /// The number of a name, behind the letters of its kind.
 fn name(letters: &str, word: Word<'_>) -> Result<u64, Fault> {
-    let digits = word
-        .strip_prefix(letters.as_bytes())
-        .ok_or(Fault::BadName)?;
+    let digits = word.strip_prefix(letters.as_bytes()).ok_or(Fault::BadName)?;
     number(digits).map_err(|_| Fault::BadName)
 }
 
@@ -127,66 +125,38 @@ fn op(word: Word<'_>) -> Result<u64, Fault> {
 }
 
 fn side(word: Word<'_>) -> Result<Side, Fault> {
-    sender(word)
-        .map(Side::Sender)
-        .or_else(|_| receiver(word).map(Side::Receiver))
+    sender(word).map(Side::Sender).or_else(|_| receiver(word).map(Side::Receiver))
 }
 
 fn who(word: Word<'_>) -> Result<Who, Fault> {
-    op(word)
-        .map(Who::Op)
-        .or_else(|_| receiver(word).map(Who::Receiver))
+    op(word).map(Who::Op).or_else(|_| receiver(word).map(Who::Receiver))
 }
 
 fn clone(of: Word<'_>, new: Word<'_>) -> Result<Step<u64>, Fault> {
     if let Ok(of) = sender(of) {
-        Ok(Step::CloneSender {
-            of,
-            new: sender(new)?,
-        })
+        Ok(Step::CloneSender { of, new: sender(new)? })
     } else if let Ok(of) = receiver(of) {
-        Ok(Step::CloneReceiver {
-            of,
-            new: receiver(new)?,
-        })
+        Ok(Step::CloneReceiver { of, new: receiver(new)? })
     } else if let Ok(of) = name("ws", of) {
-        Ok(Step::CloneWeakSender {
-            of,
-            new: name("ws", new)?,
-        })
+        Ok(Step::CloneWeakSender { of, new: name("ws", new)? })
     } else {
-        Ok(Step::CloneWeakReceiver {
-            of: name("wr", of)?,
-            new: name("wr", new)?,
-        })
+        Ok(Step::CloneWeakReceiver { of: name("wr", of)?, new: name("wr", new)? })
     }
 }
 
 fn downgrade(of: Word<'_>, new: Word<'_>) -> Result<Step<u64>, Fault> {
     if let Ok(of) = sender(of) {
-        Ok(Step::DowngradeSender {
-            of,
-            new: name("ws", new)?,
-        })
+        Ok(Step::DowngradeSender { of, new: name("ws", new)? })
     } else {
-        Ok(Step::DowngradeReceiver {
-            of: receiver(of)?,
-            new: name("wr", new)?,
-        })
+        Ok(Step::DowngradeReceiver { of: receiver(of)?, new: name("wr", new)? })
     }
 }
 
 fn upgrade(of: Word<'_>, new: Word<'_>) -> Result<Step<u64>, Fault> {
     if let Ok(of) = name("ws", of) {
-        Ok(Step::UpgradeSender {
-            of,
-            new: sender(new)?,
-        })
+        Ok(Step::UpgradeSender { of, new: sender(new)? })
     } else {
-        Ok(Step::UpgradeReceiver {
-            of: name("wr", of)?,
-            new: receiver(new)?,
-        })
+        Ok(Step::UpgradeReceiver { of: name("wr", of)?, new: receiver(new)? })
     }
 }
 
@@ -235,19 +205,9 @@ fn step(verb: &str, words: &[Word<'_>]) -> Result<Step<u64>, Fault> {
         ("clone", [x, y]) => clone(x, y)?,
         ("downgrade", [x, y]) => downgrade(x, y)?,
         ("upgrade", [x, y]) => upgrade(x, y)?,
-        ("recv", [o, r]) => Step::StartRecv {
-            op: op(o)?,
-            receiver: receiver(r)?,
-        },
-        ("closed", [o, s]) => Step::StartClosed {
-            op: op(o)?,
-            sender: sender(s)?,
-        },
-        ("send", [o, s, m]) => Step::StartSend {
-            op: op(o)?,
-            sender: sender(s)?,
-            msg: number(m)?,
-        },
+        ("recv", [o, r]) => Step::StartRecv { op: op(o)?, receiver: receiver(r)? },
+        ("closed", [o, s]) => Step::StartClosed { op: op(o)?, sender: sender(s)? },
+        ("send", [o, s, m]) => Step::StartSend { op: op(o)?, sender: sender(s)?, msg: number(m)? },
         _ => return Err(Fault::UnknownCommand),
     })
 }
@@ -259,10 +219,7 @@ fn split(line: &[u8]) -> Result<(&str, Vec<Word<'_>>), Fault> {
     }
     let mut words = line.split(|byte| *byte == b' ');
     // A word that isn't text is no verb, and neither is the empty one.
-    let verb = words
-        .next()
-        .and_then(|word| std::str::from_utf8(word).ok())
-        .unwrap_or_default();
+    let verb = words.next().and_then(|word| std::str::from_utf8(word).ok()).unwrap_or_default();
     Ok((verb, words.collect()))
 }
 
@@ -373,9 +330,7 @@ fn answer(run: &mut Run<u64>, command: Command) -> Result<String, ScriptError> {
 fn read_script(reader: impl Read) -> Result<Vec<u8>, ScriptError> {
     let mut input = Vec::new();
     let mut reader = reader.take(SCRIPT_LIMIT as u64 + 1);
-    reader
-        .read_to_end(&mut input)
-        .map_err(|_| ScriptError::Read)?;
+    reader.read_to_end(&mut input).map_err(|_| ScriptError::Read)?;
     if input.len() > SCRIPT_LIMIT {
         return Err(ScriptError::TooLong);
     }
@@ -393,9 +348,7 @@ fn run_script(reader: impl Read, writer: &mut impl Write) -> Result<(), ScriptEr
     for (line, words) in lines {
         let command = command(words).map_err(|fault| ScriptError::Fault { line, fault })?;
         let text = answer(&mut run, command)?;
-        writer
-            .write_all(text.as_bytes())
-            .map_err(|_| ScriptError::Write)?;
+        writer.write_all(text.as_bytes()).map_err(|_| ScriptError::Write)?;
     }
     Ok(())
 }

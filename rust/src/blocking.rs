@@ -31,10 +31,7 @@ impl Wake for Parker {
 
 impl Parker {
     fn new() -> Arc<Self> {
-        Arc::new(Parker {
-            thread: thread::current(),
-            woken: AtomicBool::new(false),
-        })
+        Arc::new(Parker { thread: thread::current(), woken: AtomicBool::new(false) })
     }
 
     /// Waits until somebody wakes this thread.
@@ -58,11 +55,7 @@ thread_local! {
 
 /// Polls a future until it is ready, and sleeps whenever it is pending until it is woken.
 pub(crate) fn block_on<F: Future + Unpin>(mut future: F) -> F::Output {
-    let parker = PARKER
-        .try_with(Cell::take)
-        .ok()
-        .flatten()
-        .unwrap_or_else(Parker::new);
+    let parker = PARKER.try_with(Cell::take).ok().flatten().unwrap_or_else(Parker::new);
     parker.woken.store(false, Ordering::Relaxed);
     let waker = Waker::from(parker.clone());
     let mut context = Context::from_waker(&waker);

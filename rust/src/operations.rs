@@ -33,11 +33,7 @@ pub struct Send<'a, T> {
 
 impl<'a, T> Send<'a, T> {
     pub(crate) fn new(sender: &'a Sender<T>, message: T) -> Self {
-        Send {
-            sender,
-            message: Some(message),
-            ticket: None,
-        }
+        Send { sender, message: Some(message), ticket: None }
     }
 }
 
@@ -50,13 +46,8 @@ impl<T> Future for Send<'_, T> {
     #[inline]
     fn poll(self: Pin<&mut Self>, cx: &mut Context<'_>) -> Poll<Self::Output> {
         let send = self.get_mut();
-        assert!(
-            send.message.is_some(),
-            "a send was polled after it had finished"
-        );
-        send.sender
-            .channel()
-            .poll_send(&mut send.message, &mut send.ticket, cx)
+        assert!(send.message.is_some(), "a send was polled after it had finished");
+        send.sender.channel().poll_send(&mut send.message, &mut send.ticket, cx)
     }
 }
 
@@ -96,10 +87,7 @@ pub struct Recv<'a, T> {
 
 impl<'a, T> Recv<'a, T> {
     pub(crate) fn new(receiver: &'a Receiver<T>) -> Self {
-        Recv {
-            receiver,
-            ticket: None,
-        }
+        Recv { receiver, ticket: None }
     }
 }
 
@@ -147,10 +135,7 @@ pub struct Closed<'a, T> {
 
 impl<'a, T> Closed<'a, T> {
     pub(crate) fn new(sender: &'a Sender<T>) -> Self {
-        Closed {
-            sender,
-            ticket: None,
-        }
+        Closed { sender, ticket: None }
     }
 }
 

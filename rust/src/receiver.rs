@@ -37,10 +37,7 @@ pub struct Receiver<T> {
 impl<T> Receiver<T> {
     /// The handle of a receiver that is counted.
     pub(crate) fn new(channel: Arc<Channel<T>>) -> Self {
-        Receiver {
-            channel,
-            stream: None,
-        }
+        Receiver { channel, stream: None }
     }
 
     /// What all handles of the channel share.
@@ -228,9 +225,7 @@ impl<T> Receiver<T> {
     /// assert!(weak.upgrade().is_none());
     /// ```
     pub fn downgrade(&self) -> WeakReceiver<T> {
-        WeakReceiver {
-            channel: self.channel.clone(),
-        }
+        WeakReceiver { channel: self.channel.clone() }
     }
 
     /// Whether both are receivers of one channel. It takes no lock.
@@ -319,9 +314,7 @@ impl<T> WeakReceiver<T> {
 
 impl<T> Clone for WeakReceiver<T> {
     fn clone(&self) -> Self {
-        WeakReceiver {
-            channel: self.channel.clone(),
-        }
+        WeakReceiver { channel: self.channel.clone() }
     }
 }
 

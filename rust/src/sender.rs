@@ -245,9 +245,7 @@ impl<T> Sender<T> {
     /// assert!(weak.upgrade().is_none());
     /// ```
     pub fn downgrade(&self) -> WeakSender<T> {
-        WeakSender {
-            channel: self.channel.clone(),
-        }
+        WeakSender { channel: self.channel.clone() }
     }
 
     /// Whether both are senders of one channel. It takes no lock.
@@ -320,9 +318,7 @@ impl<T> WeakSender<T> {
 
 impl<T> Clone for WeakSender<T> {
     fn clone(&self) -> Self {
-        WeakSender {
-            channel: self.channel.clone(),
-        }
+        WeakSender { channel: self.channel.clone() }
     }
 }
 

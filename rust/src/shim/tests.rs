@@ -49,10 +49,7 @@ fn a_bounded_queue_gives_its_oldest_for_one_too_many() {
     assert_eq!(queue.push_back(1), None);
     assert_eq!(queue.push_back(2), None);
     assert_eq!(queue.push_back(3), Some(1));
-    assert_eq!(
-        (queue.pop_front(), queue.pop_front(), queue.pop_front()),
-        (Some(2), Some(3), None)
-    );
+    assert_eq!((queue.pop_front(), queue.pop_front(), queue.pop_front()), (Some(2), Some(3), None));
 }
 
 #[test]
@@ -102,8 +99,5 @@ fn a_map_is_in_the_order_of_its_keys() {
 fn a_ledger_takes_no_bytes() {
     let (mut book, mut share) = Blank::new(1).open::<Brand>();
     book.add(&mut share, 1);
-    assert_eq!(
-        std::mem::size_of_val(&book) + std::mem::size_of_val(&share),
-        0
-    );
+    assert_eq!(std::mem::size_of_val(&book) + std::mem::size_of_val(&share), 0);
 }
