@@ -39,13 +39,13 @@ mod lock;
 mod marks;
 mod operations;
 // Written by tools/erase in the layout of its source. Some of it serves the run or the proofs alone.
-#[allow(dead_code, unused_imports, irrefutable_let_patterns, missing_debug_implementations)]
-#[allow(clippy::all)]
+#[allow(dead_code, unused_imports, irrefutable_let_patterns, clippy::all)]
+#[allow(missing_docs, missing_debug_implementations)]
 #[rustfmt::skip]
 mod proved;
 mod receiver;
 mod sender;
-#[allow(dead_code, missing_debug_implementations)]
+#[allow(dead_code, missing_docs, missing_debug_implementations)]
 mod shim;
 
 pub use operations::{Closed, Recv, Send};

@@ -45,9 +45,20 @@ fn put_aside(waker: Waker) {
     });
 }
 
-/// Makes a step of the core in which an entry may leave its list, and catches the waker of that entry.
+/// Ends the catching, also where a step panics.
+struct Catching;
+
+impl Drop for Catching {
+    fn drop(&mut self) {
+        let _ = CAUGHT.try_with(Cell::take);
+    }
+}
+
+/// Makes a step of the core in which an entry may leave its list, and catches the waker of that
+/// entry.
 pub(crate) fn catch<A>(step: impl FnOnce() -> A) -> (A, Option<Waker>) {
     let _ = CAUGHT.try_with(|caught| caught.set(Some(None)));
+    let _catching = Catching;
     let answer = step();
     let caught = CAUGHT.try_with(Cell::take).ok().flatten().flatten();
     (answer, caught)
