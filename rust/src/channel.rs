@@ -1,8 +1,8 @@
 //! A channel that threads and tasks share: one lock round the proved core.
 //!
 //! Each call makes one step of the core under the lock. The numbers of handles are kept beside the
-//! lock, so that a copy needs none: to the core there is one sender as long as there is any, and one
-//! receiver likewise. The core is told when the last one goes, and decides what that means.
+//! lock, so that a copy needs none: to the core there is one sender as long as there is any, and
+//! one receiver likewise. The core is told when the last one goes, and decides what that means.
 
 use crate::lock::Lock;
 use crate::marks::{catch, Mark, Told};

@@ -5,10 +5,10 @@
 //! Once all senders or all receivers are gone, or one of them says [`close`](Sender::close), it is
 //! closed: nothing more goes in, and what is left comes out.
 //!
-//! The names and answers are those of the crate `async-channel` 2.5. Behind them is the proved source
-//! of a channel's state, with its contracts taken out: it decides every answer, and who is woken. What
-//! stands round it in this crate, the lock, the handles and the blocking calls, is written by hand and
-//! tested.
+//! The names and answers are those of the crate `async-channel` 2.5. Behind them is the proved
+//! source of a channel's state, with its contracts taken out: it decides every answer, and who is
+//! woken. What stands round it in this crate, the lock, the handles and the blocking calls, is
+//! written by hand and tested.
 //!
 //! ```
 //! # futures_lite::future::block_on(async {
@@ -24,10 +24,10 @@
 //! # }).unwrap();
 //! ```
 //!
-//! Three things are otherwise than in `async-channel` 2.5: [`Sender::closed`] waits until no receiver
-//! is left, as its documentation says, also where the channel was closed by hand; a notice that a
-//! dropped operation had goes to the next one that waits for the same; and the futures and receivers
-//! here needn't be pinned.
+//! Three things are otherwise than in `async-channel` 2.5: [`Sender::closed`] waits until no
+//! receiver is left, as its documentation says, also where the channel was closed by hand; a notice
+//! that a dropped operation had goes to the next one that waits for the same; and the futures and
+//! receivers here needn't be pinned.
 
 #![forbid(unsafe_code)]
 #![warn(missing_docs, missing_debug_implementations, rust_2018_idioms)]
@@ -38,7 +38,8 @@ mod channel;
 mod lock;
 mod marks;
 mod operations;
-// Written by tools/erase in the layout of its source. Some of it serves the run or the proofs alone.
+// Written by tools/erase in the layout of its source. Some of it serves the run or the proofs
+// alone.
 #[allow(dead_code, unused_imports, irrefutable_let_patterns, clippy::all)]
 #[allow(missing_docs, missing_debug_implementations)]
 #[rustfmt::skip]
@@ -121,7 +122,8 @@ pub use proved::channel_model::TryRecvError;
 use channel::Channel;
 use std::sync::Arc;
 
-/// The erased run, for the script program and the tests of this crate. It is no part of the interface.
+/// The erased run, for the script program and the tests of this crate. It is no part of the
+/// interface.
 #[cfg(feature = "run")]
 #[doc(hidden)]
 pub mod run {

@@ -1,8 +1,9 @@
 //! The wakers that waiters leave, on their way into a waiting list and out of it.
 //!
 //! A waker is the caller's: to wake it or to drop it may run any code, even a call of the same
-//! channel. So neither happens under the channel's lock. Those that a step tells are gathered by its
-//! bell and woken once the lock is let go. One that leaves its list untold is caught, and dropped then.
+//! channel. So neither happens under the channel's lock. Those that a step tells are gathered by
+//! its bell and woken once the lock is let go. One that leaves its list untold is caught, and
+//! dropped then.
 
 use crate::proved::event_list::Bell;
 use std::cell::Cell;

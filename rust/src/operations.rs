@@ -1,4 +1,5 @@
-//! The futures of a channel. Each keeps the ticket of its wait, and gives it up where it is dropped.
+//! The futures of a channel. Each keeps the ticket of its wait, and gives it up where it is
+//! dropped.
 
 use crate::proved::event_list::Ticket;
 use crate::{Receiver, RecvError, SendError, Sender};

@@ -12,8 +12,8 @@ use std::task::{Context, Poll};
 
 /// The receiving side of a channel. It is a stream of messages too.
 ///
-/// It can be cloned, and shared among threads. Each message goes to one receiver. Once the last one is
-/// dropped, the channel is closed.
+/// It can be cloned, and shared among threads. Each message goes to one receiver. Once the last one
+/// is dropped, the channel is closed.
 ///
 /// ```
 /// # futures_lite::future::block_on(async {
@@ -147,7 +147,8 @@ impl<T> Receiver<T> {
         self.channel.is_empty()
     }
 
-    /// Whether as many messages are held as the capacity allows. An unbounded channel never is full.
+    /// Whether as many messages are held as the capacity allows. An unbounded channel never is
+    /// full.
     ///
     /// ```
     /// let (s, r) = vamorilesh::bounded(1);

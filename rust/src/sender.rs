@@ -108,7 +108,8 @@ impl<T> Sender<T> {
         }
     }
 
-    /// Sends a message at once, also where the channel is full: then the oldest one comes out for it.
+    /// Sends a message at once, also where the channel is full: then the oldest one comes out for
+    /// it.
     ///
     /// ```
     /// use vamorilesh::{bounded, SendError};
@@ -167,7 +168,8 @@ impl<T> Sender<T> {
         self.channel.is_empty()
     }
 
-    /// Whether as many messages are held as the capacity allows. An unbounded channel never is full.
+    /// Whether as many messages are held as the capacity allows. An unbounded channel never is
+    /// full.
     ///
     /// ```
     /// let (s, r) = vamorilesh::bounded(1);

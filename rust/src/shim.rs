@@ -39,8 +39,8 @@ impl<L> Book<L> {
     pub fn add(&mut self, _share: &mut Share<L>, _amount: u64) {}
 }
 
-/// A collection, and what is kept beside it. It has all calls of the collection; those below are made
-/// or answered otherwise.
+/// A collection, and what is kept beside it. It has all calls of the collection; those below are
+/// made or answered otherwise.
 pub struct Over<C, K = Global>(C, K);
 pub type BTreeMap<K, V> = Over<collections::BTreeMap<K, V>>;
 pub type Slab<V> = Over<slab::Slab<V>>;
