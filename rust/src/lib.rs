@@ -1,0 +1,179 @@
+//! An async multi-producer multi-consumer channel, where each message goes to one receiver.
+//!
+//! A channel has senders and receivers, as many of each as are wanted, on any threads and tasks. A
+//! [`bounded`] channel holds so many messages at the most; an [`unbounded`] one holds any number.
+//! Once all senders or all receivers are gone, or one of them says [`close`](Sender::close), it is
+//! closed: nothing more goes in, and what is left comes out.
+//!
+//! The names and answers are those of the crate `async-channel` 2.5. Behind them is the proved
+//! source of a channel's state, with its contracts taken out: it decides every answer, and who is
+//! woken. What stands round it in this crate, the lock, the handles and the blocking calls, is
+//! written by hand and tested.
+//!
+//! ```
+//! # futures_lite::future::block_on(async {
+//! let (s, r) = vamorilesh::bounded(1);
+//!
+//! s.send("first").await?;
+//! assert!(s.try_send("second").is_err());
+//!
+//! assert_eq!(r.recv().await, Ok("first"));
+//! drop(r);
+//! assert!(s.is_closed());
+//! # Ok::<_, vamorilesh::SendError<&str>>(())
+//! # }).unwrap();
+//! ```
+//!
+//! Three things are otherwise than in `async-channel` 2.5: [`Sender::closed`] waits until no
+//! receiver is left, as its documentation says, also where the channel was closed by hand; a notice
+//! that a dropped operation had goes to the next one that waits for the same; and the futures and
+//! receivers here needn't be pinned.
+
+#![forbid(unsafe_code)]
+#![warn(missing_docs, missing_debug_implementations, rust_2018_idioms)]
+
+#[cfg(not(target_family = "wasm"))]
+mod blocking;
+mod channel;
+mod lock;
+mod marks;
+mod operations;
+// Written by tools/erase in the layout of its source. Some of it serves the run or the proofs
+// alone.
+#[allow(dead_code, unused_imports, irrefutable_let_patterns, clippy::all)]
+#[allow(missing_docs, missing_debug_implementations)]
+#[rustfmt::skip]
+mod proved;
+mod receiver;
+mod sender;
+#[allow(dead_code, missing_docs, missing_debug_implementations)]
+mod shim;
+
+pub use operations::{Closed, Recv, Send};
+pub use receiver::{Receiver, WeakReceiver};
+pub use sender::{Sender, WeakSender};
+
+/// The answer to a send into a closed channel. The message comes back.
+///
+/// ```
+/// use vamorilesh::{unbounded, SendError};
+///
+/// let (s, r) = unbounded();
+/// drop(r);
+///
+/// let error = s.send_blocking(7).unwrap_err();
+/// assert_eq!(error, SendError(7));
+/// assert_eq!(error.to_string(), "sending into a closed channel");
+/// assert_eq!(error.into_inner(), 7);
+/// ```
+#[doc(inline)]
+pub use proved::channel_model::SendError;
+
+/// The answer to [`Sender::try_send`] where the message doesn't go in. It comes back.
+///
+/// ```
+/// use vamorilesh::{bounded, TrySendError};
+///
+/// let (s, r) = bounded(1);
+/// s.try_send(1).unwrap();
+///
+/// let full = s.try_send(2).unwrap_err();
+/// assert_eq!(full, TrySendError::Full(2));
+/// assert!(full.is_full());
+///
+/// drop(r);
+/// let closed = s.try_send(3).unwrap_err();
+/// assert!(closed.is_closed());
+/// assert_eq!(closed.into_inner(), 3);
+/// ```
+#[doc(inline)]
+pub use proved::channel_model::TrySendError;
+
+/// The answer to a receive from a channel that is empty and closed.
+///
+/// ```
+/// use vamorilesh::{unbounded, RecvError};
+///
+/// let (s, r) = unbounded::<u64>();
+/// drop(s);
+///
+/// assert_eq!(r.recv_blocking(), Err(RecvError));
+/// assert_eq!(RecvError.to_string(), "receiving from an empty and closed channel");
+/// ```
+#[doc(inline)]
+pub use proved::channel_model::RecvError;
+
+/// The answer to [`Receiver::try_recv`] where there is no message.
+///
+/// ```
+/// use vamorilesh::{unbounded, TryRecvError};
+///
+/// let (s, r) = unbounded::<u64>();
+/// assert!(r.try_recv().unwrap_err().is_empty());
+///
+/// drop(s);
+/// let error = r.try_recv().unwrap_err();
+/// assert_eq!(error, TryRecvError::Closed);
+/// assert!(error.is_closed());
+/// ```
+#[doc(inline)]
+pub use proved::channel_model::TryRecvError;
+
+use channel::Channel;
+use std::sync::Arc;
+
+/// The erased run, for the script program and the tests of this crate. It is no part of the
+/// interface.
+#[cfg(feature = "run")]
+#[doc(hidden)]
+pub mod run {
+    pub use crate::proved::channel_model::{Kind, Notice, OutOfMemory, Refusal, Reply};
+    pub use crate::proved::channel_model::{Side, Step, Who};
+    pub use crate::proved::channel_run::{Run, Settled};
+    pub use crate::shim::Global;
+}
+
+/// Makes a channel that holds at most `cap` messages.
+///
+/// The room for all of them is taken at once.
+///
+/// # Panics
+///
+/// Where `cap` is zero.
+///
+/// ```
+/// use vamorilesh::{bounded, TryRecvError, TrySendError};
+///
+/// let (s, r) = bounded(1);
+///
+/// assert_eq!(s.try_send(10), Ok(()));
+/// assert_eq!(s.try_send(20), Err(TrySendError::Full(20)));
+///
+/// assert_eq!(r.try_recv(), Ok(10));
+/// assert_eq!(r.try_recv(), Err(TryRecvError::Empty));
+/// ```
+pub fn bounded<T>(cap: usize) -> (Sender<T>, Receiver<T>) {
+    assert!(cap > 0, "capacity cannot be zero");
+    handles(Channel::new(Some(cap)))
+}
+
+/// Makes a channel that holds any number of messages.
+///
+/// ```
+/// let (s, r) = vamorilesh::unbounded();
+///
+/// for message in 0..1000 {
+///     s.try_send(message).unwrap();
+/// }
+/// assert_eq!(r.len(), 1000);
+/// assert_eq!(r.try_recv(), Ok(0));
+/// ```
+pub fn unbounded<T>() -> (Sender<T>, Receiver<T>) {
+    handles(Channel::new(None))
+}
+
+/// The first two handles of a channel.
+fn handles<T>(channel: Channel<T>) -> (Sender<T>, Receiver<T>) {
+    let channel = Arc::new(channel);
+    (Sender::new(channel.clone()), Receiver::new(channel))
+}

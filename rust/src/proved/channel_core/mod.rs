@@ -1,0 +1,15 @@
+// Taken out of crates/channel_core/src/lib.rt by tools/erase. Change that file, not this one.
+//! The channel as one owner sees it: its errors, its queue and its state.
+//!
+//! Each call of [`Core`] is one atomic step of a channel.
+
+mod queue;
+mod state;
+mod waiting;
+
+pub use crate::proved::channel_model::{
+    CloneError, MakeError, NoMemory, OutOfMemory, RecvError, SendError, TryRecvError, TrySendError,
+};
+pub use crate::proved::event_list::{Bell, Quiet, Ticket};
+pub use queue::Queue;
+pub use state::{Core, Group, HANDLE_LIMIT, Upgrade};

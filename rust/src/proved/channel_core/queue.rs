@@ -1,0 +1,85 @@
+// Taken out of crates/channel_core/src/queue.rt by tools/erase. Change that file, not this one.
+//! The queue of a channel's messages.
+
+use crate::proved::channel_model::{NoMemory, OutOfMemory};
+use crate::shim::HeapCircularBuffer;
+use crate::shim::Global;
+use crate::shim::VecDeque;
+
+enum Store<T> {
+    Ring(HeapCircularBuffer<T>),
+    Deque(VecDeque<T, Global>),
+}
+
+/// Messages in order, the oldest first.
+///
+/// A bounded queue has all its memory from the start, so that a push into it never asks for any. An
+/// unbounded one grows as messages come.
+pub struct Queue<T> {
+    store: Store<T>,
+}
+
+impl<T> Queue<T> {
+    /// An empty queue that holds at most `cap` messages.
+    pub fn bounded(alloc: Global, cap: usize) -> Result<Queue<T>, OutOfMemory> {
+        match HeapCircularBuffer::with_capacity(alloc, cap) {
+            Ok(ring) => Ok(Queue {
+                store: Store::Ring(ring),
+            }),
+            Err(_) => Err(OutOfMemory),
+        }
+    }
+
+    /// An empty queue without a bound. It takes no memory yet.
+    pub fn unbounded(alloc: Global) -> Queue<T> {
+        Queue {
+            store: Store::Deque(VecDeque::new(alloc)),
+        }
+    }
+
+    /// Puts a message last. A full queue hands it back.
+    pub fn push(&mut self, message: T) -> Result<Result<(), T>, NoMemory<T>> {
+        match &mut self.store {
+            Store::Ring(ring) => Ok(ring.try_push_back(message)),
+            Store::Deque(deque) => match deque.push_back(message) {
+                Ok(()) => Ok(Ok(())),
+                Err(refused) => Err(NoMemory(refused.value)),
+            },
+        }
+    }
+
+    /// Puts a message last, in any case. A full queue gives its oldest message for it.
+    pub fn force_push(&mut self, message: T) -> Result<Option<T>, NoMemory<T>> {
+        match &mut self.store {
+            Store::Ring(ring) => Ok(ring.push_back(message)),
+            Store::Deque(deque) => match deque.push_back(message) {
+                Ok(()) => Ok(None),
+                Err(refused) => Err(NoMemory(refused.value)),
+            },
+        }
+    }
+
+    /// Takes the oldest message.
+    pub fn pop(&mut self) -> Option<T> {
+        match &mut self.store {
+            Store::Ring(ring) => ring.pop_front(),
+            Store::Deque(deque) => deque.pop_front(),
+        }
+    }
+
+    /// The number of messages.
+    pub fn len(&self) -> usize {
+        match &self.store {
+            Store::Ring(ring) => ring.len(),
+            Store::Deque(deque) => deque.len(),
+        }
+    }
+
+    /// The most messages that there may be, if there is a bound.
+    pub fn capacity(&self) -> Option<usize> {
+        match &self.store {
+            Store::Ring(ring) => Some(ring.capacity()),
+            Store::Deque(_) => None,
+        }
+    }
+}

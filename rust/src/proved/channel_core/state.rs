@@ -1,0 +1,400 @@
+// Taken out of crates/channel_core/src/state.rt by tools/erase. Change that file, not this one.
+//! The state of a channel. Each call is one step of it.
+
+use crate::proved::channel_core::queue::Queue;
+use crate::proved::channel_core::waiting::{WaitLists, hand_on, leave, wait};
+use crate::proved::channel_model::{
+    NoMemory, OutOfMemory, RecvError, SendError, TryRecvError, TrySendError,
+};
+use crate::proved::event_list::{Bell, Ticket};
+use std::task::Poll;
+use crate::shim::Global;
+
+/// Who waits for the same.
+#[derive(Clone, Copy, Debug, PartialEq, Eq)]
+pub enum Group {
+    /// Sends wait for a free place, or the close.
+    Sends,
+    /// Receives wait for a message, or the close.
+    Receives,
+    /// Streams wait for a message, or the close.
+    Streams,
+    /// Closed operations wait until no receiver is left.
+    Closeds,
+}
+
+/// What became of a wish for one more strong handle.
+#[derive(Clone, Copy, Debug, PartialEq, Eq)]
+pub enum Upgrade {
+    /// The count was raised by 1.
+    Raised,
+    /// The channel is closed.
+    Closed,
+    /// There are more handles of the kind than half of what a `usize` can count.
+    TooMany,
+}
+
+/// A channel as its one owner sees it. Each call is one atomic step.
+///
+/// A payload `W` is what a waiter leaves to be told by, as a waker of its task: a call that tells
+/// somebody rings its [`Bell`] with it. The law of notices is the invariant of the type: whoever waits
+/// untold could not go on, or enough others were told.
+///
+/// ```text
+/// let mut core: Core<u64, ()> = Core::bounded(rt.alloc(), 1)?;
+/// core.try_send(1, &mut Quiet)?;     // Ok(())
+/// core.try_send(2, &mut Quiet)?;     // Err(TrySendError::Full(2))
+/// core.close(&mut Quiet);            // true: nothing more goes in
+/// core.try_recv(&mut Quiet);         // Ok(1): what is left comes out
+/// core.try_recv(&mut Quiet);         // Err(TryRecvError::Closed)
+/// ```
+pub struct Core<T, W> {
+    queue: Queue<T>,
+    closed: bool,
+    senders: usize,
+    receivers: usize,
+    lists: WaitLists<W>,
+}
+
+/// Half of what a `usize` can count. Where there are more handles of a kind, no further one is made.
+///
+/// ```text
+/// core.sender_count() > HANDLE_LIMIT     // then `core.add_sender()` answers false
+/// ```
+pub const HANDLE_LIMIT: usize = usize::MAX / 2;
+
+// Closes a channel by its flag and its lists, and answers whether it was open.
+fn shut<W, B: Bell<W>>(closed: &mut bool, lists: &mut WaitLists<W>, bell: &mut B) -> bool {
+    if *closed {
+        return false;
+    }
+    *closed = true;
+    lists.tell_closed(bell);
+    true
+}
+
+// Counts one more copy of a handle, where there is one and there may be one more.
+fn add_handle(count: &mut usize) -> bool {
+    if *count == 0 || *count > HANDLE_LIMIT {
+        return false;
+    }
+    *count += 1;
+    true
+}
+
+// Counts one more handle, made of a weak one.
+fn upgrade_handle(closed: bool, count: &mut usize) -> Upgrade {
+    if closed {
+        return Upgrade::Closed;
+    }
+    if *count > HANDLE_LIMIT {
+        return Upgrade::TooMany;
+    }
+    *count += 1;
+    Upgrade::Raised
+}
+
+impl<T, W> Core<T, W> {
+    /// An open and empty channel that holds at most `cap` messages, with one sender and one receiver.
+    pub fn bounded(alloc: Global, cap: usize) -> Result<Core<T, W>, OutOfMemory> {
+        let queue = Queue::bounded(alloc, cap)?;
+        Ok(Core::over(alloc, queue))
+    }
+
+    /// An open and empty channel without a capacity, with one sender and one receiver.
+    pub fn unbounded(alloc: Global) -> Core<T, W> {
+        Core::over(alloc, Queue::unbounded(alloc))
+    }
+
+    fn over(alloc: Global, queue: Queue<T>) -> Core<T, W> {
+        Core {
+            queue,
+            closed: false,
+            senders: 1,
+            receivers: 1,
+            lists: WaitLists::new(alloc),
+        }
+    }
+
+    /// Puts a message last, where the channel is open and not full.
+    pub fn try_send<B: Bell<W>>(
+        &mut self,
+        m: T,
+        bell: &mut B,
+    ) -> Result<Result<(), TrySendError<T>>, NoMemory<T>> {
+        if self.closed {
+            return Ok(Err(TrySendError::Closed(m)));
+        }
+        match self.queue.push(m)? {
+            Ok(()) => {
+                self.lists.tell_accepted(bell);
+                Ok(Ok(()))
+            }
+            Err(m) => Ok(Err(TrySendError::Full(m))),
+        }
+    }
+
+    /// Puts a message last, where the channel is open. A full one gives its oldest message for it, which
+    /// tells no send.
+    pub fn force_send<B: Bell<W>>(
+        &mut self,
+        m: T,
+        bell: &mut B,
+    ) -> Result<Result<Option<T>, SendError<T>>, NoMemory<T>> {
+        if self.closed {
+            return Ok(Err(SendError(m)));
+        }
+        let displaced = self.queue.force_push(m)?;
+        self.lists.tell_accepted(bell);
+        Ok(Ok(displaced))
+    }
+
+    /// Takes the oldest message, and tells a send that there is a place.
+    pub fn try_recv<B: Bell<W>>(&mut self, bell: &mut B) -> Result<T, TryRecvError> {
+        match self.queue.pop() {
+            Some(message) => {
+                self.lists.sends.tell_one(bell);
+                Ok(message)
+            }
+            None if self.closed => Err(TryRecvError::Closed),
+            None => Err(TryRecvError::Empty),
+        }
+    }
+
+    /// Closes the channel, and answers whether it was open. The messages stay.
+    ///
+    /// Closed operations aren't told: they wait until no receiver is left.
+    pub fn close<B: Bell<W>>(&mut self, bell: &mut B) -> bool {
+        shut(&mut self.closed, &mut self.lists, bell)
+    }
+
+    /// Whether the channel is closed.
+    pub fn is_closed(&self) -> bool {
+        self.closed
+    }
+
+    /// Whether no message is held.
+    pub fn is_empty(&self) -> bool {
+        self.queue.len() == 0
+    }
+
+    /// Whether as many messages are held as the capacity allows. Without a capacity it is never so.
+    pub fn is_full(&self) -> bool {
+        match self.queue.capacity() {
+            Some(cap) => self.queue.len() >= cap,
+            None => false,
+        }
+    }
+
+    /// Whether the channel is closed and no message is held, so that none will come.
+    pub fn is_terminated(&self) -> bool {
+        self.closed && self.is_empty()
+    }
+
+    /// The number of messages.
+    pub fn len(&self) -> usize {
+        self.queue.len()
+    }
+
+    /// The number of senders.
+    pub fn sender_count(&self) -> usize {
+        self.senders
+    }
+
+    /// The number of receivers.
+    pub fn receiver_count(&self) -> usize {
+        self.receivers
+    }
+
+    /// The most messages that there may be, if there is a capacity.
+    pub fn capacity(&self) -> Option<usize> {
+        self.queue.capacity()
+    }
+
+    /// Counts one more sender, a copy of one that there is. The answer is whether there may be one more.
+    pub fn add_sender(&mut self) -> bool {
+        add_handle(&mut self.senders)
+    }
+
+    /// Counts one more receiver, a copy of one that there is. The answer is whether there may be one more.
+    pub fn add_receiver(&mut self) -> bool {
+        add_handle(&mut self.receivers)
+    }
+
+    /// Counts one more sender, made of a weak one, where the channel is open.
+    pub fn upgrade_sender(&mut self) -> Upgrade {
+        upgrade_handle(self.closed, &mut self.senders)
+    }
+
+    /// Counts one more receiver, made of a weak one, where the channel is open.
+    pub fn upgrade_receiver(&mut self) -> Upgrade {
+        upgrade_handle(self.closed, &mut self.receivers)
+    }
+
+    /// Gives a sender up. The last one closes the channel; the answer is whether that happened.
+    pub fn drop_sender<B: Bell<W>>(&mut self, bell: &mut B) -> bool {
+        match self.senders {
+            0 => false,
+            1 => {
+                self.senders = 0;
+                shut(&mut self.closed, &mut self.lists, bell)
+            }
+            _ => {
+                self.senders -= 1;
+                false
+            }
+        }
+    }
+
+    /// Gives a receiver up, and its stream's wait with it. The last one closes the channel; the answer is
+    /// whether that happened. It also tells closed operations, on a channel that was closed before too.
+    pub fn drop_receiver<B: Bell<W>>(&mut self, stream: &mut Option<Ticket>, bell: &mut B) -> bool {
+        leave(&mut self.lists.streams, stream);
+        match self.receivers {
+            0 => false,
+            1 => {
+                self.receivers = 0;
+                let closed = shut(&mut self.closed, &mut self.lists, bell);
+                self.lists.closeds.tell_all(bell);
+                closed
+            }
+            _ => {
+                self.receivers -= 1;
+                false
+            }
+        }
+    }
+
+    /// Polls a send: its message and its ticket. One without a message is finished, and stays pending.
+    ///
+    /// A ready poll leaves neither message nor ticket. A pending one leaves the ticket of an untold entry
+    /// that holds `w`.
+    pub fn poll_send<B: Bell<W>>(
+        &mut self,
+        m: &mut Option<T>,
+        t: &mut Option<Ticket>,
+        w: W,
+        bell: &mut B,
+    ) -> Result<Poll<Result<(), SendError<T>>>, OutOfMemory> {
+        let Some(message) = m.take() else {
+            return Ok(Poll::Pending);
+        };
+        if self.closed {
+            leave(&mut self.lists.sends, t);
+            return Ok(Poll::Ready(Err(SendError(message))));
+        }
+        match self.queue.push(message) {
+            Ok(Ok(())) => {
+                leave(&mut self.lists.sends, t);
+                self.lists.tell_accepted(bell);
+                Ok(Poll::Ready(Ok(())))
+            }
+            Ok(Err(message)) => {
+                *m = Some(message);
+                wait(&mut self.lists.sends, t, w)?;
+                Ok(Poll::Pending)
+            }
+            Err(NoMemory(message)) => {
+                *m = Some(message);
+                Err(OutOfMemory)
+            }
+        }
+    }
+
+    /// Polls a receive, by its ticket.
+    ///
+    /// A ready poll leaves no ticket. A pending one leaves the ticket of an untold entry that holds `w`.
+    pub fn poll_recv<B: Bell<W>>(
+        &mut self,
+        t: &mut Option<Ticket>,
+        w: W,
+        bell: &mut B,
+    ) -> Result<Poll<Result<T, RecvError>>, OutOfMemory> {
+        if let Some(message) = self.queue.pop() {
+            leave(&mut self.lists.receives, t);
+            self.lists.sends.tell_one(bell);
+            return Ok(Poll::Ready(Ok(message)));
+        }
+        if self.closed {
+            leave(&mut self.lists.receives, t);
+            return Ok(Poll::Ready(Err(RecvError)));
+        }
+        wait(&mut self.lists.receives, t, w)?;
+        Ok(Poll::Pending)
+    }
+
+    /// Polls the stream of a receiver, by its ticket.
+    ///
+    /// A ready poll leaves no ticket. A pending one leaves the ticket of an untold entry that holds `w`.
+    pub fn poll_next<B: Bell<W>>(
+        &mut self,
+        t: &mut Option<Ticket>,
+        w: W,
+        bell: &mut B,
+    ) -> Result<Poll<Option<T>>, OutOfMemory> {
+        if let Some(message) = self.queue.pop() {
+            leave(&mut self.lists.streams, t);
+            self.lists.sends.tell_one(bell);
+            return Ok(Poll::Ready(Some(message)));
+        }
+        if self.closed {
+            leave(&mut self.lists.streams, t);
+            return Ok(Poll::Ready(None));
+        }
+        wait(&mut self.lists.streams, t, w)?;
+        Ok(Poll::Pending)
+    }
+
+    /// Polls a closed operation, by its ticket. It is ready exactly where no receiver is left.
+    ///
+    /// A ready poll leaves no ticket. A pending one leaves the ticket of an untold entry that holds `w`.
+    pub fn poll_closed(&mut self, t: &mut Option<Ticket>, w: W) -> Result<Poll<()>, OutOfMemory> {
+        if self.receivers == 0 {
+            leave(&mut self.lists.closeds, t);
+            return Ok(Poll::Ready(()));
+        }
+        wait(&mut self.lists.closeds, t, w)?;
+        Ok(Poll::Pending)
+    }
+
+    /// Gives a send's wait up. A notice that it had goes to the next send.
+    pub fn cancel_send<B: Bell<W>>(&mut self, t: &mut Option<Ticket>, bell: &mut B) {
+        hand_on(&mut self.lists.sends, t, bell);
+    }
+
+    /// Gives a receive's wait up. A notice that it had goes to the next receive.
+    pub fn cancel_recv<B: Bell<W>>(&mut self, t: &mut Option<Ticket>, bell: &mut B) {
+        hand_on(&mut self.lists.receives, t, bell);
+    }
+
+    /// Gives a stream's wait up. Streams are told together, so that no notice is handed on.
+    pub fn cancel_stream(&mut self, t: &mut Option<Ticket>) {
+        leave(&mut self.lists.streams, t);
+    }
+
+    /// Gives a closed operation's wait up. Closed operations are told together, so that no notice is
+    /// handed on.
+    pub fn cancel_closed(&mut self, t: &mut Option<Ticket>) {
+        leave(&mut self.lists.closeds, t);
+    }
+
+    /// How many wait in the group, told ones among them.
+    pub fn waiting(&self, g: Group) -> usize {
+        self.lists.of(g).len()
+    }
+
+    /// How many in the group are told.
+    pub fn told(&self, g: Group) -> usize {
+        self.lists.of(g).told()
+    }
+
+    /// The key of the first one in the group, where somebody there is told.
+    pub fn first_told(&self, g: Group) -> Option<usize> {
+        self.lists.of(g).first_told()
+    }
+
+    /// Whether the ticket's entry is told, or nothing where it isn't in the group's list.
+    pub fn is_told(&self, g: Group, t: &Ticket) -> Option<bool> {
+        self.lists.of(g).is_told(t)
+    }
+}

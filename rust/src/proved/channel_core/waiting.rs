@@ -1,0 +1,89 @@
+// Taken out of crates/channel_core/src/waiting.rt by tools/erase. Change that file, not this one.
+//! The waiting lists of a channel, and what a ticket that may be there does to one.
+
+use crate::proved::channel_core::state::Group;
+use crate::proved::channel_model::OutOfMemory;
+use crate::proved::event_list::{Bell, NoRoom, Ticket, WaitList};
+use crate::shim::Global;
+
+/// Who waits for a channel, by what they wait for.
+pub(crate) struct WaitLists<W> {
+    pub(crate) sends: WaitList<W>,
+    pub(crate) receives: WaitList<W>,
+    pub(crate) streams: WaitList<W>,
+    pub(crate) closeds: WaitList<W>,
+}
+
+impl<W> WaitLists<W> {
+    /// Nobody waits.
+    pub(crate) fn new(alloc: Global) -> Self {
+        WaitLists {
+            sends: WaitList::new(alloc),
+            receives: WaitList::new(alloc),
+            streams: WaitList::new(alloc),
+            closeds: WaitList::new(alloc),
+        }
+    }
+
+    /// The list of a group.
+    pub(crate) fn of(&self, g: Group) -> &WaitList<W> {
+        match g {
+            Group::Sends => &self.sends,
+            Group::Receives => &self.receives,
+            Group::Streams => &self.streams,
+            Group::Closeds => &self.closeds,
+        }
+    }
+
+    /// A message was accepted.
+    pub(crate) fn tell_accepted<B: Bell<W>>(&mut self, bell: &mut B) {
+        self.receives.tell_one(bell);
+        self.streams.tell_all(bell);
+    }
+
+    /// The channel was closed.
+    pub(crate) fn tell_closed<B: Bell<W>>(&mut self, bell: &mut B) {
+        self.sends.tell_all(bell);
+        self.receives.tell_all(bell);
+        self.streams.tell_all(bell);
+    }
+}
+
+/// The ticket's entry leaves the list, with its notice.
+pub(crate) fn leave<W>(list: &mut WaitList<W>, ticket: &mut Option<Ticket>) {
+    if let Some(ticket) = ticket.take() {
+        list.remove(ticket);
+    }
+}
+
+/// The ticket's entry leaves the list, and a notice that it had is handed on.
+pub(crate) fn hand_on<W, B: Bell<W>>(
+    list: &mut WaitList<W>,
+    ticket: &mut Option<Ticket>,
+    bell: &mut B,
+) {
+    if let Some(ticket) = ticket.take() {
+        list.cancel(ticket, bell);
+    }
+}
+
+/// Who can't go on waits: its entry waits again, or it begins to wait.
+pub(crate) fn wait<W>(
+    list: &mut WaitList<W>,
+    ticket: &mut Option<Ticket>,
+    w: W,
+) -> Result<(), OutOfMemory> {
+    if let Some(ticket) = ticket {
+        if list.contains(ticket) {
+            list.again(ticket, w);
+            return Ok(());
+        }
+    }
+    match list.listen(w) {
+        Ok(new) => {
+            *ticket = Some(new);
+            Ok(())
+        }
+        Err(NoRoom(_payload)) => Err(OutOfMemory),
+    }
+}

@@ -1,0 +1,133 @@
+// Taken out of crates/channel_run/src/run/operations.rt by tools/erase. Change that file, not this one.
+//! Operations that are started, polled and given up, and the polls of streams.
+
+use crate::proved::channel_run::names::{put, take};
+use crate::proved::channel_run::operations::{Operation, is_receiver_borrowed};
+use crate::proved::channel_run::run::Run;
+use crate::proved::channel_core::Core;
+use crate::proved::channel_model::{OutOfMemory, Refusal, Reply};
+use crate::proved::event_list::Quiet;
+
+impl<T> Run<T> {
+    pub(super) fn start_send(&mut self, op: u64, sender: u64, message: T) -> Reply<T> {
+        if !self.senders.has(sender) {
+            return Reply::Refused(Refusal::Unknown, Some(message));
+        }
+        if self.has_operation(op) {
+            return Reply::Refused(Refusal::Taken, Some(message));
+        }
+        let operation = Operation::Send {
+            sender,
+            message: Some(message),
+            ticket: None,
+        };
+        match put(&mut self.operations, op, operation) {
+            Ok(()) => Reply::Done,
+            Err(operation) => Reply::Refused(Refusal::OutOfMemory, operation.into_message()),
+        }
+    }
+
+    pub(super) fn start_recv(&mut self, op: u64, receiver: u64) -> Reply<T> {
+        if !self.has_receiver(receiver) {
+            return Reply::Refused(Refusal::Unknown, None);
+        }
+        if self.has_operation(op) {
+            return Reply::Refused(Refusal::Taken, None);
+        }
+        let operation = Operation::Recv {
+            receiver,
+            ticket: None,
+        };
+        match put(&mut self.operations, op, operation) {
+            Ok(()) => Reply::Done,
+            Err(_) => Reply::Refused(Refusal::OutOfMemory, None),
+        }
+    }
+
+    pub(super) fn start_closed(&mut self, op: u64, sender: u64) -> Reply<T> {
+        if !self.senders.has(sender) {
+            return Reply::Refused(Refusal::Unknown, None);
+        }
+        if self.has_operation(op) {
+            return Reply::Refused(Refusal::Taken, None);
+        }
+        let operation = Operation::Closed {
+            sender,
+            ticket: None,
+        };
+        match put(&mut self.operations, op, operation) {
+            Ok(()) => Reply::Done,
+            Err(_) => Reply::Refused(Refusal::OutOfMemory, None),
+        }
+    }
+
+    pub(super) fn poll(&mut self, op: u64) -> Reply<T> {
+        let Some(operation) = self.operations.get_mut(&op) else {
+            return Reply::Refused(Refusal::Unknown, None);
+        };
+        match operation {
+            Operation::Send {
+                message,
+                ticket,
+                ..
+            } => {
+                match self.core.poll_send(message, ticket, (), &mut Quiet) {
+                    Ok(poll) => Reply::SendPolled(poll),
+                    Err(OutOfMemory) => Reply::Refused(Refusal::OutOfMemory, None),
+                }
+            }
+            Operation::Recv { ticket, .. } => {
+                match self.core.poll_recv(ticket, (), &mut Quiet) {
+                    Ok(poll) => Reply::RecvPolled(poll),
+                    Err(OutOfMemory) => Reply::Refused(Refusal::OutOfMemory, None),
+                }
+            }
+            Operation::Closed { ticket, .. } => match self.core.poll_closed(ticket, ()) {
+                Ok(poll) => Reply::ClosedPolled(poll),
+                Err(OutOfMemory) => Reply::Refused(Refusal::OutOfMemory, None),
+            },
+        }
+    }
+
+    pub(super) fn poll_next(&mut self, receiver: u64) -> Reply<T> {
+        if !self.has_receiver(receiver) {
+            return Reply::Refused(Refusal::Unknown, None);
+        }
+        if is_receiver_borrowed(&self.operations, receiver) {
+            return Reply::Refused(Refusal::Borrowed, None);
+        }
+        self.poll_stream(receiver)
+    }
+
+    pub(super) fn drop_op(&mut self, op: u64) -> Reply<T> {
+        let Some(operation) = take(&mut self.operations, op) else {
+            return Reply::Refused(Refusal::Unknown, None);
+        };
+        cancel(&mut self.core, operation);
+        Reply::Done
+    }
+
+    /// Polls the stream of a receiver that is live.
+    pub(super) fn poll_stream(&mut self, receiver: u64) -> Reply<T> {
+        let Some(ticket) = self.receivers.get_mut(&receiver) else {
+            return Reply::Refused(Refusal::Unknown, None);
+        };
+        match self.core.poll_next(ticket, (), &mut Quiet) {
+            Ok(poll) => Reply::NextPolled(poll),
+            Err(OutOfMemory) => Reply::Refused(Refusal::OutOfMemory, None),
+        }
+    }
+}
+
+// Gives up an operation's wait.
+fn cancel<T>(core: &mut Core<T, ()>, operation: Operation<T>) {
+    match operation {
+        Operation::Send {
+            message: _message,
+            mut ticket,
+            ..
+        } => core.cancel_send(&mut ticket, &mut Quiet),
+        Operation::Recv { mut ticket, .. } => core.cancel_recv(&mut ticket, &mut Quiet),
+        Operation::Closed { mut ticket, .. } => core.cancel_closed(&mut ticket),
+    }
+}

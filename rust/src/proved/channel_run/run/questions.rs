@@ -1,0 +1,59 @@
+// Taken out of crates/channel_run/src/run/questions.rt by tools/erase. Change that file, not this one.
+//! What a handle asks of the channel, and what closes it.
+
+use crate::proved::channel_run::run::Run;
+use crate::proved::channel_model::{Refusal, Reply, Side};
+use crate::proved::event_list::Quiet;
+
+impl<T> Run<T> {
+    pub(super) fn close(&mut self, side: Side) -> Reply<T> {
+        if !self.has_handle(side) {
+            return Reply::Refused(Refusal::Unknown, None);
+        }
+        Reply::Flag(self.core.close(&mut Quiet))
+    }
+
+    pub(super) fn is_closed(&self, side: Side) -> Reply<T> {
+        self.answer(side, Reply::Flag(self.core.is_closed()))
+    }
+
+    pub(super) fn is_empty(&self, side: Side) -> Reply<T> {
+        self.answer(side, Reply::Flag(self.core.is_empty()))
+    }
+
+    pub(super) fn is_full(&self, side: Side) -> Reply<T> {
+        self.answer(side, Reply::Flag(self.core.is_full()))
+    }
+
+    pub(super) fn len(&self, side: Side) -> Reply<T> {
+        self.answer(side, Reply::Count(self.core.len()))
+    }
+
+    pub(super) fn sender_count(&self, side: Side) -> Reply<T> {
+        self.answer(side, Reply::Count(self.core.sender_count()))
+    }
+
+    pub(super) fn receiver_count(&self, side: Side) -> Reply<T> {
+        self.answer(side, Reply::Count(self.core.receiver_count()))
+    }
+
+    pub(super) fn capacity(&self, side: Side) -> Reply<T> {
+        self.answer(side, Reply::Capacity(self.core.capacity()))
+    }
+
+    pub(super) fn is_terminated(&self, receiver: u64) -> Reply<T> {
+        self.answer(
+            Side::Receiver(receiver),
+            Reply::Flag(self.core.is_terminated()),
+        )
+    }
+
+    // The reply to a handle that asks, if it is live.
+    fn answer(&self, side: Side, reply: Reply<T>) -> Reply<T> {
+        if self.has_handle(side) {
+            reply
+        } else {
+            Reply::Refused(Refusal::Unknown, None)
+        }
+    }
+}

@@ -1,0 +1,63 @@
+// Taken out of crates/channel_run/src/settle.rt by tools/erase. Change that file, not this one.
+//! Settling: those who were told are polled until nobody is told.
+
+use crate::shim::Vec;
+
+use crate::proved::channel_run::run::Run;
+use crate::proved::channel_model::{OutOfMemory, Reply, Who};
+
+/// What settling a run came to.
+pub struct Settled<T> {
+    /// How many polls were made.
+    pub polls: u128,
+    /// Those whose poll was ready, each with its reply, in the order of the polls.
+    pub finished: Vec<(Who, Reply<T>)>,
+}
+
+impl<T> Run<T> {
+    /// Polls those who were told, one after the other, until nobody is told. Then nobody waits who
+    /// could go on.
+    ///
+    /// Each time it polls the first told receive; where none is told, the first told stream, then
+    /// send, then closed operation. A told stream is polled also where a live receive borrows its
+    /// receiver. Where `w` wait, it takes `w * (w + 1) / 2` polls at the most.
+    ///
+    /// Memory is wanted before the first poll alone, for as many replies as there are waiting
+    /// entries.
+    pub fn settle(&mut self) -> Result<Settled<T>, OutOfMemory> {
+        let mut finished = self.room_for_replies()?;
+        for polls in 0..u128::MAX {
+            let Some(who) = self.first_told() else {
+                return Ok(Settled { polls, finished });
+            };
+            let reply = self.poll_told(who);
+            keep_ready(&mut finished, who, reply);
+        }
+        // never reached: so many polls are more than the bound
+        Ok(Settled {
+            polls: u128::MAX,
+            finished,
+        })
+    }
+}
+
+// Keeps the reply to a poll, if it was ready.
+fn keep_ready<T>(finished: &mut Vec<(Who, Reply<T>)>, who: Who, reply: Reply<T>) {
+    if is_ready(&reply) {
+        match finished.push((who, reply)) {
+            Ok(()) => {}
+            Err(_) => unreachable!(),
+        }
+    }
+}
+
+// Whether a poll was answered ready.
+fn is_ready<T>(reply: &Reply<T>) -> bool {
+    match reply {
+        Reply::SendPolled(poll) => poll.is_ready(),
+        Reply::RecvPolled(poll) => poll.is_ready(),
+        Reply::ClosedPolled(poll) => poll.is_ready(),
+        Reply::NextPolled(poll) => poll.is_ready(),
+        _ => false,
+    }
+}

@@ -1,0 +1,33 @@
+// Taken out of crates/channel_run/src/tickets.rt by tools/erase. Change that file, not this one.
+//! Who holds a ticket, by its key.
+
+use crate::proved::channel_run::operations::Operation;
+use crate::proved::channel_core::Group;
+use crate::proved::event_list::Ticket;
+use crate::shim::BTreeMap;
+
+/// Whether there is a ticket, and it has the key.
+pub(crate) fn has_key(ticket: &Option<Ticket>, key: usize) -> bool {
+    match ticket {
+        Some(ticket) => ticket.key() == key,
+        None => false,
+    }
+}
+
+/// The name of the operation that waits in the group by a ticket of this key.
+pub(crate) fn operation_with<T>(
+    operations: &BTreeMap<u64, Operation<T>>,
+    group: Group,
+    key: usize,
+) -> Option<u64> {
+    let (name, _operation) = operations
+        .iter()
+        .find(|(_, operation)| operation.waits_with(group, key))?;
+    Some(*name)
+}
+
+/// The name of the receiver whose stream waits by a ticket of this key.
+pub(crate) fn receiver_with(receivers: &BTreeMap<u64, Option<Ticket>>, key: usize) -> Option<u64> {
+    let (name, _ticket) = receivers.iter().find(|(_, ticket)| has_key(ticket, key))?;
+    Some(*name)
+}

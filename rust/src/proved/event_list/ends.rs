@@ -1,0 +1,71 @@
+// Taken out of crates/event_list/src/ends.rt by tools/erase. Change that file, not this one.
+//! The ends of a waiting list, and how an entry comes and goes.
+
+use crate::proved::event_list::entries::{Entries, Entry, Notice};
+use crate::proved::event_list::steps::Steps;
+use crate::shim::Ledger;
+
+/// The keys of the first entry, of the last, and of the first untold one.
+#[derive(Clone, Copy)]
+pub struct Ends {
+    pub first: Option<usize>,
+    pub last: Option<usize>,
+    pub cursor: Option<usize>,
+}
+
+impl Ends {
+    /// The ends, once the entry of a key with these neighbours has left.
+    fn without(self, key: usize, before: Option<usize>, behind: Option<usize>) -> Ends {
+        Ends {
+            first: if before.is_some() { self.first } else { behind },
+            last: if behind.is_some() { self.last } else { before },
+            cursor: if self.cursor == Some(key) {
+                behind
+            } else {
+                self.cursor
+            },
+        }
+    }
+
+    /// The ends, once a new untold entry has come last.
+    fn with(self, key: usize) -> Ends {
+        Ends {
+            first: self.first.or(Some(key)),
+            last: Some(key),
+            cursor: self.cursor.or(Some(key)),
+        }
+    }
+
+    /// Takes an entry out, and lets its neighbours name one another. The answer is whether it was
+    /// told, if it was there.
+    pub fn take_out<W, L: Ledger>(
+        &mut self,
+        entries: &mut Entries<W>,
+        key: usize,
+        steps: &mut Steps<L>,
+    ) -> Option<bool> {
+        let entry = entries.remove(key, steps)?;
+        entries.set_behind(entry.before, entry.behind, steps);
+        entries.set_before(entry.behind, entry.before, steps);
+        *self = self.without(key, entry.before, entry.behind);
+        Some(entry.notice.is_told())
+    }
+
+    /// Puts a new untold entry behind the last one. The answer is its key.
+    pub fn put_last<W, L: Ledger>(
+        &mut self,
+        entries: &mut Entries<W>,
+        payload: W,
+        steps: &mut Steps<L>,
+    ) -> usize {
+        let entry = Entry {
+            before: self.last,
+            behind: None,
+            notice: Notice::Untold(payload),
+        };
+        let key = entries.insert(entry, steps);
+        entries.set_behind(self.last, Some(key), steps);
+        *self = self.with(key);
+        key
+    }
+}

@@ -1,0 +1,132 @@
+// Taken out of crates/event_list/src/entries.rt by tools/erase. Change that file, not this one.
+//! The entries of a waiting list. A call reaches at most one of them.
+
+use crate::proved::event_list::steps::Steps;
+use crate::shim::Slab;
+use crate::shim::Global;
+use crate::shim::Ledger;
+
+/// Whether an entry is told, and its payload where it isn't.
+pub enum Notice<W> {
+    Told,
+    Untold(W),
+}
+
+impl<W> Notice<W> {
+    pub fn is_told(&self) -> bool {
+        match self {
+            Notice::Told => true,
+            Notice::Untold(_) => false,
+        }
+    }
+}
+
+/// An entry, with the keys of its neighbours.
+pub struct Entry<W> {
+    pub before: Option<usize>,
+    pub behind: Option<usize>,
+    pub notice: Notice<W>,
+}
+
+/// The entries, each under its key: the one way to the slab.
+///
+/// Each call on `&mut self` is one look-up and raises `steps` by one. `mark` counts nothing: it serves
+/// the questions `contains` and `is_told` of a list, and says nothing of an entry's neighbours.
+pub struct Entries<W> {
+    slab: Slab<Entry<W>>,
+}
+
+impl<W> Entries<W> {
+    /// No entries.
+    pub fn new(alloc: Global) -> Self {
+        Entries {
+            slab: Slab::new(alloc),
+        }
+    }
+
+    /// Makes room for one more entry. The answer is whether there is room.
+    pub fn reserve<L: Ledger>(&mut self, steps: &mut Steps<L>) -> bool {
+        steps.raise();
+        self.slab.reserve(1).is_ok()
+    }
+
+    /// Makes an entry, under the key that the slab picks.
+    pub fn insert<L: Ledger>(&mut self, entry: Entry<W>, steps: &mut Steps<L>) -> usize {
+        steps.raise();
+        let key = self.slab.insert_reserved(entry);
+        // The slab's number of entries is a `usize`, which the clause `fits` hands on.
+        let _len = self.slab.len();
+        key
+    }
+
+    /// Takes an entry out, if it is there.
+    pub fn remove<L: Ledger>(&mut self, key: usize, steps: &mut Steps<L>) -> Option<Entry<W>> {
+        steps.raise();
+        self.slab.try_remove(key)
+    }
+
+    /// Gives an entry another neighbour behind, where there is an entry.
+    pub fn set_behind<L: Ledger>(
+        &mut self,
+        at: Option<usize>,
+        behind: Option<usize>,
+        steps: &mut Steps<L>,
+    ) {
+        steps.raise();
+        let Some(key) = at else {
+            return;
+        };
+        if let Some(entry) = self.slab.get_mut(key) {
+            entry.behind = behind;
+        }
+    }
+
+    /// Gives an entry another neighbour before, where there is an entry.
+    pub fn set_before<L: Ledger>(
+        &mut self,
+        at: Option<usize>,
+        before: Option<usize>,
+        steps: &mut Steps<L>,
+    ) {
+        steps.raise();
+        let Some(key) = at else {
+            return;
+        };
+        if let Some(entry) = self.slab.get_mut(key) {
+            entry.before = before;
+        }
+    }
+
+    /// Makes an entry an untold one with this payload.
+    pub fn set_payload<L: Ledger>(&mut self, key: usize, payload: W, steps: &mut Steps<L>) {
+        steps.raise();
+        if let Some(entry) = self.slab.get_mut(key) {
+            entry.notice = Notice::Untold(payload);
+        }
+    }
+
+    /// Tells an entry. The answer is its payload, where it was untold, and its neighbour behind.
+    pub fn tell<L: Ledger>(
+        &mut self,
+        key: usize,
+        steps: &mut Steps<L>,
+    ) -> Option<(W, Option<usize>)> {
+        steps.raise();
+        let entry = self.slab.get_mut(key)?;
+        match std::mem::replace(&mut entry.notice, Notice::Told) {
+            Notice::Untold(payload) => Some((payload, entry.behind)),
+            Notice::Told => None,
+        }
+    }
+
+    /// Whether an entry is told, if it is there.
+    pub fn is_told<L: Ledger>(&mut self, key: usize, steps: &mut Steps<L>) -> Option<bool> {
+        steps.raise();
+        self.slab.get(key).map(|entry| entry.notice.is_told())
+    }
+
+    /// Whether an entry is told, if it is there. It counts nothing, and is for questions alone.
+    pub fn mark(&self, key: usize) -> Option<bool> {
+        self.slab.get(key).map(|entry| entry.notice.is_told())
+    }
+}

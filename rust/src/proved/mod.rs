@@ -1,0 +1,8 @@
+// Written by tools/erase.
+//! The proved source, without its contracts.
+
+pub(crate) mod event_list;
+pub(crate) mod channel_model;
+pub(crate) mod channel_core;
+#[cfg(feature = "run")]
+pub(crate) mod channel_run;

@@ -1,0 +1,326 @@
+//! The receiving side: receivers, which are streams too, and weak ones.
+
+use crate::channel::Channel;
+use crate::operations::Recv;
+use crate::proved::event_list::Ticket;
+use crate::{RecvError, TryRecvError};
+use futures_core::stream::{FusedStream, Stream};
+use std::fmt;
+use std::pin::Pin;
+use std::sync::Arc;
+use std::task::{Context, Poll};
+
+/// The receiving side of a channel. It is a stream of messages too.
+///
+/// It can be cloned, and shared among threads. Each message goes to one receiver. Once the last one
+/// is dropped, the channel is closed.
+///
+/// ```
+/// # futures_lite::future::block_on(async {
+/// use futures_lite::StreamExt;
+///
+/// let (s, r) = vamorilesh::unbounded();
+/// s.send(1).await.unwrap();
+/// s.send(2).await.unwrap();
+/// drop(s);
+///
+/// assert_eq!(r.collect::<Vec<_>>().await, [1, 2]);
+/// # });
+/// ```
+pub struct Receiver<T> {
+    /// What all handles of the channel share.
+    channel: Arc<Channel<T>>,
+    /// The stream's wait, if it waits.
+    stream: Option<Ticket>,
+}
+
+impl<T> Receiver<T> {
+    /// The handle of a receiver that is counted.
+    pub(crate) fn new(channel: Arc<Channel<T>>) -> Self {
+        Receiver { channel, stream: None }
+    }
+
+    /// What all handles of the channel share.
+    pub(crate) fn channel(&self) -> &Channel<T> {
+        &self.channel
+    }
+
+    /// Takes the oldest message, if there is one.
+    ///
+    /// ```
+    /// use vamorilesh::{unbounded, TryRecvError};
+    ///
+    /// let (s, r) = unbounded();
+    /// s.try_send(1).unwrap();
+    ///
+    /// assert_eq!(r.try_recv(), Ok(1));
+    /// assert_eq!(r.try_recv(), Err(TryRecvError::Empty));
+    ///
+    /// drop(s);
+    /// assert_eq!(r.try_recv(), Err(TryRecvError::Closed));
+    /// ```
+    #[inline]
+    pub fn try_recv(&self) -> Result<T, TryRecvError> {
+        self.channel.try_recv()
+    }
+
+    /// Takes the oldest message, and waits while the channel is open and empty.
+    ///
+    /// ```
+    /// # futures_lite::future::block_on(async {
+    /// use vamorilesh::{unbounded, RecvError};
+    ///
+    /// let (s, r) = unbounded();
+    /// s.send(1).await.unwrap();
+    /// drop(s);
+    ///
+    /// assert_eq!(r.recv().await, Ok(1));
+    /// assert_eq!(r.recv().await, Err(RecvError));
+    /// # });
+    /// ```
+    pub fn recv(&self) -> Recv<'_, T> {
+        Recv::new(self)
+    }
+
+    /// Takes the oldest message, and blocks the thread while the channel is open and empty.
+    ///
+    /// A task that blocks its thread may keep the very task from running that would send.
+    ///
+    /// ```
+    /// use vamorilesh::{unbounded, RecvError};
+    ///
+    /// let (s, r) = unbounded();
+    /// s.send_blocking(1).unwrap();
+    /// drop(s);
+    ///
+    /// assert_eq!(r.recv_blocking(), Ok(1));
+    /// assert_eq!(r.recv_blocking(), Err(RecvError));
+    /// ```
+    #[cfg(not(target_family = "wasm"))]
+    pub fn recv_blocking(&self) -> Result<T, RecvError> {
+        match self.try_recv() {
+            Ok(msg) => Ok(msg),
+            Err(TryRecvError::Closed) => Err(RecvError),
+            Err(TryRecvError::Empty) => crate::blocking::block_on(self.recv()),
+        }
+    }
+
+    /// Closes the channel, and answers whether it was open. What it holds can still be received.
+    ///
+    /// ```
+    /// let (s, r) = vamorilesh::unbounded();
+    /// s.try_send(1).unwrap();
+    ///
+    /// assert!(r.close());
+    /// assert!(!s.close());
+    /// assert!(s.try_send(2).is_err());
+    /// assert_eq!(r.try_recv(), Ok(1));
+    /// ```
+    pub fn close(&self) -> bool {
+        self.channel.close()
+    }
+
+    /// Whether the channel is closed.
+    ///
+    /// ```
+    /// let (s, r) = vamorilesh::unbounded::<u64>();
+    /// assert!(!r.is_closed());
+    ///
+    /// drop(s);
+    /// assert!(r.is_closed());
+    /// ```
+    pub fn is_closed(&self) -> bool {
+        self.channel.is_closed()
+    }
+
+    /// Whether no message is held.
+    ///
+    /// ```
+    /// let (s, r) = vamorilesh::unbounded();
+    /// assert!(r.is_empty());
+    ///
+    /// s.try_send(1).unwrap();
+    /// assert!(!r.is_empty());
+    /// # drop(r);
+    /// ```
+    pub fn is_empty(&self) -> bool {
+        self.channel.is_empty()
+    }
+
+    /// Whether as many messages are held as the capacity allows. An unbounded channel never is
+    /// full.
+    ///
+    /// ```
+    /// let (s, r) = vamorilesh::bounded(1);
+    /// assert!(!r.is_full());
+    ///
+    /// s.try_send(1).unwrap();
+    /// assert!(r.is_full());
+    /// # drop(r);
+    /// ```
+    pub fn is_full(&self) -> bool {
+        self.channel.is_full()
+    }
+
+    /// How many messages are held.
+    ///
+    /// ```
+    /// let (s, r) = vamorilesh::unbounded();
+    /// s.try_send(1).unwrap();
+    /// s.try_send(2).unwrap();
+    ///
+    /// assert_eq!(r.len(), 2);
+    /// # drop(r);
+    /// ```
+    pub fn len(&self) -> usize {
+        self.channel.len()
+    }
+
+    /// How many messages may be held, where the channel is bounded. It takes no lock.
+    ///
+    /// ```
+    /// let (s, r) = vamorilesh::bounded::<u64>(5);
+    /// assert_eq!(r.capacity(), Some(5));
+    ///
+    /// let (s, r) = vamorilesh::unbounded::<u64>();
+    /// assert_eq!(r.capacity(), None);
+    /// ```
+    pub fn capacity(&self) -> Option<usize> {
+        self.channel.capacity()
+    }
+
+    /// How many receivers there are.
+    ///
+    /// ```
+    /// let (s, r) = vamorilesh::unbounded::<u64>();
+    /// let other = r.clone();
+    ///
+    /// assert_eq!(r.receiver_count(), 2);
+    /// # drop((s, other));
+    /// ```
+    pub fn receiver_count(&self) -> usize {
+        self.channel.receiver_count()
+    }
+
+    /// How many senders there are.
+    ///
+    /// ```
+    /// let (s, r) = vamorilesh::unbounded::<u64>();
+    /// let other = s.clone();
+    ///
+    /// assert_eq!(r.sender_count(), 2);
+    /// # drop((r, other));
+    /// ```
+    pub fn sender_count(&self) -> usize {
+        self.channel.sender_count()
+    }
+
+    /// A weak receiver of this channel.
+    ///
+    /// ```
+    /// let (s, r) = vamorilesh::unbounded::<u64>();
+    /// let weak = r.downgrade();
+    ///
+    /// drop(r);
+    /// assert!(s.is_closed());
+    /// assert!(weak.upgrade().is_none());
+    /// ```
+    pub fn downgrade(&self) -> WeakReceiver<T> {
+        WeakReceiver { channel: self.channel.clone() }
+    }
+
+    /// Whether both are receivers of one channel. It takes no lock.
+    ///
+    /// ```
+    /// let (s, r) = vamorilesh::unbounded::<u64>();
+    /// let (s2, r2) = vamorilesh::unbounded::<u64>();
+    ///
+    /// assert!(r.same_channel(&r.clone()));
+    /// assert!(!r.same_channel(&r2));
+    /// # drop((s, s2));
+    /// ```
+    pub fn same_channel(&self, other: &Receiver<T>) -> bool {
+        Arc::ptr_eq(&self.channel, &other.channel)
+    }
+}
+
+impl<T> Clone for Receiver<T> {
+    /// One more receiver. The program ends where there are more than half of what a `usize` counts.
+    fn clone(&self) -> Receiver<T> {
+        self.channel.add_receiver();
+        Receiver::new(self.channel.clone())
+    }
+}
+
+impl<T> Drop for Receiver<T> {
+    /// The last receiver closes the channel.
+    fn drop(&mut self) {
+        self.channel.drop_receiver(&mut self.stream);
+    }
+}
+
+impl<T> fmt::Debug for Receiver<T> {
+    fn fmt(&self, f: &mut fmt::Formatter<'_>) -> fmt::Result {
+        f.write_str("Receiver { .. }")
+    }
+}
+
+impl<T> Stream for Receiver<T> {
+    type Item = T;
+
+    fn poll_next(self: Pin<&mut Self>, cx: &mut Context<'_>) -> Poll<Option<T>> {
+        let receiver = self.get_mut();
+        receiver.channel.poll_next(&mut receiver.stream, cx)
+    }
+}
+
+impl<T> FusedStream for Receiver<T> {
+    /// Whether the channel is closed and empty.
+    fn is_terminated(&self) -> bool {
+        self.channel.is_terminated()
+    }
+}
+
+/// A receiver that doesn't keep its channel open. [`Receiver::downgrade`] makes it.
+///
+/// ```
+/// let (s, r) = vamorilesh::unbounded::<u64>();
+/// let weak = r.downgrade();
+///
+/// let other = weak.upgrade().unwrap();
+/// assert!(other.same_channel(&r));
+/// # drop(s);
+/// ```
+pub struct WeakReceiver<T> {
+    /// What all handles of the channel share.
+    channel: Arc<Channel<T>>,
+}
+
+impl<T> WeakReceiver<T> {
+    /// A receiver, where the channel is open.
+    ///
+    /// ```
+    /// let (s, r) = vamorilesh::unbounded::<u64>();
+    /// let weak = r.downgrade();
+    /// assert!(weak.upgrade().is_some());
+    ///
+    /// s.close();
+    /// assert!(weak.upgrade().is_none());
+    /// ```
+    pub fn upgrade(&self) -> Option<Receiver<T>> {
+        let is_open = self.channel.upgrade_receiver();
+        is_open.then(|| Receiver::new(self.channel.clone()))
+    }
+}
+
+impl<T> Clone for WeakReceiver<T> {
+    fn clone(&self) -> Self {
+        WeakReceiver { channel: self.channel.clone() }
+    }
+}
+
+impl<T> fmt::Debug for WeakReceiver<T> {
+    fn fmt(&self, f: &mut fmt::Formatter<'_>) -> fmt::Result {
+        f.write_str("WeakReceiver { .. }")
+    }
+}

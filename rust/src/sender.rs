@@ -1,0 +1,331 @@
+//! The sending side: senders, and weak ones.
+
+use crate::channel::Channel;
+use crate::operations::{Closed, Send};
+use crate::{SendError, TrySendError};
+use std::fmt;
+use std::sync::Arc;
+
+/// The sending side of a channel.
+///
+/// It can be cloned, and shared among threads. Once the last one is dropped, the channel is closed.
+///
+/// ```
+/// let (s, r) = vamorilesh::unbounded();
+/// let other = s.clone();
+///
+/// std::thread::spawn(move || other.try_send(1)).join().unwrap().unwrap();
+/// assert_eq!(r.try_recv(), Ok(1));
+/// # drop(s);
+/// ```
+pub struct Sender<T> {
+    /// What all handles of the channel share.
+    channel: Arc<Channel<T>>,
+}
+
+impl<T> Sender<T> {
+    /// The handle of a sender that is counted.
+    pub(crate) fn new(channel: Arc<Channel<T>>) -> Self {
+        Sender { channel }
+    }
+
+    /// What all handles of the channel share.
+    pub(crate) fn channel(&self) -> &Channel<T> {
+        &self.channel
+    }
+
+    /// Sends a message at once, or hands it back where the channel is full or closed.
+    ///
+    /// ```
+    /// use vamorilesh::{bounded, TrySendError};
+    ///
+    /// let (s, r) = bounded(1);
+    /// assert_eq!(s.try_send(1), Ok(()));
+    /// assert_eq!(s.try_send(2), Err(TrySendError::Full(2)));
+    ///
+    /// drop(r);
+    /// assert_eq!(s.try_send(3), Err(TrySendError::Closed(3)));
+    /// ```
+    #[inline]
+    pub fn try_send(&self, msg: T) -> Result<(), TrySendError<T>> {
+        self.channel.try_send(msg)
+    }
+
+    /// Sends a message, and waits while the channel is full. A closed channel hands it back.
+    ///
+    /// A wait that is given up takes its message with it, and nothing was sent.
+    ///
+    /// ```
+    /// # futures_lite::future::block_on(async {
+    /// use vamorilesh::{unbounded, SendError};
+    ///
+    /// let (s, r) = unbounded();
+    /// assert_eq!(s.send(1).await, Ok(()));
+    ///
+    /// drop(r);
+    /// assert_eq!(s.send(2).await, Err(SendError(2)));
+    /// # });
+    /// ```
+    pub fn send(&self, msg: T) -> Send<'_, T> {
+        Send::new(self, msg)
+    }
+
+    /// Waits until no receiver is left.
+    ///
+    /// A channel that was closed by hand may have receivers still, which may take what is left.
+    ///
+    /// ```
+    /// # futures_lite::future::block_on(async {
+    /// let (s, r) = vamorilesh::unbounded::<u64>();
+    ///
+    /// drop(r);
+    /// s.closed().await;
+    /// # });
+    /// ```
+    pub fn closed(&self) -> Closed<'_, T> {
+        Closed::new(self)
+    }
+
+    /// Sends a message, and blocks the thread while the channel is full.
+    ///
+    /// A task that blocks its thread may keep the very task from running that would make room.
+    ///
+    /// ```
+    /// use vamorilesh::{unbounded, SendError};
+    ///
+    /// let (s, r) = unbounded();
+    /// assert_eq!(s.send_blocking(1), Ok(()));
+    ///
+    /// drop(r);
+    /// assert_eq!(s.send_blocking(2), Err(SendError(2)));
+    /// ```
+    #[cfg(not(target_family = "wasm"))]
+    pub fn send_blocking(&self, msg: T) -> Result<(), SendError<T>> {
+        match self.try_send(msg) {
+            Ok(()) => Ok(()),
+            Err(TrySendError::Closed(msg)) => Err(SendError(msg)),
+            Err(TrySendError::Full(msg)) => crate::blocking::block_on(self.send(msg)),
+        }
+    }
+
+    /// Sends a message at once, also where the channel is full: then the oldest one comes out for
+    /// it.
+    ///
+    /// ```
+    /// use vamorilesh::{bounded, SendError};
+    ///
+    /// let (s, r) = bounded(2);
+    /// assert_eq!(s.force_send(1), Ok(None));
+    /// assert_eq!(s.force_send(2), Ok(None));
+    /// assert_eq!(s.force_send(3), Ok(Some(1)));
+    ///
+    /// drop(r);
+    /// assert_eq!(s.force_send(4), Err(SendError(4)));
+    /// ```
+    pub fn force_send(&self, msg: T) -> Result<Option<T>, SendError<T>> {
+        self.channel.force_send(msg)
+    }
+
+    /// Closes the channel, and answers whether it was open. What it holds can still be received.
+    ///
+    /// ```
+    /// let (s, r) = vamorilesh::unbounded();
+    /// s.try_send(1).unwrap();
+    ///
+    /// assert!(s.close());
+    /// assert!(!r.close());
+    /// assert!(s.try_send(2).is_err());
+    /// assert_eq!(r.try_recv(), Ok(1));
+    /// ```
+    pub fn close(&self) -> bool {
+        self.channel.close()
+    }
+
+    /// Whether the channel is closed.
+    ///
+    /// ```
+    /// let (s, r) = vamorilesh::unbounded::<u64>();
+    /// assert!(!s.is_closed());
+    ///
+    /// drop(r);
+    /// assert!(s.is_closed());
+    /// ```
+    pub fn is_closed(&self) -> bool {
+        self.channel.is_closed()
+    }
+
+    /// Whether no message is held.
+    ///
+    /// ```
+    /// let (s, r) = vamorilesh::unbounded();
+    /// assert!(s.is_empty());
+    ///
+    /// s.try_send(1).unwrap();
+    /// assert!(!s.is_empty());
+    /// # drop(r);
+    /// ```
+    pub fn is_empty(&self) -> bool {
+        self.channel.is_empty()
+    }
+
+    /// Whether as many messages are held as the capacity allows. An unbounded channel never is
+    /// full.
+    ///
+    /// ```
+    /// let (s, r) = vamorilesh::bounded(1);
+    /// assert!(!s.is_full());
+    ///
+    /// s.try_send(1).unwrap();
+    /// assert!(s.is_full());
+    /// # drop(r);
+    /// ```
+    pub fn is_full(&self) -> bool {
+        self.channel.is_full()
+    }
+
+    /// How many messages are held.
+    ///
+    /// ```
+    /// let (s, r) = vamorilesh::unbounded();
+    /// s.try_send(1).unwrap();
+    /// s.try_send(2).unwrap();
+    ///
+    /// assert_eq!(s.len(), 2);
+    /// # drop(r);
+    /// ```
+    pub fn len(&self) -> usize {
+        self.channel.len()
+    }
+
+    /// How many messages may be held, where the channel is bounded. It takes no lock.
+    ///
+    /// ```
+    /// let (s, r) = vamorilesh::bounded::<u64>(5);
+    /// assert_eq!(s.capacity(), Some(5));
+    ///
+    /// let (s, r) = vamorilesh::unbounded::<u64>();
+    /// assert_eq!(s.capacity(), None);
+    /// ```
+    pub fn capacity(&self) -> Option<usize> {
+        self.channel.capacity()
+    }
+
+    /// How many receivers there are.
+    ///
+    /// ```
+    /// let (s, r) = vamorilesh::unbounded::<u64>();
+    /// let other = r.clone();
+    ///
+    /// assert_eq!(s.receiver_count(), 2);
+    /// # drop((s, other));
+    /// ```
+    pub fn receiver_count(&self) -> usize {
+        self.channel.receiver_count()
+    }
+
+    /// How many senders there are.
+    ///
+    /// ```
+    /// let (s, r) = vamorilesh::unbounded::<u64>();
+    /// let other = s.clone();
+    ///
+    /// assert_eq!(s.sender_count(), 2);
+    /// # drop((r, other));
+    /// ```
+    pub fn sender_count(&self) -> usize {
+        self.channel.sender_count()
+    }
+
+    /// A weak sender of this channel.
+    ///
+    /// ```
+    /// let (s, r) = vamorilesh::unbounded::<u64>();
+    /// let weak = s.downgrade();
+    ///
+    /// drop(s);
+    /// assert!(r.is_closed());
+    /// assert!(weak.upgrade().is_none());
+    /// ```
+    pub fn downgrade(&self) -> WeakSender<T> {
+        WeakSender { channel: self.channel.clone() }
+    }
+
+    /// Whether both are senders of one channel. It takes no lock.
+    ///
+    /// ```
+    /// let (s, r) = vamorilesh::unbounded::<u64>();
+    /// let (s2, r2) = vamorilesh::unbounded::<u64>();
+    ///
+    /// assert!(s.same_channel(&s.clone()));
+    /// assert!(!s.same_channel(&s2));
+    /// # drop((r, r2));
+    /// ```
+    pub fn same_channel(&self, other: &Sender<T>) -> bool {
+        Arc::ptr_eq(&self.channel, &other.channel)
+    }
+}
+
+impl<T> Clone for Sender<T> {
+    /// One more sender. The program ends where there are more than half of what a `usize` counts.
+    fn clone(&self) -> Sender<T> {
+        self.channel.add_sender();
+        Sender::new(self.channel.clone())
+    }
+}
+
+impl<T> Drop for Sender<T> {
+    /// The last sender closes the channel.
+    fn drop(&mut self) {
+        self.channel.drop_sender();
+    }
+}
+
+impl<T> fmt::Debug for Sender<T> {
+    fn fmt(&self, f: &mut fmt::Formatter<'_>) -> fmt::Result {
+        f.write_str("Sender { .. }")
+    }
+}
+
+/// A sender that doesn't keep its channel open. [`Sender::downgrade`] makes it.
+///
+/// ```
+/// let (s, r) = vamorilesh::unbounded::<u64>();
+/// let weak = s.downgrade();
+///
+/// let other = weak.upgrade().unwrap();
+/// assert!(other.same_channel(&s));
+/// # drop(r);
+/// ```
+pub struct WeakSender<T> {
+    /// What all handles of the channel share.
+    channel: Arc<Channel<T>>,
+}
+
+impl<T> WeakSender<T> {
+    /// A sender, where the channel is open.
+    ///
+    /// ```
+    /// let (s, r) = vamorilesh::unbounded::<u64>();
+    /// let weak = s.downgrade();
+    /// assert!(weak.upgrade().is_some());
+    ///
+    /// r.close();
+    /// assert!(weak.upgrade().is_none());
+    /// ```
+    pub fn upgrade(&self) -> Option<Sender<T>> {
+        let is_open = self.channel.upgrade_sender();
+        is_open.then(|| Sender::new(self.channel.clone()))
+    }
+}
+
+impl<T> Clone for WeakSender<T> {
+    fn clone(&self) -> Self {
+        WeakSender { channel: self.channel.clone() }
+    }
+}
+
+impl<T> fmt::Debug for WeakSender<T> {
+    fn fmt(&self, f: &mut fmt::Formatter<'_>) -> fmt::Result {
+        f.write_str("WeakSender { .. }")
+    }
+}

@@ -1,0 +1,128 @@
+//! What the proved source stands on, over `std` and `slab`: written by hand, and trusted. Its tests
+//! say what the proofs rely on.
+//!
+//! Memory isn't refused here. Where there is none the program ends, as with every collection of
+//! `std`, so that an answer which tells of a refusal can't be made.
+
+use std::collections;
+use std::convert::Infallible;
+use std::marker::PhantomData;
+use std::ops::{Deref, DerefMut};
+
+/// Where memory comes from: the one allocator of a program.
+#[derive(Clone, Copy)]
+pub struct Global;
+
+/// A value for which there was no memory.
+pub struct Refused<T> {
+    pub value: T,
+    _never: Infallible,
+}
+
+/// A ledger counts for the prover alone, so these count nothing and take no bytes.
+pub trait Ledger {}
+pub struct Brand;
+impl Ledger for Brand {}
+pub struct Blank;
+pub struct Book<L>(PhantomData<L>);
+pub type Share<L> = Book<L>;
+
+impl Blank {
+    pub fn new(_parts: u64) -> Self {
+        Blank
+    }
+    pub fn open<L: Ledger>(self) -> (Book<L>, Share<L>) {
+        (Book(PhantomData), Book(PhantomData))
+    }
+}
+impl<L> Book<L> {
+    pub fn add(&mut self, _share: &mut Share<L>, _amount: u64) {}
+}
+
+/// A collection, and what is kept beside it. It has all calls of the collection; those below are
+/// made or answered otherwise.
+pub struct Over<C, K = Global>(C, K);
+pub type BTreeMap<K, V> = Over<collections::BTreeMap<K, V>>;
+pub type Slab<V> = Over<slab::Slab<V>>;
+pub type Vec<T> = Over<std::vec::Vec<T>>;
+pub type VecDeque<T, A> = Over<collections::VecDeque<T>, A>;
+/// A queue that never holds more than the number beside it, for which it has room from the start.
+pub type HeapCircularBuffer<T> = Over<collections::VecDeque<T>, usize>;
+
+impl<C, K> Deref for Over<C, K> {
+    type Target = C;
+    fn deref(&self) -> &C {
+        &self.0
+    }
+}
+impl<C, K> DerefMut for Over<C, K> {
+    fn deref_mut(&mut self) -> &mut C {
+        &mut self.0
+    }
+}
+impl<C: IntoIterator, K> IntoIterator for Over<C, K> {
+    type Item = C::Item;
+    type IntoIter = C::IntoIter;
+    fn into_iter(self) -> C::IntoIter {
+        self.0.into_iter()
+    }
+}
+impl<C: Default> Over<C> {
+    pub fn new(alloc: Global) -> Self {
+        Over(C::default(), alloc)
+    }
+}
+impl<K: Ord, V> BTreeMap<K, V> {
+    pub fn insert(&mut self, key: K, value: V) -> Result<Option<V>, Refused<(K, V)>> {
+        Ok(self.0.insert(key, value))
+    }
+}
+impl<V> Slab<V> {
+    pub fn reserve(&mut self, more: usize) -> Result<(), Infallible> {
+        self.0.reserve(more);
+        Ok(())
+    }
+    pub fn insert_reserved(&mut self, value: V) -> usize {
+        self.0.insert(value)
+    }
+}
+impl<T> Vec<T> {
+    pub fn with_capacity(alloc: Global, capacity: usize) -> Result<Self, Infallible> {
+        Ok(Over(std::vec::Vec::with_capacity(capacity), alloc))
+    }
+    pub fn push(&mut self, value: T) -> Result<(), Refused<T>> {
+        self.0.push(value);
+        Ok(())
+    }
+}
+impl<T> VecDeque<T, Global> {
+    pub fn push_back(&mut self, value: T) -> Result<(), Refused<T>> {
+        self.0.push_back(value);
+        Ok(())
+    }
+}
+impl<T> HeapCircularBuffer<T> {
+    pub fn with_capacity(_: Global, capacity: usize) -> Result<Self, Infallible> {
+        let items = collections::VecDeque::with_capacity(capacity);
+        Ok(Over(items, capacity))
+    }
+    pub fn try_push_back(&mut self, value: T) -> Result<(), T> {
+        if self.0.len() == self.1 {
+            return Err(value);
+        }
+        self.0.push_back(value);
+        Ok(())
+    }
+    pub fn push_back(&mut self, value: T) -> Option<T> {
+        let is_full = self.0.len() == self.1;
+        let oldest = if is_full { self.0.pop_front() } else { None };
+        self.0.push_back(value);
+        oldest
+    }
+    pub fn capacity(&self) -> usize {
+        self.1
+    }
+}
+
+#[cfg(test)]
+mod tests;

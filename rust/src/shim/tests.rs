@@ -1,0 +1,103 @@
+//! What the proofs rely on, each rule once.
+
+use super::{BTreeMap, Blank, Brand, Global, HeapCircularBuffer, Slab, Vec, VecDeque};
+
+/// The source never asks for more than it may, and never looks up a key that it wasn't given.
+fn slab_of(values: &[u64]) -> Slab<u64> {
+    let mut slab = Slab::new(Global);
+    for value in values {
+        assert!(slab.reserve(1).is_ok());
+        slab.insert_reserved(*value);
+    }
+    slab
+}
+
+#[test]
+fn a_slab_gives_the_key_that_was_left_last() {
+    let mut slab = slab_of(&[10, 11, 12]);
+    assert_eq!(slab.try_remove(0), Some(10));
+    assert_eq!(slab.try_remove(2), Some(12));
+    assert_eq!(slab.insert_reserved(20), 2);
+    assert_eq!(slab.insert_reserved(21), 0);
+    assert_eq!(slab.insert_reserved(22), 3);
+}
+
+#[test]
+fn a_slab_keeps_each_value_under_its_key() {
+    let mut slab = slab_of(&[10, 11, 12]);
+    assert_eq!(slab.try_remove(1), Some(11));
+    assert_eq!(slab.try_remove(1), None);
+    assert_eq!(slab.get(1), None);
+    assert_eq!(slab.get_mut(2), Some(&mut 12));
+    assert_eq!(slab.get(0), Some(&10));
+    assert_eq!(slab.len(), 2);
+}
+
+#[test]
+fn a_bounded_queue_hands_back_what_is_too_much() {
+    let mut queue = HeapCircularBuffer::with_capacity(Global, 2).unwrap();
+    assert_eq!(queue.try_push_back(1), Ok(()));
+    assert_eq!(queue.try_push_back(2), Ok(()));
+    assert_eq!(queue.try_push_back(3), Err(3));
+    assert_eq!((queue.len(), queue.capacity()), (2, 2));
+    assert_eq!(queue.pop_front(), Some(1));
+}
+
+#[test]
+fn a_bounded_queue_gives_its_oldest_for_one_too_many() {
+    let mut queue = HeapCircularBuffer::with_capacity(Global, 2).unwrap();
+    assert_eq!(queue.push_back(1), None);
+    assert_eq!(queue.push_back(2), None);
+    assert_eq!(queue.push_back(3), Some(1));
+    assert_eq!((queue.pop_front(), queue.pop_front(), queue.pop_front()), (Some(2), Some(3), None));
+}
+
+#[test]
+fn a_bounded_queue_takes_its_memory_once() {
+    for capacity in 1..20 {
+        let mut queue = HeapCircularBuffer::with_capacity(Global, capacity).unwrap();
+        let room = queue.0.capacity();
+        for message in 0..3 * capacity {
+            queue.push_back(message);
+        }
+        assert_eq!(queue.0.capacity(), room);
+    }
+}
+
+#[test]
+fn an_unbounded_queue_keeps_the_order() {
+    let mut queue = VecDeque::<u64, Global>::new(Global);
+    for message in 0..100 {
+        assert!(queue.push_back(message).is_ok());
+    }
+    assert_eq!(queue.len(), 100);
+    assert!((0..100).all(|message| queue.pop_front() == Some(message)));
+    assert_eq!(queue.pop_front(), None);
+}
+
+#[test]
+fn a_list_keeps_the_order() {
+    let mut list = Vec::with_capacity(Global, 2).unwrap();
+    assert!(list.push(1).is_ok());
+    assert!(list.push(2).is_ok());
+    assert!(list.contains(&2));
+    list.retain(|value| *value != 1);
+    assert!(list.into_iter().eq([2]));
+}
+
+#[test]
+fn a_map_is_in_the_order_of_its_keys() {
+    let mut map = BTreeMap::new(Global);
+    assert!(matches!(map.insert(2, 20), Ok(None)));
+    assert!(matches!(map.insert(1, 10), Ok(None)));
+    assert!(map.values().eq(&[10, 20]));
+    assert_eq!(map.remove(&2), Some(20));
+    assert_eq!((map.get(&2), map.len()), (None, 1));
+}
+
+#[test]
+fn a_ledger_takes_no_bytes() {
+    let (mut book, mut share) = Blank::new(1).open::<Brand>();
+    book.add(&mut share, 1);
+    assert_eq!(std::mem::size_of_val(&book) + std::mem::size_of_val(&share), 0);
+}
