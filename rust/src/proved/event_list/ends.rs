@@ -2,7 +2,7 @@
 //! The ends of a waiting list, and how an entry comes and goes.
 
 use crate::proved::event_list::entries::{Entries, Entry, Notice};
-use crate::proved::event_list::steps::Steps;
+use crate::proved::event_list::list::steps::Lookups;
 use crate::shim::Ledger;
 
 /// The keys of the first entry, of the last, and of the first untold one.
@@ -42,11 +42,11 @@ impl Ends {
         &mut self,
         entries: &mut Entries<W>,
         key: usize,
-        steps: &mut Steps<L>,
+        lookups: &mut Lookups<L>,
     ) -> Option<bool> {
-        let entry = entries.remove(key, steps)?;
-        entries.set_behind(entry.before, entry.behind, steps);
-        entries.set_before(entry.behind, entry.before, steps);
+        let entry = entries.remove(key, lookups)?;
+        entries.set_behind(entry.before, entry.behind, lookups);
+        entries.set_before(entry.behind, entry.before, lookups);
         *self = self.without(key, entry.before, entry.behind);
         Some(entry.notice.is_told())
     }
@@ -56,15 +56,15 @@ impl Ends {
         &mut self,
         entries: &mut Entries<W>,
         payload: W,
-        steps: &mut Steps<L>,
+        lookups: &mut Lookups<L>,
     ) -> usize {
         let entry = Entry {
             before: self.last,
             behind: None,
             notice: Notice::Untold(payload),
         };
-        let key = entries.insert(entry, steps);
-        entries.set_behind(self.last, Some(key), steps);
+        let key = entries.insert(entry, lookups);
+        entries.set_behind(self.last, Some(key), lookups);
         *self = self.with(key);
         key
     }

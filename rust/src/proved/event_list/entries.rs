@@ -1,7 +1,7 @@
 // Taken out of crates/event_list/src/entries.rt by tools/erase. Change that file, not this one.
 //! The entries of a waiting list. A call reaches at most one of them.
 
-use crate::proved::event_list::steps::Steps;
+use crate::proved::event_list::list::steps::Lookups;
 use crate::shim::Slab;
 use crate::shim::Global;
 use crate::shim::Ledger;
@@ -30,8 +30,7 @@ pub struct Entry<W> {
 
 /// The entries, each under its key: the one way to the slab.
 ///
-/// Each call on `&mut self` is one look-up and raises `steps` by one. `mark` counts nothing: it serves
-/// the questions `contains` and `is_told` of a list, and says nothing of an entry's neighbours.
+/// Each call is one look-up, and raises `lookups` by one; none reaches an entry without it.
 pub struct Entries<W> {
     slab: Slab<Entry<W>>,
 }
@@ -45,14 +44,14 @@ impl<W> Entries<W> {
     }
 
     /// Makes room for one more entry. The answer is whether there is room.
-    pub fn reserve<L: Ledger>(&mut self, steps: &mut Steps<L>) -> bool {
-        steps.raise();
+    pub fn reserve<L: Ledger>(&mut self, lookups: &mut Lookups<L>) -> bool {
+        lookups.raise();
         self.slab.reserve(1).is_ok()
     }
 
     /// Makes an entry, under the key that the slab picks.
-    pub fn insert<L: Ledger>(&mut self, entry: Entry<W>, steps: &mut Steps<L>) -> usize {
-        steps.raise();
+    pub fn insert<L: Ledger>(&mut self, entry: Entry<W>, lookups: &mut Lookups<L>) -> usize {
+        lookups.raise();
         let key = self.slab.insert_reserved(entry);
         // The slab's number of entries is a `usize`, which the clause `fits` hands on.
         let _len = self.slab.len();
@@ -60,8 +59,8 @@ impl<W> Entries<W> {
     }
 
     /// Takes an entry out, if it is there.
-    pub fn remove<L: Ledger>(&mut self, key: usize, steps: &mut Steps<L>) -> Option<Entry<W>> {
-        steps.raise();
+    pub fn remove<L: Ledger>(&mut self, key: usize, lookups: &mut Lookups<L>) -> Option<Entry<W>> {
+        lookups.raise();
         self.slab.try_remove(key)
     }
 
@@ -70,9 +69,9 @@ impl<W> Entries<W> {
         &mut self,
         at: Option<usize>,
         behind: Option<usize>,
-        steps: &mut Steps<L>,
+        lookups: &mut Lookups<L>,
     ) {
-        steps.raise();
+        lookups.raise();
         let Some(key) = at else {
             return;
         };
@@ -86,9 +85,9 @@ impl<W> Entries<W> {
         &mut self,
         at: Option<usize>,
         before: Option<usize>,
-        steps: &mut Steps<L>,
+        lookups: &mut Lookups<L>,
     ) {
-        steps.raise();
+        lookups.raise();
         let Some(key) = at else {
             return;
         };
@@ -98,8 +97,8 @@ impl<W> Entries<W> {
     }
 
     /// Makes an entry an untold one with this payload.
-    pub fn set_payload<L: Ledger>(&mut self, key: usize, payload: W, steps: &mut Steps<L>) {
-        steps.raise();
+    pub fn set_payload<L: Ledger>(&mut self, key: usize, payload: W, lookups: &mut Lookups<L>) {
+        lookups.raise();
         if let Some(entry) = self.slab.get_mut(key) {
             entry.notice = Notice::Untold(payload);
         }
@@ -109,9 +108,9 @@ impl<W> Entries<W> {
     pub fn tell<L: Ledger>(
         &mut self,
         key: usize,
-        steps: &mut Steps<L>,
+        lookups: &mut Lookups<L>,
     ) -> Option<(W, Option<usize>)> {
-        steps.raise();
+        lookups.raise();
         let entry = self.slab.get_mut(key)?;
         match std::mem::replace(&mut entry.notice, Notice::Told) {
             Notice::Untold(payload) => Some((payload, entry.behind)),
@@ -120,13 +119,8 @@ impl<W> Entries<W> {
     }
 
     /// Whether an entry is told, if it is there.
-    pub fn is_told<L: Ledger>(&mut self, key: usize, steps: &mut Steps<L>) -> Option<bool> {
-        steps.raise();
-        self.slab.get(key).map(|entry| entry.notice.is_told())
-    }
-
-    /// Whether an entry is told, if it is there. It counts nothing, and is for questions alone.
-    pub fn mark(&self, key: usize) -> Option<bool> {
+    pub fn is_told<L: Ledger>(&self, key: usize, lookups: &mut Lookups<L>) -> Option<bool> {
+        lookups.raise();
         self.slab.get(key).map(|entry| entry.notice.is_told())
     }
 }

@@ -1,14 +1,18 @@
 // Taken out of crates/event_list/src/list.rt by tools/erase. Change that file, not this one.
-//! The waiting list.
+//! The waiting list: its public calls.
+//!
+//! A counted call hands the ledger that it is given to the call of the same name of `links`, where the
+//! work is done. A call of the plain name opens a ledger and runs the counted one on it.
+
+pub(crate) mod steps;
 
 use crate::proved::event_list::bell::Bell;
-use crate::proved::event_list::ends::Ends;
-use crate::proved::event_list::entries::Entries;
-use crate::proved::event_list::steps::Steps;
+use crate::proved::event_list::links::Links;
 use crate::proved::event_list::ticket::Ticket;
 use crate::shim::Global;
 use crate::shim::Brand;
 use crate::shim::{Blank, Ledger};
+use steps::Steps;
 
 /// There was no memory for another entry. It hands the payload back.
 pub struct NoRoom<W>(pub W);
@@ -18,7 +22,8 @@ pub struct NoRoom<W>(pub W);
 /// The entries lie in a slab, each with the keys of the one before and the one behind it. So each call
 /// looks up a fixed number of them, however many wait; `tell_all` looks up one for each that it tells.
 /// The counted calls say how many: they have the contracts of the calls of the plain names, which run
-/// them on a ledger of their own.
+/// them on a ledger of their own. Each counts on the ledger that it is handed, at most so many and at
+/// least one where it reaches an entry.
 ///
 /// ```text
 /// let mut list = WaitList::new(rt.alloc());
@@ -29,24 +34,15 @@ pub struct NoRoom<W>(pub W);
 /// list.is_told(&second)              // Some(true)
 /// ```
 pub struct WaitList<W> {
-    entries: Entries<W>,
-    ends: Ends,
-    len: usize,
-    told: usize,
+    // The entries, and all work on them.
+    links: Links<W>,
 }
 
 impl<W> WaitList<W> {
     /// A list where nobody waits. It takes no memory.
     pub fn new(alloc: Global) -> Self {
         WaitList {
-            entries: Entries::new(alloc),
-            ends: Ends {
-                first: None,
-                last: None,
-                cursor: None,
-            },
-            len: 0,
-            told: 0,
+            links: Links::new(alloc),
         }
     }
 
@@ -61,12 +57,20 @@ impl<W> WaitList<W> {
     }
 
     /// Tells the longest waiting untold entry. The answer is whether there was one.
+    #[inline(always)]
     pub fn tell_one<B: Bell<W>>(&mut self, bell: &mut B) -> bool {
+        if !self.links.has_untold() {
+            return false;
+        }
         self.tell_one_from::<B, Brand>(bell, Blank::new(1))
     }
 
     /// Tells every untold entry, and answers how many there were.
+    #[inline(always)]
     pub fn tell_all<B: Bell<W>>(&mut self, bell: &mut B) -> usize {
+        if !self.links.has_untold() {
+            return 0;
+        }
         self.tell_all_from::<B, Brand>(bell, Blank::new(1))
     }
 
@@ -86,68 +90,35 @@ impl<W> WaitList<W> {
         w: W,
         steps: &mut Steps<L>,
     ) -> Result<Ticket, NoRoom<W>> {
-        if !self.entries.reserve(steps) {
-            return Err(NoRoom(w));
-        }
-        let key = self.ends.put_last(&mut self.entries, w, steps);
-        self.len += 1;
-        Ok(Ticket { key })
+        self.links.listen(w, &mut steps.lookups)
     }
 
     /// `again`, which counts its look-ups: at most 6.
     pub fn again_counted<L: Ledger>(&mut self, t: &Ticket, w: W, steps: &mut Steps<L>) -> bool {
-        let Some(was_told) = self.entries.is_told(t.key, steps) else {
-            return false;
-        };
-        if !was_told {
-            self.entries.set_payload(t.key, w, steps);
-            return true;
-        }
-        self.ends.take_out(&mut self.entries, t.key, steps);
-        self.ends.put_last(&mut self.entries, w, steps);
-        self.told -= 1;
-        true
+        self.links.again(t, w, &mut steps.lookups)
     }
 
-    /// `tell_one`, which counts its look-ups: at most one.
+    /// `tell_one`, which counts its look-ups: one where one is told, and else none.
     pub fn tell_one_counted<B: Bell<W>, L: Ledger>(
         &mut self,
         bell: &mut B,
         steps: &mut Steps<L>,
     ) -> bool {
-        let Some(key) = self.ends.cursor else {
-            return false;
-        };
-        let Some((payload, behind)) = self.entries.tell(key, steps) else {
-            unreachable!()
-        };
-        self.ends.cursor = behind;
-        self.told += 1;
-        bell.ring(payload);
-        true
+        self.links.tell_one(bell, &mut steps.lookups)
     }
 
-    /// `tell_all`, which counts its look-ups: at most one for each untold entry.
+    /// `tell_all`, which counts its look-ups: one for each untold entry.
     pub fn tell_all_counted<B: Bell<W>, L: Ledger>(
         &mut self,
         bell: &mut B,
         steps: &mut Steps<L>,
     ) -> usize {
-        let untold = self.len() - self.told();
-        for _turn in 0..untold {
-            self.tell_one_counted(bell, steps);
-        }
-        untold
+        self.links.tell_all(bell, &mut steps.lookups)
     }
 
     /// `remove`, which counts its look-ups: at most 6.
     pub fn remove_counted<L: Ledger>(&mut self, t: Ticket, steps: &mut Steps<L>) -> Option<bool> {
-        let was_told = self.ends.take_out(&mut self.entries, t.key, steps)?;
-        self.len -= 1;
-        if was_told {
-            self.told -= 1;
-        }
-        Some(was_told)
+        self.links.remove(t, &mut steps.lookups)
     }
 
     /// `cancel`, which counts its look-ups: at most 12.
@@ -157,37 +128,32 @@ impl<W> WaitList<W> {
         bell: &mut B,
         steps: &mut Steps<L>,
     ) {
-        if self.remove_counted(t, steps) == Some(true) {
-            self.tell_one_counted(bell, steps);
-        }
+        self.links.cancel(t, bell, &mut steps.lookups);
     }
 
     /// How many wait.
     pub fn len(&self) -> usize {
-        self.len
+        self.links.len()
     }
 
     /// How many are told.
     pub fn told(&self) -> usize {
-        self.told
+        self.links.told()
     }
 
     /// Whether the ticket's entry is in the list.
     pub fn contains(&self, t: &Ticket) -> bool {
-        self.entries.mark(t.key).is_some()
+        self.is_told(t).is_some()
     }
 
     /// Whether the ticket's entry is told, or nothing where it isn't in the list.
     pub fn is_told(&self, t: &Ticket) -> Option<bool> {
-        self.entries.mark(t.key)
+        self.is_told_from::<Brand>(t, Blank::new(1))
     }
 
     /// The key of the first entry, where somebody is told.
     pub fn first_told(&self) -> Option<usize> {
-        if self.told == 0 {
-            return None;
-        }
-        self.ends.first
+        self.links.first_told()
     }
 }
 
@@ -216,5 +182,10 @@ impl<W> WaitList<W> {
 
     fn cancel_from<B: Bell<W>, L: Ledger>(&mut self, t: Ticket, bell: &mut B, blank: Blank) {
         self.cancel_counted(t, bell, &mut Steps::<L>::of(blank));
+    }
+
+    fn is_told_from<L: Ledger>(&self, t: &Ticket, blank: Blank) -> Option<bool> {
+        let mut steps = Steps::<L>::of(blank);
+        self.links.is_told(t, &mut steps.lookups)
     }
 }

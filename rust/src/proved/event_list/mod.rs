@@ -12,11 +12,11 @@
 mod bell;
 mod ends;
 mod entries;
+mod links;
 mod list;
-mod steps;
 mod ticket;
 
 pub use bell::{Bell, Quiet};
+pub use list::steps::Steps;
 pub use list::{NoRoom, WaitList};
-pub use steps::Steps;
 pub use ticket::Ticket;

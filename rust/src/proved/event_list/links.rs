@@ -1,0 +1,159 @@
+// Taken out of crates/event_list/src/links.rt by tools/erase. Change that file, not this one.
+//! The entries of a waiting list with what is kept beside them, and all work on them.
+//!
+//! A new entry goes behind the last one, untold. Those told are the front of the list, and `cursor` is
+//! the first behind them: to tell one is to tell the entry at the cursor and to move the cursor to its
+//! neighbour behind. An entry leaves by letting its neighbours name one another, and an end or the
+//! cursor that named it names its neighbour. Who waits again leaves and comes last where it was told,
+//! and stays where it is otherwise. So no call walks along the list.
+//!
+//! Each look-up is counted on the ledger that a call is handed. No other can be opened here, and no
+//! entry is reached without one: see `steps`.
+
+use crate::proved::event_list::bell::Bell;
+use crate::proved::event_list::ends::Ends;
+use crate::proved::event_list::entries::Entries;
+use crate::proved::event_list::list::NoRoom;
+use crate::proved::event_list::list::steps::Lookups;
+use crate::proved::event_list::ticket::Ticket;
+use crate::shim::Global;
+use crate::shim::Ledger;
+
+/// The entries in order of arrival, of which the first `told` are told.
+pub(crate) struct Links<W> {
+    // Each with the keys of its neighbours.
+    entries: Entries<W>,
+    // The keys of the first one, of the last, and of the first untold one.
+    ends: Ends,
+    // How many entries there are.
+    len: usize,
+    // How many of them are told.
+    told: usize,
+}
+
+impl<W> Links<W> {
+    /// A list where nobody waits. It takes no memory.
+    pub(crate) fn new(alloc: Global) -> Self {
+        Links {
+            entries: Entries::new(alloc),
+            ends: Ends {
+                first: None,
+                last: None,
+                cursor: None,
+            },
+            len: 0,
+            told: 0,
+        }
+    }
+
+    /// A new entry goes last, untold, under a key that isn't in the list. At most 6 look-ups.
+    pub(crate) fn listen<L: Ledger>(
+        &mut self,
+        w: W,
+        lookups: &mut Lookups<L>,
+    ) -> Result<Ticket, NoRoom<W>> {
+        if !self.entries.reserve(lookups) {
+            return Err(NoRoom(w));
+        }
+        let key = self.ends.put_last(&mut self.entries, w, lookups);
+        self.len += 1;
+        Ok(Ticket { key })
+    }
+
+    /// The entry waits again with this payload. At most 6 look-ups.
+    pub(crate) fn again<L: Ledger>(&mut self, t: &Ticket, w: W, lookups: &mut Lookups<L>) -> bool {
+        let Some(was_told) = self.entries.is_told(t.key, lookups) else {
+            return false;
+        };
+        if !was_told {
+            self.entries.set_payload(t.key, w, lookups);
+            return true;
+        }
+        self.ends.take_out(&mut self.entries, t.key, lookups);
+        self.ends.put_last(&mut self.entries, w, lookups);
+        self.told -= 1;
+        true
+    }
+
+    /// Tells the longest waiting untold entry. At most one look-up.
+    pub(crate) fn tell_one<B: Bell<W>, L: Ledger>(
+        &mut self,
+        bell: &mut B,
+        lookups: &mut Lookups<L>,
+    ) -> bool {
+        let Some(key) = self.ends.cursor else {
+            return false;
+        };
+        let Some((payload, behind)) = self.entries.tell(key, lookups) else {
+            unreachable!()
+        };
+        self.ends.cursor = behind;
+        self.told += 1;
+        bell.ring(payload);
+        true
+    }
+
+    /// Tells every untold entry. At most one look-up for each.
+    pub(crate) fn tell_all<B: Bell<W>, L: Ledger>(
+        &mut self,
+        bell: &mut B,
+        lookups: &mut Lookups<L>,
+    ) -> usize {
+        let untold = self.len() - self.told();
+        for _turn in 0..untold {
+            self.tell_one(bell, lookups);
+        }
+        untold
+    }
+
+    /// The entry leaves. At most 6 look-ups.
+    pub(crate) fn remove<L: Ledger>(&mut self, t: Ticket, lookups: &mut Lookups<L>) -> Option<bool> {
+        let was_told = self.ends.take_out(&mut self.entries, t.key, lookups)?;
+        self.len -= 1;
+        if was_told {
+            self.told -= 1;
+        }
+        Some(was_told)
+    }
+
+    /// The entry leaves, and where it was told, one is told in its place. At most 12 look-ups.
+    pub(crate) fn cancel<B: Bell<W>, L: Ledger>(
+        &mut self,
+        t: Ticket,
+        bell: &mut B,
+        lookups: &mut Lookups<L>,
+    ) {
+        if self.remove(t, lookups) == Some(true) {
+            self.tell_one(bell, lookups);
+        }
+    }
+
+    /// Whether the ticket's entry is told, or nothing where it isn't in the list. One look-up.
+    pub(crate) fn is_told<L: Ledger>(&self, t: &Ticket, lookups: &mut Lookups<L>) -> Option<bool> {
+        self.entries.is_told(t.key, lookups)
+    }
+
+    /// Whether somebody is untold.
+    #[inline(always)]
+    pub(crate) fn has_untold(&self) -> bool {
+        self.ends.cursor.is_some()
+    }
+
+    /// How many wait.
+    pub(crate) fn len(&self) -> usize {
+        self.len
+    }
+
+    /// How many are told.
+    pub(crate) fn told(&self) -> usize {
+        self.told
+    }
+
+    /// The key of the first entry, where somebody is told.
+    pub(crate) fn first_told(&self) -> Option<usize> {
+        if self.told == 0 {
+            return None;
+        }
+        self.ends.first
+    }
+}
