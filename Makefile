@@ -1,10 +1,11 @@
 # `make run` and `make test` do everything on a fresh machine.
 
-.PHONY: help run test check bench
+.PHONY: help run test rust check bench
 
 help:
 	@echo 'make run    proves and builds the channel, and runs trysend, and chanrun on examples/tour.chan'
-	@echo 'make test   the gate: every proof from nothing, must-fail edits, tests and programs'
+	@echo 'make test   the gate: every proof from nothing, must-fail edits, tests and programs; make rust'
+	@echo 'make rust   builds and tests the Rust crate, and compares it with the proved chanrun'
 	@echo 'make check  every crate, lowest first, over what earlier checks kept'
 	@echo 'make bench  measures the waiting list and the handles'
 
@@ -14,6 +15,10 @@ run:
 
 test:
 	rt ci
+	$(MAKE) --no-print-directory rust
+
+rust:
+	tools/rust_gate
 
 check:
 	rt all check
