@@ -58,10 +58,7 @@ fn force_send_displaces_the_oldest() {
     assert_eq!(s.try_send(2), Ok(()));
     assert_eq!(s.force_send(3), Ok(None));
     assert_eq!(s.force_send(4), Ok(Some(1)));
-    assert_eq!(
-        [r.try_recv(), r.try_recv(), r.try_recv()],
-        [Ok(2), Ok(3), Ok(4)]
-    );
+    assert_eq!([r.try_recv(), r.try_recv(), r.try_recv()], [Ok(2), Ok(3), Ok(4)]);
     drop(r);
     assert_eq!(s.force_send(5), Err(SendError(5)));
 }
@@ -100,10 +97,7 @@ fn closed_comes_before_full() {
     assert!(s.close());
     assert_eq!(s.try_send(2), Err(TrySendError::Closed(2)));
     assert_eq!(s.force_send(3), Err(SendError(3)));
-    assert_eq!(
-        [r.try_recv(), r.try_recv()],
-        [Ok(1), Err(TryRecvError::Closed)]
-    );
+    assert_eq!([r.try_recv(), r.try_recv()], [Ok(1), Err(TryRecvError::Closed)]);
 }
 
 #[test]
@@ -184,10 +178,7 @@ fn blocking_calls_that_can_go_on_answer_at_once() {
     assert_eq!(s.send_blocking(2), Ok(()));
     s.close();
     assert_eq!(s.send_blocking(3), Err(SendError(3)));
-    assert_eq!(
-        [r.recv_blocking(), r.recv_blocking()],
-        [Ok(2), Err(RecvError)]
-    );
+    assert_eq!([r.recv_blocking(), r.recv_blocking()], [Ok(2), Err(RecvError)]);
 }
 
 #[test]
@@ -225,12 +216,7 @@ fn messages_go_to_one_receiver_each() {
     for message in 0..4 {
         assert_eq!(s.try_send(message), Ok(()));
     }
-    let taken = [
-        r.try_recv(),
-        second.try_recv(),
-        second.try_recv(),
-        r.try_recv(),
-    ];
+    let taken = [r.try_recv(), second.try_recv(), second.try_recv(), r.try_recv()];
     assert_eq!(taken, [Ok(0), Ok(1), Ok(2), Ok(3)]);
 }
 
@@ -297,9 +283,6 @@ fn a_leaked_future_keeps_the_channel() {
     let mut send = support::Task::new(s.send(2));
     assert!(send.poll().is_pending());
     std::mem::forget(send);
-    assert_eq!(
-        [r.try_recv(), r.try_recv()],
-        [Ok(1), Err(TryRecvError::Empty)]
-    );
+    assert_eq!([r.try_recv(), r.try_recv()], [Ok(1), Err(TryRecvError::Empty)]);
     assert_eq!((s.try_send(3), r.try_recv()), (Ok(()), Ok(3)));
 }

@@ -17,10 +17,8 @@ const THREADS: usize = 4;
 
 /// Runs `future` on tokio's executor, and then again on smol's.
 fn on_both<F: Future<Output = ()>>(make: impl Fn(Spawn) -> F) {
-    let tokio = tokio::runtime::Builder::new_multi_thread()
-        .worker_threads(THREADS)
-        .build()
-        .unwrap();
+    let tokio =
+        tokio::runtime::Builder::new_multi_thread().worker_threads(THREADS).build().unwrap();
     tokio.block_on(make(Spawn::Tokio));
     let smol: &'static Executor<'static> = Box::leak(Box::new(Executor::new()));
     let (stop, stopped) = unbounded::<()>();
@@ -181,9 +179,6 @@ fn closed_operations_end_with_the_last_receiver() {
         let tasks: Vec<_> = (0..SIDE).map(|_| spawn.task(wait(s.clone()))).collect();
         yield_now().await;
         drop((r.clone(), r));
-        assert_eq!(
-            (sum(tasks).await, s.send(1).await),
-            (SIDE, Err(SendError(1)))
-        );
+        assert_eq!((sum(tasks).await, s.send(1).await), (SIDE, Err(SendError(1))));
     });
 }

@@ -19,15 +19,10 @@ fn wait<F: std::future::Future>(operation: F, name: usize, log: &Log) -> std::pi
 #[test]
 fn receives_go_on_one_by_one_in_order() {
     let ((s, r), log) = (unbounded(), Log::default());
-    let mut waiting: Vec<_> = (0..WAITERS)
-        .map(|name| wait(r.recv(), name, &log))
-        .collect();
+    let mut waiting: Vec<_> = (0..WAITERS).map(|name| wait(r.recv(), name, &log)).collect();
     for (name, receive) in waiting.iter_mut().enumerate() {
         assert_eq!((s.try_send(name), log.take()), (Ok(()), vec![name]));
-        assert_eq!(
-            support::poll_with(receive, &log.waker(name)),
-            Ready(Ok(name))
-        );
+        assert_eq!(support::poll_with(receive, &log.waker(name)), Ready(Ok(name)));
     }
     assert!(log.take().is_empty());
 }
@@ -36,9 +31,7 @@ fn receives_go_on_one_by_one_in_order() {
 fn sends_go_on_one_by_one_in_order() {
     let ((s, r), log) = (bounded(1), Log::default());
     assert_eq!(s.try_send(0), Ok(()));
-    let mut waiting: Vec<_> = (0..WAITERS)
-        .map(|name| wait(s.send(name), name, &log))
-        .collect();
+    let mut waiting: Vec<_> = (0..WAITERS).map(|name| wait(s.send(name), name, &log)).collect();
     for (name, send) in waiting.iter_mut().enumerate() {
         assert_eq!((r.try_recv().is_ok(), log.take()), (true, vec![name]));
         assert_eq!(support::poll_with(send, &log.waker(name)), Ready(Ok(())));
@@ -64,9 +57,7 @@ fn cancelled_in_any_order() {
 #[test]
 fn a_notice_is_handed_on_through_all_of_them() {
     let ((s, r), log) = (unbounded(), Log::default());
-    let waiting: Vec<_> = (0..WAITERS)
-        .map(|name| wait(r.recv(), name, &log))
-        .collect();
+    let waiting: Vec<_> = (0..WAITERS).map(|name| wait(r.recv(), name, &log)).collect();
     assert_eq!(s.try_send(7), Ok(()));
     drop(waiting);
     assert!(log.take().into_iter().eq(0..WAITERS));
@@ -76,21 +67,15 @@ fn a_notice_is_handed_on_through_all_of_them() {
 #[test]
 fn closing_wakes_all_in_order() {
     let ((s, r), log) = (bounded(1), Log::default());
-    let receives: Vec<_> = (0..WAITERS)
-        .map(|name| wait(r.recv(), name, &log))
-        .collect();
+    let receives: Vec<_> = (0..WAITERS).map(|name| wait(r.recv(), name, &log)).collect();
     assert!(s.close());
     assert!(log.take().into_iter().eq(0..WAITERS));
-    assert!(receives
-        .into_iter()
-        .all(|receive: std::pin::Pin<Box<Recv<'_, usize>>>| {
-            futures_lite::future::block_on(receive) == Err(RecvError)
-        }));
+    assert!(receives.into_iter().all(|receive: std::pin::Pin<Box<Recv<'_, usize>>>| {
+        futures_lite::future::block_on(receive) == Err(RecvError)
+    }));
     let ((s, r), log) = (bounded(1), Log::default());
     assert_eq!(s.try_send(0), Ok(()));
-    let sends: Vec<_> = (0..WAITERS)
-        .map(|name| wait(s.send(name), name, &log))
-        .collect();
+    let sends: Vec<_> = (0..WAITERS).map(|name| wait(s.send(name), name, &log)).collect();
     drop(r);
     assert!(log.take().into_iter().eq(0..WAITERS));
     for (name, send) in sends.into_iter().enumerate() {

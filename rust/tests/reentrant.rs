@@ -21,11 +21,7 @@ impl Caller {
     fn waker(sender: &Sender<usize>, receiver: &Receiver<usize>) -> (Waker, Arc<AtomicUsize>) {
         let (sender, receiver) = (sender.clone(), receiver.clone());
         let calls = Arc::new(AtomicUsize::new(0));
-        let caller = Caller {
-            sender,
-            receiver,
-            calls: calls.clone(),
-        };
+        let caller = Caller { sender, receiver, calls: calls.clone() };
         (Waker::from(Arc::new(caller)), calls)
     }
 
@@ -56,10 +52,7 @@ fn a_waker_may_call_the_channel_when_it_is_woken() {
     assert!(support::poll_with(&mut receive, &waker).is_pending());
     drop(waker);
     assert_eq!((s.try_send(1), calls.load(Ordering::SeqCst)), (Ok(()), 2));
-    assert_eq!(
-        [r.try_recv(), r.try_recv(), r.try_recv()],
-        [Ok(1), Ok(9), Ok(9)]
-    );
+    assert_eq!([r.try_recv(), r.try_recv(), r.try_recv()], [Ok(1), Ok(9), Ok(9)]);
 }
 
 #[test]

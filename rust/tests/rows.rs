@@ -63,9 +63,7 @@ fn a_told_poll_in_vain_loses_its_place() {
 fn a_stream_told_in_vain() {
     let (s, r) = unbounded();
     let mut receives: Vec<_> = (0..3).map(|_| Task::new(r.recv())).collect();
-    assert!(receives
-        .iter_mut()
-        .all(|receive| receive.poll().is_pending()));
+    assert!(receives.iter_mut().all(|receive| receive.poll().is_pending()));
     let mut other = Box::pin(r.clone());
     let mut stream = Task::new(other.next());
     assert!(stream.poll().is_pending());
@@ -112,10 +110,7 @@ fn every_receive_goes_on_when_the_last_sender_goes() {
     assert_eq!(s.try_send(1), Ok(()));
     drop(s);
     assert_eq!((first.woken(), second.woken()), (1, 1));
-    assert_eq!(
-        (second.poll(), first.poll()),
-        (Ready(Ok(1)), Ready(Err(RecvError)))
-    );
+    assert_eq!((second.poll(), first.poll()), (Ready(Ok(1)), Ready(Err(RecvError))));
 }
 
 #[test]

@@ -21,20 +21,11 @@ fn errors() {
     let closed = "sending into a closed channel";
     let ended = "receiving from an empty and closed channel";
     assert_eq!(texts(SendError(Silent)), both(closed, "SendError(..)"));
-    assert_eq!(
-        texts(TrySendError::Closed(Silent)),
-        both(closed, "Closed(..)")
-    );
-    assert_eq!(
-        texts(TrySendError::Full(Silent)),
-        both("sending into a full channel", "Full(..)")
-    );
+    assert_eq!(texts(TrySendError::Closed(Silent)), both(closed, "Closed(..)"));
+    assert_eq!(texts(TrySendError::Full(Silent)), both("sending into a full channel", "Full(..)"));
     assert_eq!(texts(RecvError), both(ended, "RecvError"));
     assert_eq!(texts(TryRecvError::Closed), both(ended, "Closed"));
-    assert_eq!(
-        texts(TryRecvError::Empty),
-        both("receiving from an empty channel", "Empty")
-    );
+    assert_eq!(texts(TryRecvError::Empty), both("receiving from an empty channel", "Empty"));
 }
 
 #[test]

@@ -242,10 +242,7 @@ fn cancelled_sends_leave_no_message() {
         while r.recv_blocking().is_ok() {
             taken += 1;
         }
-        assert_eq!(
-            (taken, sent.load(Ordering::Relaxed)),
-            (SIDE * EACH, SIDE * EACH)
-        );
+        assert_eq!((taken, sent.load(Ordering::Relaxed)), (SIDE * EACH, SIDE * EACH));
     });
 }
 
@@ -281,10 +278,7 @@ fn handles_are_made_and_given_up_everywhere() {
             });
         }
     });
-    assert_eq!(
-        (s.sender_count(), s.receiver_count(), s.is_closed()),
-        (1, 1, false)
-    );
+    assert_eq!((s.sender_count(), s.receiver_count(), s.is_closed()), (1, 1, false));
 }
 
 #[test]

@@ -183,15 +183,7 @@ impl World {
         let last = sender.receiver_count() == 0;
         self.expect(|judge| {
             let first = if closes { judge.closed() } else { Vec::new() };
-            [
-                first,
-                if last {
-                    judge.closeds.tell_all()
-                } else {
-                    Vec::new()
-                },
-            ]
-            .concat()
+            [first, if last { judge.closeds.tell_all() } else { Vec::new() }].concat()
         });
     }
 
@@ -201,10 +193,7 @@ impl World {
             0..=2 => {
                 let sender = self.sender()?;
                 Operation::Send(Box::pin(async move {
-                    sender
-                        .send(0)
-                        .await
-                        .map_or(Came::Ended, |()| Came::Accepted)
+                    sender.send(0).await.map_or(Came::Ended, |()| Came::Accepted)
                 }))
             }
             3..=5 => {
@@ -273,23 +262,11 @@ impl World {
             Operation::Stream(stream) => self.give_up_receiver(|| drop(stream)),
             Operation::Send(send) => {
                 drop(send);
-                self.expect(|judge| {
-                    if was_told {
-                        judge.sends.tell_one()
-                    } else {
-                        Vec::new()
-                    }
-                });
+                self.expect(|judge| if was_told { judge.sends.tell_one() } else { Vec::new() });
             }
             Operation::Receive(receive) => {
                 drop(receive);
-                self.expect(|judge| {
-                    if was_told {
-                        judge.receives.tell_one()
-                    } else {
-                        Vec::new()
-                    }
-                });
+                self.expect(|judge| if was_told { judge.receives.tell_one() } else { Vec::new() });
             }
             Operation::Closed(closed) => {
                 drop(closed);
@@ -326,16 +303,9 @@ impl World {
     }
 
     fn told(&self) -> Vec<usize> {
-        let Judge {
-            sends,
-            receives,
-            streams,
-            closeds,
-        } = &self.judge;
+        let Judge { sends, receives, streams, closeds } = &self.judge;
         let lists = [sends, receives, streams, closeds].into_iter();
-        lists
-            .flat_map(|list| list.names[..list.told].to_vec())
-            .collect()
+        lists.flat_map(|list| list.names[..list.told].to_vec()).collect()
     }
 }
 

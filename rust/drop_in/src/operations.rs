@@ -28,10 +28,7 @@ struct Task<F> {
 
 impl<F: Future> Task<F> {
     fn new(future: F) -> Task<F> {
-        Task {
-            future: Box::pin(future),
-            count: Arc::default(),
-        }
+        Task { future: Box::pin(future), count: Arc::default() }
     }
 
     fn poll(&mut self) -> Poll<F::Output> {
@@ -54,28 +51,13 @@ pub fn futures() {
     let (s, r) = bounded(1);
     let send: Send<'_, u8> = s.send(1);
     let mut second = Task::new(s.send(2));
-    println!(
-        "send: {:?} {:?} {}",
-        block_on(send),
-        second.poll(),
-        second.woken()
-    );
-    println!(
-        "recv: {:?} {} {:?}",
-        block_on(r.recv()),
-        second.woken(),
-        second.poll()
-    );
+    println!("send: {:?} {:?} {}", block_on(send), second.poll(), second.woken());
+    println!("recv: {:?} {} {:?}", block_on(r.recv()), second.woken(), second.poll());
     let recv: Recv<'_, u8> = r.recv();
     println!("recv: {:?}", block_on(recv));
     let (mut first, mut other) = (Task::new(r.recv()), Task::new(r.recv()));
     println!("recv: {:?} {:?}", first.poll(), other.poll());
-    println!(
-        "try_send: {:?} {} {}",
-        s.try_send(3),
-        first.woken(),
-        other.woken()
-    );
+    println!("try_send: {:?} {} {}", s.try_send(3), first.woken(), other.woken());
     println!("recv: {:?} {:?}", first.poll(), other.poll());
     println!("close: {} {}", s.close(), other.woken());
     println!("recv: {:?} {:?}", other.poll(), block_on(r.recv()));
@@ -111,10 +93,7 @@ pub fn blocking() {
     println!("blocking: {sent:?} {:?}", received.join().unwrap());
     let (s, r): (Sender<u8>, Receiver<u8>) = bounded(1);
     drop(r);
-    println!(
-        "send_blocking: {:?}",
-        s.send_blocking(9).map_err(|error| error.0)
-    );
+    println!("send_blocking: {:?}", s.send_blocking(9).map_err(|error| error.0));
     let (s, r): (Sender<u8>, Receiver<u8>) = unbounded();
     drop(s);
     println!("recv_blocking: {}", r.recv_blocking() == Err(RecvError));
@@ -125,27 +104,12 @@ pub fn cancelled() {
     println!("try_send: {:?}", s.try_send(1));
     let (mut first, mut second) = (Task::new(s.send(2)), Task::new(s.send(3)));
     println!("send: {:?} {:?}", first.poll(), second.poll());
-    println!(
-        "try_recv: {:?} {} {}",
-        r.try_recv(),
-        first.woken(),
-        second.woken()
-    );
+    println!("try_recv: {:?} {} {}", r.try_recv(), first.woken(), second.woken());
     drop(first);
-    println!(
-        "cancelled: {} {:?} {:?}",
-        second.woken(),
-        second.poll(),
-        r.try_recv()
-    );
+    println!("cancelled: {} {:?} {:?}", second.woken(), second.poll(), r.try_recv());
     let (mut first, mut second) = (Task::new(r.recv()), Task::new(r.recv()));
     println!("recv: {:?} {:?}", first.poll(), second.poll());
-    println!(
-        "try_send: {:?} {} {}",
-        s.try_send(4),
-        first.woken(),
-        second.woken()
-    );
+    println!("try_send: {:?} {} {}", s.try_send(4), first.woken(), second.woken());
     drop(first);
     println!("cancelled: {} {:?}", second.woken(), second.poll());
 }
@@ -156,12 +120,7 @@ pub fn texts() {
     println!("{s:#?} {r:#?} {:#?} {:#?}", s.downgrade(), r.downgrade());
     let operations = (s.send(1), r.recv(), s.closed());
     let written = format!("{operations:?}");
-    println!(
-        "{}",
-        ["Send", "Recv", "Closed"]
-            .iter()
-            .all(|name| written.contains(name))
-    );
+    println!("{}", ["Send", "Recv", "Closed"].iter().all(|name| written.contains(name)));
 }
 
 /// Where the rules differ from the original: `closed` waits for the last receiver's end, as its
@@ -169,27 +128,14 @@ pub fn texts() {
 pub fn by_rule() {
     let (s, r) = bounded::<u8>(1);
     let mut closed = Task::new(s.closed());
-    println!(
-        "by rule: {:?} {} {}",
-        closed.poll(),
-        r.close(),
-        closed.woken()
-    );
+    println!("by rule: {:?} {} {}", closed.poll(), r.close(), closed.woken());
     println!("by rule: {:?}", closed.poll());
     drop(r);
-    println!(
-        "by rule: {:?} {}",
-        Task::new(s.closed()).poll(),
-        closed.woken()
-    );
+    println!("by rule: {:?} {}", Task::new(s.closed()).poll(), closed.woken());
     let (s, r) = unbounded();
     let (mut told, mut waits) = (Box::pin(r.clone()), Box::pin(r.clone()));
     let (first, second) = (Arc::new(Count::default()), Arc::new(Count::default()));
-    println!(
-        "by rule: {:?} {:?}",
-        next(&mut told, &first),
-        next(&mut waits, &second)
-    );
+    println!("by rule: {:?} {:?}", next(&mut told, &first), next(&mut waits, &second));
     println!("by rule: {:?} {:?}", s.try_send(1), r.try_recv());
     println!("by rule: {:?}", next(&mut waits, &second));
     drop(told);

@@ -21,11 +21,7 @@ impl Waiting {
 
     /// A poll of `name` that can't go on.
     pub fn wait(&mut self, name: usize) {
-        let untold = self
-            .names
-            .iter()
-            .skip(self.told)
-            .any(|&other| other == name);
+        let untold = self.names.iter().skip(self.told).any(|&other| other == name);
         if !untold {
             self.remove(name);
             self.names.push(name);

@@ -46,34 +46,20 @@ fn measure(works: &[Work], rounds: usize) -> BTreeMap<(&'static str, &'static st
             }
         }
     }
-    times
-        .into_iter()
-        .map(|(key, times)| (key, median(times)))
-        .collect()
+    times.into_iter().map(|(key, times)| (key, median(times))).collect()
 }
 
 fn print_table(works: &[Work], medians: &BTreeMap<(&str, &str), f64>) {
     let others = ["flume", "crossbeam-channel", "tokio"];
-    println!(
-        "| Work | {BASE} {} | {HERE} | ratio | goal |",
-        version(BASE)
-    );
+    println!("| Work | {BASE} {} | {HERE} | ratio | goal |", version(BASE));
     println!("|---|---|---|---|---|");
     for work in works {
         let (base, here) = (medians[&(work.name, BASE)], medians[&(work.name, HERE)]);
         let goal = work.goal.map_or("".to_owned(), |goal| format!("{goal:.2}"));
         let ratio = here / base;
-        println!(
-            "| {} | {base:.0} ns | {here:.0} ns | {ratio:.2} | {goal} |",
-            work.name
-        );
+        println!("| {} | {base:.0} ns | {here:.0} ns | {ratio:.2} | {goal} |", work.name);
     }
-    println!(
-        "\n| Work | {} |",
-        others
-            .map(|peer| format!("{peer} {}", version(peer)))
-            .join(" | ")
-    );
+    println!("\n| Work | {} |", others.map(|peer| format!("{peer} {}", version(peer))).join(" | "));
     println!("|---|---|---|---|");
     for work in works {
         let base = medians[&(work.name, BASE)];
@@ -91,10 +77,7 @@ fn main() {
     if rounds.is_some() {
         words.remove(0);
     }
-    let mut works = [works::all(), threads::all()]
-        .into_iter()
-        .flatten()
-        .collect::<Vec<_>>();
+    let mut works = [works::all(), threads::all()].into_iter().flatten().collect::<Vec<_>>();
     if !words.is_empty() {
         works.retain(|work| words.iter().any(|word| work.name.contains(word.as_str())));
     }

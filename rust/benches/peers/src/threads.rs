@@ -54,11 +54,8 @@ fn single<P: Peer>(capacity: Option<usize>, count: u64) -> f64 {
     let (tx, mut rx) = P::make(capacity);
     let ready = &Barrier::new(2);
     thread::scope(|scope| {
-        let sending = scope.spawn(move || {
-            timed(ready, || {
-                (0..count).for_each(|message| P::send(&tx, message))
-            })
-        });
+        let sending = scope
+            .spawn(move || timed(ready, || (0..count).for_each(|message| P::send(&tx, message))));
         let received = timed(ready, || {
             (0..count).for_each(|message| assert!(P::recv(&mut rx) == message));
         });
@@ -81,15 +78,10 @@ fn many<P: Many>(capacity: Option<usize>, count: u64) -> f64 {
                 }),
             );
             threads.push(scope.spawn(move || {
-                timed(ready, || {
-                    receives.for_each(|_| assert!(P::recv(&mut rx) < count))
-                })
+                timed(ready, || receives.for_each(|_| assert!(P::recv(&mut rx) < count)))
             }));
         }
-        let spans: Vec<_> = threads
-            .into_iter()
-            .map(|thread| thread.join().unwrap())
-            .collect();
+        let spans: Vec<_> = threads.into_iter().map(|thread| thread.join().unwrap()).collect();
         over_all(&spans, count)
     })
 }
