@@ -4,7 +4,7 @@
 
 help:
 	@echo 'make run    proves and builds the channel, and runs trysend, and chanrun on examples/tour.chan'
-	@echo 'make test   the gate: every proof from nothing, must-fail edits, tests and programs; make rust'
+	@echo 'make test   the gate: proofs from nothing, must-fail edits, tests and programs; make rust'
 	@echo 'make rust   builds and tests the Rust crate, and compares it with the proved chanrun'
 	@echo 'make check  every crate, lowest first, over what earlier checks kept'
 	@echo 'make bench  measures the waiting list and the handles'
