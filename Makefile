@@ -1,10 +1,11 @@
 # `make run` and `make test` do everything on a fresh machine.
 
-.PHONY: help run test check bench
+.PHONY: help run test rust check bench
 
 help:
 	@echo 'make run    proves and builds the channel, and runs trysend, and chanrun on examples/tour.chan'
-	@echo 'make test   the gate: every proof from nothing, must-fail edits, tests and programs'
+	@echo 'make test   the gate: proofs from nothing, must-fail edits, tests and programs; make rust'
+	@echo 'make rust   builds and tests the Rust crate, and compares it with the proved chanrun'
 	@echo 'make check  every crate, lowest first, over what earlier checks kept'
 	@echo 'make bench  measures the waiting list, the handles and the parallel map'
 
@@ -15,6 +16,10 @@ run:
 test:
 	rt ci
 	python3 tools/chanrun_runs.py
+	$(MAKE) --no-print-directory rust
+
+rust:
+	tools/rust_gate
 
 check:
 	rt all check

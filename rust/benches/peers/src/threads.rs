@@ -1,0 +1,148 @@
+//! Works of many threads.
+
+use std::sync::Barrier;
+use std::thread;
+use std::time::Instant;
+
+use crate::peers::{Async, AsyncChannel, Crossbeam, Flume, Here, Many, Peer, Tokio};
+use crate::works::{each, work};
+use crate::Work;
+
+/// Threads, or tasks, on a side.
+const SIDE: u64 = 4;
+
+pub fn all() -> Vec<Work> {
+    vec![
+        work!("spsc threads, bounded(1)", None, single(Some(1), 20_000):
+            AsyncChannel Here Flume Crossbeam Tokio),
+        work!("spsc threads, bounded(128)", Some(1.2), single(Some(128), 200_000):
+            AsyncChannel Here Flume Crossbeam Tokio),
+        work!("spsc threads, unbounded", None, single(None, 200_000):
+            AsyncChannel Here Flume Crossbeam Tokio),
+        work!("mpmc 4x4 threads, bounded(1)", None, many(Some(1), 20_000):
+            AsyncChannel Here Flume Crossbeam),
+        work!("mpmc 4x4 threads, bounded(128)", Some(1.2), many(Some(128), 100_000):
+            AsyncChannel Here Flume Crossbeam),
+        work!("mpmc 4x4 threads, unbounded", None, many(None, 100_000):
+            AsyncChannel Here Flume Crossbeam),
+        work!("spsc tasks on tokio, bounded(128)", None, single_task(Some(128)):
+            AsyncChannel Here Flume Tokio),
+        work!("mpmc 4x4 tasks on tokio, bounded(128)", None, many_tasks(Some(128)):
+            AsyncChannel Here Flume),
+    ]
+}
+
+/// When a thread began, and when it was done.
+type Span = (Instant, Instant);
+
+/// Runs `work` once all threads are ready.
+fn timed(ready: &Barrier, work: impl FnOnce()) -> Span {
+    ready.wait();
+    let start = Instant::now();
+    work();
+    (start, Instant::now())
+}
+
+/// Nanoseconds for each of `count`, from the first thread's start to the last one's end.
+fn over_all(spans: &[Span], count: u64) -> f64 {
+    let start = spans.iter().map(|span| span.0).min().unwrap();
+    let end = spans.iter().map(|span| span.1).max().unwrap();
+    (end - start).as_nanos() as f64 / count as f64
+}
+
+fn single<P: Peer>(capacity: Option<usize>, count: u64) -> f64 {
+    let (tx, mut rx) = P::make(capacity);
+    let ready = &Barrier::new(2);
+    thread::scope(|scope| {
+        let sending = scope
+            .spawn(move || timed(ready, || (0..count).for_each(|message| P::send(&tx, message))));
+        let received = timed(ready, || {
+            (0..count).for_each(|message| assert!(P::recv(&mut rx) == message));
+        });
+        over_all(&[received, sending.join().unwrap()], count)
+    })
+}
+
+fn many<P: Many>(capacity: Option<usize>, count: u64) -> f64 {
+    let (tx, rx) = P::make(capacity);
+    let ready = &Barrier::new(2 * SIDE as usize);
+    let each_thread = 0..count / SIDE;
+    thread::scope(|scope| {
+        let mut threads = Vec::new();
+        for _ in 0..SIDE {
+            let (tx, mut rx) = (P::clone_tx(&tx), P::clone_rx(&rx));
+            let (sends, receives) = (each_thread.clone(), each_thread.clone());
+            threads.push(
+                scope.spawn(move || {
+                    timed(ready, || sends.for_each(|message| P::send(&tx, message)))
+                }),
+            );
+            threads.push(scope.spawn(move || {
+                timed(ready, || receives.for_each(|_| assert!(P::recv(&mut rx) < count)))
+            }));
+        }
+        let spans: Vec<_> = threads.into_iter().map(|thread| thread.join().unwrap()).collect();
+        over_all(&spans, count)
+    })
+}
+
+const TASKS: u64 = 100_000;
+
+fn runtime() -> tokio::runtime::Runtime {
+    let mut builder = tokio::runtime::Builder::new_multi_thread();
+    builder.worker_threads(4).build().unwrap()
+}
+
+async fn send_all<P: Async>(tx: P::Tx, count: u64)
+where
+    P::Tx: Sync,
+{
+    for message in 0..count {
+        P::send_async(&tx, message).await;
+    }
+}
+
+async fn receive_all<P: Async>(mut rx: P::Rx) -> u64 {
+    let mut taken = 0;
+    while P::recv_async(&mut rx).await.is_some() {
+        taken += 1;
+    }
+    taken
+}
+
+fn single_task<P: Async>(capacity: Option<usize>) -> f64
+where
+    P::Tx: Sync,
+{
+    let (runtime, (tx, rx)) = (runtime(), P::make(capacity));
+    let start = Instant::now();
+    let taken = runtime.block_on(async {
+        tokio::spawn(send_all::<P>(tx, TASKS));
+        tokio::spawn(receive_all::<P>(rx)).await
+    });
+    assert!(taken.unwrap() == TASKS);
+    each(start, TASKS)
+}
+
+fn many_tasks<P: Async + Many>(capacity: Option<usize>) -> f64
+where
+    P::Tx: Sync,
+{
+    let (runtime, (tx, rx)) = (runtime(), P::make(capacity));
+    let start = Instant::now();
+    let taken = runtime.block_on(async {
+        for _ in 0..SIDE {
+            tokio::spawn(send_all::<P>(P::clone_tx(&tx), TASKS / SIDE));
+        }
+        drop(tx);
+        let receive = |_| tokio::spawn(receive_all::<P>(P::clone_rx(&rx)));
+        let tasks: Vec<_> = (0..SIDE).map(receive).collect();
+        let mut taken = 0;
+        for task in tasks {
+            taken += task.await.unwrap();
+        }
+        taken
+    });
+    assert!(taken == TASKS);
+    each(start, TASKS)
+}

@@ -1,0 +1,157 @@
+//! Works of one thread.
+
+use std::future::Future;
+use std::hint::black_box;
+use std::pin::{pin, Pin};
+use std::sync::Arc;
+use std::task::{Context, Wake, Waker};
+use std::time::Instant;
+
+use futures_lite::future::{block_on, zip};
+
+use crate::peers::{Async, AsyncChannel, Crossbeam, Flume, Here, Many, Peer, Tokio};
+use crate::Work;
+
+/// A work and its run on each of the peers named.
+macro_rules! work {
+    ($name:literal, $goal:expr, $run:ident $arguments:tt: $($peer:ident)+) => {
+        Work {
+            name: $name,
+            goal: $goal,
+            runs: vec![$(($peer::NAME, || $run::<$peer> $arguments)),+],
+        }
+    };
+}
+pub(crate) use work;
+
+pub fn all() -> Vec<Work> {
+    vec![
+        work!("pair, bounded(1)", Some(0.95), pair(Some(1)):
+            AsyncChannel Here Flume Crossbeam Tokio),
+        work!("pair, bounded(1024)", Some(0.95), pair(Some(1024)):
+            AsyncChannel Here Flume Crossbeam Tokio),
+        work!("pair, unbounded", Some(0.95), pair(None):
+            AsyncChannel Here Flume Crossbeam Tokio),
+        work!("fill and drain, bounded(100000)", None, fill_and_drain(Some(100_000)):
+            AsyncChannel Here Flume Crossbeam Tokio),
+        work!("fill and drain 100000, unbounded", None, fill_and_drain(None):
+            AsyncChannel Here Flume Crossbeam Tokio),
+        work!("ready futures, bounded(16)", Some(1.0), ready_futures():
+            AsyncChannel Here Flume Tokio),
+        work!("a receive that waits", Some(0.7), waiting_receive():
+            AsyncChannel Here Flume Tokio),
+        work!("clone and drop a sender", Some(1.2), clone_and_drop():
+            AsyncChannel Here Flume Crossbeam Tokio),
+        work!("len", None, len(): AsyncChannel Here Flume Crossbeam),
+        work!("a million through two tasks, bounded(128)", Some(1.0), two_tasks(Some(128)):
+            AsyncChannel Here Flume Tokio),
+        work!("a million through two tasks, unbounded", Some(1.0), two_tasks(None):
+            AsyncChannel Here Flume Tokio),
+    ]
+}
+
+/// Nanoseconds for each of `count` since `start`.
+pub fn each(start: Instant, count: u64) -> f64 {
+    start.elapsed().as_nanos() as f64 / count as f64
+}
+
+const SHORT: u64 = 200_000;
+
+fn pair<P: Peer>(capacity: Option<usize>) -> f64 {
+    let (tx, mut rx) = P::make(capacity);
+    let start = Instant::now();
+    for message in 0..SHORT {
+        assert!(P::try_send(&tx, black_box(message)));
+        assert!(black_box(P::try_recv(&mut rx)).is_some());
+    }
+    each(start, SHORT)
+}
+
+fn fill_and_drain<P: Peer>(capacity: Option<usize>) -> f64 {
+    const HELD: u64 = 100_000;
+    let (tx, mut rx) = P::make(capacity);
+    let start = Instant::now();
+    for message in 0..HELD {
+        assert!(P::try_send(&tx, black_box(message)));
+    }
+    for message in 0..HELD {
+        assert!(black_box(P::try_recv(&mut rx)) == Some(message));
+    }
+    each(start, HELD)
+}
+
+fn ready_futures<P: Async>() -> f64 {
+    let (tx, mut rx) = P::make(Some(16));
+    let start = Instant::now();
+    block_on(async {
+        for message in 0..SHORT {
+            P::send_async(&tx, black_box(message)).await;
+            assert!(black_box(P::recv_async(&mut rx).await).is_some());
+        }
+    });
+    each(start, SHORT)
+}
+
+struct Nobody;
+
+impl Wake for Nobody {
+    fn wake(self: Arc<Self>) {}
+}
+
+/// One poll of a future that is new each time.
+fn poll<F: Future>(future: Pin<&mut F>, waker: &Waker) -> bool {
+    future.poll(&mut Context::from_waker(waker)).is_ready()
+}
+
+fn waiting_receive<P: Async>() -> f64 {
+    let (tx, mut rx) = P::make(Some(16));
+    let waker = Waker::from(Arc::new(Nobody));
+    let start = Instant::now();
+    for message in 0..SHORT {
+        let mut receive = pin!(P::recv_async(&mut rx));
+        assert!(!poll(receive.as_mut(), &waker));
+        assert!(P::try_send(&tx, black_box(message)));
+        assert!(poll(receive, &waker));
+    }
+    each(start, SHORT)
+}
+
+fn clone_and_drop<P: Peer>() -> f64 {
+    let (tx, _rx) = P::make(Some(16));
+    let start = Instant::now();
+    for _ in 0..SHORT {
+        drop(black_box(P::clone_tx(&tx)));
+    }
+    each(start, SHORT)
+}
+
+fn len<P: Many>() -> f64 {
+    let (tx, rx) = P::make(Some(16));
+    assert!(P::try_send(&tx, 1));
+    let start = Instant::now();
+    for _ in 0..SHORT {
+        assert!(black_box(P::len(black_box(&rx))) == 1);
+    }
+    each(start, SHORT)
+}
+
+fn two_tasks<P: Async>(capacity: Option<usize>) -> f64 {
+    const COUNT: u64 = 1_000_000;
+    let (tx, mut rx) = P::make(capacity);
+    let start = Instant::now();
+    let send = async {
+        let tx = tx;
+        for message in 0..COUNT {
+            P::send_async(&tx, black_box(message)).await;
+        }
+    };
+    let receive = async {
+        let mut taken = 0;
+        while P::recv_async(&mut rx).await.is_some() {
+            taken += 1;
+        }
+        taken
+    };
+    assert!(block_on(zip(send, receive)).1 == COUNT);
+    each(start, COUNT)
+}

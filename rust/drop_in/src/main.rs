@@ -1,0 +1,26 @@
+//! Uses every public item of `async-channel` and prints what each answers.
+//!
+//! `original.txt` is what it printed over async-channel 2.5.0. Over any drop-in it prints the same,
+//! but for the last section: lines that begin with `by rule` tell what this project's rules decide
+//! otherwise than the original does, and `by_rule.txt` has those lines.
+
+mod calls;
+mod operations;
+
+#[cfg(test)]
+#[path = "../../tests/traits/mod.rs"]
+mod traits;
+
+fn main() {
+    calls::channels();
+    calls::senders();
+    calls::receivers();
+    calls::weak_handles();
+    calls::errors();
+    operations::futures();
+    operations::streams();
+    operations::blocking();
+    operations::cancelled();
+    operations::texts();
+    operations::by_rule();
+}

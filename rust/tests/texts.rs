@@ -1,0 +1,72 @@
+//! The texts of errors and handles, and what errors tell of themselves.
+
+use std::error::Error;
+
+use vamorilesh::{bounded, RecvError, SendError, TryRecvError, TrySendError};
+
+/// A message without any text.
+#[derive(Clone, Copy, PartialEq)]
+struct Silent;
+
+fn texts(error: impl Error) -> (String, String) {
+    (error.to_string(), format!("{error:?}"))
+}
+
+fn both(display: &str, debug: &str) -> (String, String) {
+    (display.to_owned(), debug.to_owned())
+}
+
+#[test]
+fn errors() {
+    let closed = "sending into a closed channel";
+    let ended = "receiving from an empty and closed channel";
+    assert_eq!(texts(SendError(Silent)), both(closed, "SendError(..)"));
+    assert_eq!(texts(TrySendError::Closed(Silent)), both(closed, "Closed(..)"));
+    assert_eq!(texts(TrySendError::Full(Silent)), both("sending into a full channel", "Full(..)"));
+    assert_eq!(texts(RecvError), both(ended, "RecvError"));
+    assert_eq!(texts(TryRecvError::Closed), both(ended, "Closed"));
+    assert_eq!(texts(TryRecvError::Empty), both("receiving from an empty channel", "Empty"));
+}
+
+#[test]
+fn texts_are_the_same_whatever_the_format_asks_for() {
+    assert_eq!(format!("{:#?}", SendError(1)), "SendError(..)");
+    assert_eq!(format!("{:>20?}", TrySendError::Full(1)), "Full(..)");
+    assert_eq!(format!("{:#?}", bounded::<Silent>(1).0), "Sender { .. }");
+}
+
+#[test]
+fn handles() {
+    let (s, r) = bounded::<Silent>(1);
+    assert_eq!(format!("{s:?}"), "Sender { .. }");
+    assert_eq!(format!("{r:?}"), "Receiver { .. }");
+    assert_eq!(format!("{:?}", s.downgrade()), "WeakSender { .. }");
+    assert_eq!(format!("{:?}", r.downgrade()), "WeakReceiver { .. }");
+}
+
+#[test]
+fn cases_of_errors() {
+    let (full, closed) = (TrySendError::Full(1), TrySendError::Closed(2));
+    assert_eq!((full.is_full(), full.is_closed()), (true, false));
+    assert_eq!((closed.is_full(), closed.is_closed()), (false, true));
+    let (empty, ended) = (TryRecvError::Empty, TryRecvError::Closed);
+    assert_eq!((empty.is_empty(), empty.is_closed()), (true, false));
+    assert_eq!((ended.is_empty(), ended.is_closed()), (false, true));
+}
+
+#[test]
+fn messages_come_out_of_errors() {
+    assert_eq!(SendError(7).into_inner(), 7);
+    assert_eq!(SendError(7).0, 7);
+    assert_eq!(TrySendError::Full(7).into_inner(), 7);
+    assert_eq!(TrySendError::Closed(7).into_inner(), 7);
+}
+
+#[test]
+fn errors_are_equal_by_case_and_message() {
+    assert!(SendError(1) == SendError(1) && SendError(1) != SendError(2));
+    assert!(TrySendError::Full(1) == TrySendError::Full(1));
+    assert!(TrySendError::Full(1) != TrySendError::Closed(1));
+    assert!(TrySendError::Closed(1) != TrySendError::Closed(2));
+    assert!(TryRecvError::Empty != TryRecvError::Closed);
+}
