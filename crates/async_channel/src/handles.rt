@@ -63,7 +63,11 @@ impl<T: Drop, R: Wait + Clone + Drop> Model for Receiver<T, R> {
 
     ghost Value = { ReceiverView };
 
-    ghost view = { λ handle. record { tag = handle.tag; source = (arc_value handle.link.shared).source.id; ticket = handle.ticket } };
+    ghost view = { λ handle. record {
+      tag = handle.tag;
+      source = (arc_value handle.link.shared).source.id;
+      ticket = handle.ticket;
+    } };
 }
 
 /// Creates a bounded channel, which holds at most `cap` messages at a time.
@@ -330,7 +334,11 @@ impl<T: Drop, R: Wait + Clone + Drop> fmt::Debug for Sender<T, R> {
 impl<T: Drop, R: Wait + Clone + Drop> Receiver<T, R> {
     // One without a stream's wait.
     pub(crate) fn new(tag: Tag, link: Link<T, R>) -> Receiver<T, R>
-        ensures { result ≡ record { tag = tag; source = (arc_value link.shared).source.id; ticket = None } }
+        ensures { result ≡ record {
+          tag = tag;
+          source = (arc_value link.shared).source.id;
+          ticket = None;
+        } }
     {
         Receiver {
             tag,

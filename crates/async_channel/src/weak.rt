@@ -110,7 +110,8 @@ impl<T: Drop, R: Wait + Clone + Drop> WeakReceiver<T, R> {
     /// It is refused where memory was refused or, on an open channel, there are more than `usize::MAX / 2`
     /// receivers.
     pub fn upgrade(&self) -> Result<Option<Receiver<T, R>>, CloneError>
-        ensures { IfOk result (λ upgraded. IfSome upgraded (λ receiver. receiver ≡ receiver_at self.now)) }
+        ensures { IfOk result
+            (λ upgraded. IfSome upgraded (λ receiver. receiver ≡ receiver_at self.now)) }
     {
         let Ok(link) = self.link.try_clone() else {
             return Err(CloneError::OutOfMemory);
