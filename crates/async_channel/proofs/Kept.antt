@@ -17,13 +17,15 @@ use Rattle.channel_model.specs.Messages.{accepted_by, held_messages, oldest_mess
 use Rattle.channel_model.specs.Capacity.{capacity_of, HasPositiveCapacity, is_full}
 use Rattle.channel_core.specs.Queue as queue
 use Rattle.channel_model.specs.Closing.{has_none, is_close, is_closed}
-use Rattle.channel_model.specs.Replies.{due_reply, force_send_reply, try_recv_reply, try_send_reply}
+use Rattle.channel_model.specs.Operations.{live_operations}
+use Rattle.channel_model.specs.Replies.{due_reply}
+use Rattle.channel_model.proofs.ReplyForms.{force_send_reply, try_recv_reply, try_send_reply}
 use Rattle.channel_model.specs.Refusals.{refusal_of}
 use Rattle.channel_model.specs.Legal.{IsAllowed}
 use Rattle.channel_model.specs.Tables.{force_send_answer, try_recv_answer, try_send_answer}
 use Rattle.channel_core.specs.Channel.{Channel, closing, forcing, is_channel_full, new_channel, oldest, sending, taking}
 use Rattle.channel_model.proofs.Conserved.{count_of}
-use Rattle.channel_core.proofs.HeldMessages.{held_messages-after}
+use Rattle.channel_model.proofs.HeldMessages.{held_messages-after}
 use Rattle.async_channel.specs.declared.record.calls.Call.{Call}
 use Rattle.async_channel.specs.declared.record.calls.Call.TheVariants.{TrySend, ForceSend, TryRecv, Close, IsClosed, Len}
 use Rattle.async_channel.specs.declared.record.calls.Outcome.{Outcome}
@@ -68,19 +70,19 @@ one_receiver (entry ∷ entries) = receivers-call (map pair_of entries) entry.0 
     ∙ one_receiver entries
 
 -- so no call is refused
-known : {T : Type 0} (past : Past T) (call : Call T) → live_senders past ≡ 0 ∷ [] → live_receivers past ≡ 0 ∷ []
-    → refusal_of past (step_of_call call) ≡ None
-known past (TrySend message) senders receivers =
+known : {T : Type 0} (kind : Kind) (past : Past T) (call : Call T) → live_senders past ≡ 0 ∷ [] → live_receivers past ≡ 0 ∷ []
+    → refusal_of kind past (step_of_call call) ≡ None
+known kind past (TrySend message) senders receivers =
     ap (λ names. cond (not (list_any (λ other. other == 0) names)) (Some Unknown) None) senders
-known past (ForceSend message) senders receivers =
+known kind past (ForceSend message) senders receivers =
     ap (λ names. cond (not (list_any (λ other. other == 0) names)) (Some Unknown) None) senders
-known past TryRecv senders receivers = ap
+known kind past TryRecv senders receivers = ap
     (λ names. cond (not (list_any (λ other. other == 0) names)) (Some Unknown) None) receivers
-known past Close senders receivers = ap (λ names. cond (not (list_any (λ other. other == 0) names)) (Some Unknown) None)
+known kind past Close senders receivers = ap (λ names. cond (not (list_any (λ other. other == 0) names)) (Some Unknown) None)
     senders
-known past IsClosed senders receivers = ap
+known kind past IsClosed senders receivers = ap
     (λ names. cond (not (list_any (λ other. other == 0) names)) (Some Unknown) None) senders
-known past Len senders receivers = ap (λ names. cond (not (list_any (λ other. other == 0) names)) (Some Unknown) None)
+known kind past Len senders receivers = ap (λ names. cond (not (list_any (λ other. other == 0) names)) (Some Unknown) None)
     senders
 
 -- ---- what a call leaves
@@ -144,12 +146,12 @@ module _ {T W : Type 0} (channel : Channel T W) where
   -- what is left: the accepted message stands last, and the first is gone if one was taken
   same_messages : (past : Past T) (call : Call T) → (after_call call channel).messages
       ≡ drop (count_of (taken_by (reply_of_outcome (outcome_at channel call))))
-      (with_last channel.messages (accepted_by past (step_of_call call) (reply_of_outcome (outcome_at channel call))))
+      (with_last channel.messages (accepted_by (live_operations past) (step_of_call call) (reply_of_outcome (outcome_at channel call))))
   same_messages past (TrySend message) = go channel.closed (is_channel_full channel)
     where
       go : (closed full : Bool) → (sending closed full message channel).channel.messages
           ≡ drop (count_of (taken_by (TrySent (try_send_answer closed full message))))
-          (with_last channel.messages (accepted_by past (TrySend 0 message)
+          (with_last channel.messages (accepted_by (live_operations past) (TrySend 0 message)
           (TrySent (try_send_answer closed full message))))
       go true full = refl
       go false true = refl
@@ -159,7 +161,7 @@ module _ {T W : Type 0} (channel : Channel T W) where
       go : (closed full : Bool) (messages : List T) → channel.messages ≡ messages
           → (forcing closed full message channel).channel.messages
           ≡ drop (count_of (taken_by (Forced (force_send_answer closed full (oldest channel) message))))
-          (with_last channel.messages (accepted_by past (ForceSend 0 message)
+          (with_last channel.messages (accepted_by (live_operations past) (ForceSend 0 message)
           (Forced (force_send_answer closed full (oldest channel) message))))
       go true full messages e = refl
       go false true [] e = rw e refl
@@ -170,7 +172,7 @@ module _ {T W : Type 0} (channel : Channel T W) where
       go : (messages : List T) (closed : Bool) → channel.messages ≡ messages
           → (taking messages channel).channel.messages
           ≡ drop (count_of (taken_by (Received (try_recv_answer (slice_get messages 0) closed))))
-          (with_last channel.messages (accepted_by past (TryRecv 0)
+          (with_last channel.messages (accepted_by (live_operations past) (TryRecv 0)
           (Received (try_recv_answer (slice_get messages 0) closed))))
       go [] true e = refl
       go [] false e = refl
@@ -225,14 +227,15 @@ open_still true senders receivers one other = refl
 open_still false senders receivers one other = rw (one, other) refl
 
 -- a step of which nobody is refused
-not_refused : {T : Type 0} (past : Past T) (call : Call T) → refusal_of past (step_of_call call) ≡ None
-    → IsAllowed (step_of_call call) (refusal_of past (step_of_call call))
-not_refused past (TrySend message) none = none
-not_refused past (ForceSend message) none = none
-not_refused past TryRecv none = none
-not_refused past Close none = none
-not_refused past IsClosed none = none
-not_refused past Len none = none
+not_refused : {T : Type 0} (kind : Kind) (past : Past T) (call : Call T)
+    → refusal_of kind past (step_of_call call) ≡ None
+    → IsAllowed (step_of_call call) (refusal_of kind past (step_of_call call))
+not_refused kind past (TrySend message) none = none
+not_refused kind past (ForceSend message) none = none
+not_refused kind past TryRecv none = none
+not_refused kind past Close none = none
+not_refused kind past IsClosed none = none
+not_refused kind past Len none = none
 
 -- A history that is longer by a call with what the channel answered is kept by what the call leaves.
 pub kept_more : {T W : Type 0} (kind : Kind) (history : List (Call T × Outcome T)) (channel after : Channel T W)
@@ -241,14 +244,14 @@ pub kept_more : {T W : Type 0} (kind : Kind) (history : List (Call T × Outcome 
     → IsKept kind (past_of (history ++ (call, outcome) ∷ [])) after
 kept_more {T} {W} kind history channel after call outcome is answered left =
     subst (λ (longer : Past T). IsKept kind longer after) (sym (past_of-push history (call, outcome))) (rw left record {
-      legal = (is.legal, due_then, not_refused past call none);
+      legal = (is.legal, due_then, not_refused kind past call none);
       capacity = same_capacity channel call ∙ is.capacity;
       messages =
           same_messages channel past call
           ∙ ap (λ (reply : Reply T). drop (count_of (taken_by reply))
-          (with_last channel.messages (accepted_by past step reply))) (sym replied)
+          (with_last channel.messages (accepted_by (live_operations past) step reply))) (sym replied)
           ∙ ap (λ (messages : List T). drop (count_of (taken_by reply))
-          (with_last messages (accepted_by past step reply))) is.messages
+          (with_last messages (accepted_by (live_operations past) step reply))) is.messages
           ∙ sym (held_messages-after kind past step reply is.legal);
       closed =
           same_closed channel call
@@ -273,8 +276,8 @@ kept_more {T} {W} kind history channel after call outcome is answered left =
     receivers : live_receivers past ≡ 0 ∷ []
     receivers = one_receiver (reverse history)
 
-    none : refusal_of past step ≡ None
-    none = known past call senders receivers
+    none : refusal_of kind past step ≡ None
+    none = known kind past call senders receivers
 
     replied : reply ≡ reply_of_outcome (outcome_at channel call)
     replied = ap (λ (o : Outcome T). reply_of_outcome o) answered

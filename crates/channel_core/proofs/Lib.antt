@@ -1,3 +1,2 @@
 pub mod Rings
 mod Forced
-pub mod HeldMessages

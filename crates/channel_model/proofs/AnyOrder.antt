@@ -13,12 +13,12 @@ use Rattle.channel_model.specs.declared.step.Reply.TheVariants.{SendPolled, Recv
 use Rattle.event_list.specs.Keys.{is_among}
 use Rattle.channel_model.specs.Past.{Past}
 use Rattle.channel_model.specs.Handles.{live_receivers, live_senders}
-use Rattle.channel_model.specs.Operations.{Operation, awaiting_close, is_awaiting, is_finished_send, is_receive, is_unsent, operation_of, receiving, sending}
+use Rattle.channel_model.specs.Operations.{Operation, awaiting_close, is_awaiting, is_finished_send, is_receive, is_unsent, operation_of, receiving, sending, live_operations}
 use Rattle.channel_model.specs.Messages.{accepted_by, oldest_message, received_by}
 use Rattle.channel_model.specs.Capacity.{is_full}
 use Rattle.channel_model.specs.Closing.{has_no_receiver, is_close, is_closed}
 use Rattle.channel_model.specs.Tables.{send_error}
-use Rattle.channel_model.specs.Replies.{due_reply, poll_closed_reply, poll_next_reply, poll_recv_reply, poll_reply, poll_send_reply}
+use Rattle.channel_model.specs.Replies.{due_reply, poll_reply}
 use Rattle.channel_model.specs.Refusals.{is_borrowed, refusal_of}
 use Rattle.channel_model.specs.Rosters.{AreSound, IsSound, Roster, Rosters, is_told, leave, told_names, wait}
 use Rattle.channel_model.specs.Notices.{after_accepting, after_closing, after_last_receiver, after_own_move, after_receiving, rosters}
@@ -26,6 +26,8 @@ use Rattle.channel_model.specs.Legal.{IsAllowed, IsLegal}
 use Rattle.channel_model.specs.Covered.{IsCovered}
 use Rattle.channel_model.specs.Standing.{standing_of}
 use Rattle.channel_model.specs.Polling.{EndsWell, IsFreePolling, IsSettling, most_polls, told_in, told_polls, waiting_in}
+use Rattle.channel_model.specs.View.{view_of}
+use Rattle.channel_model.proofs.ReplyForms.{poll_closed_reply, poll_next_reply, poll_recv_reply, poll_send_reply}
 use Rattle.channel_model.proofs.NameLists.{is_among-take}
 use Rattle.channel_model.proofs.RosterLemmas.{Left, told_left, untold_left, nobody_left, left}
 use Rattle.channel_model.proofs.Measure.{rosters-AreSound, pairs, measure, measure-ready, wait-told}
@@ -64,7 +66,7 @@ told-waiting all sound =
 
 -- whoever is polled has left
 ready-falls : {T : Type 0} (past : Past T) (step : Step T) (reply : Reply T)
-    → waiting_in (rosters past) ≡ suc (waiting_in (after_own_move past step reply (rosters past)))
+    → waiting_in (rosters past) ≡ suc (waiting_in (after_own_move (live_operations past) step reply (rosters past)))
     → 0 < told_in (rosters past)
     → measure (rosters ((step, reply) ∷ past)) < measure (rosters past)
 ready-falls past step reply fewer some =
@@ -72,14 +74,14 @@ ready-falls past step reply fewer some =
     (fewer ∙ ap suc (sym
     (waiting-last_receiver (has_no_receiver past) (has_no_receiver ((step, reply) ∷ past))
     (after_closing (is_closed past) (is_closed ((step, reply) ∷ past))
-    (after_receiving (received_by reply) (after_accepting (accepted_by past step reply)
-    (after_own_move past step reply (rosters past)))))
+    (after_receiving (received_by reply) (after_accepting (accepted_by (live_operations past) step reply)
+    (after_own_move (live_operations past) step reply (rosters past)))))
     ∙ waiting-closing (is_closed past) (is_closed ((step, reply) ∷ past))
-    (after_receiving (received_by reply) (after_accepting (accepted_by past step reply)
-    (after_own_move past step reply (rosters past))))
-    ∙ waiting-receiving (received_by reply) (after_accepting (accepted_by past step reply)
-    (after_own_move past step reply (rosters past)))
-    ∙ waiting-accepting (accepted_by past step reply) (after_own_move past step reply (rosters past)))))
+    (after_receiving (received_by reply) (after_accepting (accepted_by (live_operations past) step reply)
+    (after_own_move (live_operations past) step reply (rosters past))))
+    ∙ waiting-receiving (received_by reply) (after_accepting (accepted_by (live_operations past) step reply)
+    (after_own_move (live_operations past) step reply (rosters past)))
+    ∙ waiting-accepting (accepted_by (live_operations past) step reply) (after_own_move (live_operations past) step reply (rosters past)))))
     (told-waiting (rosters ((step, reply) ∷ past)) (rosters-AreSound ((step, reply) ∷ past)))
     some
 
@@ -102,8 +104,8 @@ in_vain : {T : Type 0} (kind : Kind) (past : Past T) (step : Step T) (reply : Re
     → IsCovered (standing_of kind past) → is_close step ≡ false
     → live_senders ((step, reply) ∷ past) ≡ live_senders past
     → live_receivers ((step, reply) ∷ past) ≡ live_receivers past
-    → after_receiving (received_by reply) (after_accepting (accepted_by past step reply)
-    (after_own_move past step reply (rosters past))) ≡ own
+    → after_receiving (received_by reply) (after_accepting (accepted_by (live_operations past) step reply)
+    (after_own_move (live_operations past) step reply (rosters past))) ≡ own
     → measure own < measure (rosters past) → measure (rosters ((step, reply) ∷ past)) < measure (rosters past)
 in_vain kind past step reply own covered open_still same_senders same_receivers moved less =
     subst (λ (all : Rosters). measure all < measure (rosters past))
@@ -310,14 +312,14 @@ known_if None (inl e) = cc
 known_if None (inr (inl e)) = cc
 known_if None (inr (inr e)) = cc
 
-poll-allowed : {T : Type 0} (past : Past T) (op : ℕ) → is_some (operation_of past op) ≡ true
-    → IsAllowed {T = T} (Poll op) (refusal_of past (Poll op))
-poll-allowed past op known = ap (λ known. cond (not known) (Some Unknown) None) known
+poll-allowed : {T : Type 0} (kind : Kind) (past : Past T) (op : ℕ) → is_some (operation_of past op) ≡ true
+    → IsAllowed {T = T} (Poll op) (refusal_of kind past (Poll op))
+poll-allowed kind past op known = ap (λ known. cond (not known) (Some Unknown) None) known
 
-poll_next-allowed : {T : Type 0} (past : Past T) (receiver : ℕ) → is_among receiver (live_receivers past) ≡ true
-    → IsAllowed {T = T} (PollNext receiver) (refusal_of past (PollNext receiver))
-poll_next-allowed past receiver known = go (is_among receiver (live_receivers past)) known
-    (is_borrowed past (PollNext receiver))
+poll_next-allowed : {T : Type 0} (kind : Kind) (past : Past T) (receiver : ℕ) → is_among receiver (live_receivers past) ≡ true
+    → IsAllowed {T = T} (PollNext receiver) (refusal_of kind past (PollNext receiver))
+poll_next-allowed kind past receiver known = go (is_among receiver (live_receivers past)) known
+    (is_borrowed (view_of kind past) (PollNext receiver))
   where
     go : (known : Bool) → known ≡ true → (borrowed : Bool)
         → (cond (not known) (Some Unknown) (cond borrowed (Some Borrowed) None) ≡ None)
@@ -327,22 +329,22 @@ poll_next-allowed past receiver known = go (is_among receiver (live_receivers pa
     go false e borrowed = cc
 
 pub told-allowed : {T : Type 0} (kind : Kind) (past : Past T) (step : Step T) → IsLegal kind past
-    → PollsTold (rosters past) step → IsAllowed step (refusal_of past step)
+    → PollsTold (rosters past) step → IsAllowed step (refusal_of kind past step)
 told-allowed {T} kind past step legal (a_receive op e told) =
-    subst (λ (s : Step T). IsAllowed s (refusal_of past s)) (sym e)
-    (poll-allowed past op (known_if (operation_of past op)
+    subst (λ (s : Step T). IsAllowed s (refusal_of kind past s)) (sym e)
+    (poll-allowed kind past op (known_if (operation_of past op)
     (inr (inl ((AreLive-IsLegal kind past legal).receives op (told_among op (rosters past).receives told))))))
 told-allowed {T} kind past step legal (a_stream receiver e told) =
-    subst (λ (s : Step T). IsAllowed s (refusal_of past s)) (sym e)
-    (poll_next-allowed past receiver ((AreLive-IsLegal kind past legal).streams receiver
+    subst (λ (s : Step T). IsAllowed s (refusal_of kind past s)) (sym e)
+    (poll_next-allowed kind past receiver ((AreLive-IsLegal kind past legal).streams receiver
     (told_among receiver (rosters past).streams told)))
 told-allowed {T} kind past step legal (a_send op e told) =
-    subst (λ (s : Step T). IsAllowed s (refusal_of past s)) (sym e)
-    (poll-allowed past op (known_if (operation_of past op)
+    subst (λ (s : Step T). IsAllowed s (refusal_of kind past s)) (sym e)
+    (poll-allowed kind past op (known_if (operation_of past op)
     (inl ((AreLive-IsLegal kind past legal).sends op (told_among op (rosters past).sends told)))))
 told-allowed {T} kind past step legal (a_closed op e told) =
-    subst (λ (s : Step T). IsAllowed s (refusal_of past s)) (sym e)
-    (poll-allowed past op (known_if (operation_of past op)
+    subst (λ (s : Step T). IsAllowed s (refusal_of kind past s)) (sym e)
+    (poll-allowed kind past op (known_if (operation_of past op)
     (inr (inr ((AreLive-IsLegal kind past legal).closeds op (told_among op (rosters past).closeds told))))))
 
 -- ---- a whole free polling

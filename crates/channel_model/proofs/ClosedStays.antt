@@ -12,13 +12,14 @@ use Rattle.channel_model.specs.declared.step.Reply.{Reply}
 use Rattle.channel_model.specs.declared.errors.TryRecvError.TheVariants.{Closed}
 use Rattle.channel_model.specs.declared.step.Reply.TheVariants.{Received, RecvPolled, NextPolled}
 use Rattle.channel_model.specs.Past.{Past}
-use Rattle.channel_model.specs.Operations.{Operation, sending, receiving, awaiting_close, operation_of, message_of, unsent_message}
+use Rattle.channel_model.specs.Operations.{Operation, sending, receiving, awaiting_close, operation_of, message_of, unsent_message, live_operations}
 use Rattle.channel_model.specs.Messages.{with_last, accepted_by, taken_by, accepted_messages, taken_messages, held_messages, oldest_message}
 use Rattle.channel_model.specs.Capacity.{is_full}
 use Rattle.channel_model.specs.Closing.{is_closed, has_no_receiver}
-use Rattle.channel_model.specs.Replies.{due_reply, try_send_reply, force_send_reply, try_recv_reply, poll_send_reply, poll_recv_reply, poll_next_reply, poll_closed_reply, poll_reply}
+use Rattle.channel_model.specs.Replies.{due_reply, poll_reply}
 use Rattle.channel_model.specs.Legal.{IsLegal}
 use Rattle.channel_model.specs.Laws.{StaysClosed, taken_since, GivesWhatIsLeft, ComesBack, sent_by, given_back}
+use Rattle.channel_model.proofs.ReplyForms.{try_send_reply, force_send_reply, try_recv_reply, poll_send_reply, poll_recv_reply, poll_next_reply, poll_closed_reply}
 use Rattle.channel_model.proofs.Conserved.{accepted_messages-IsLegal}
 
 -- ---- nothing is accepted any more
@@ -34,24 +35,24 @@ is_closed-later past (pair ∷ later) closed =
 
 -- what a send's reply on a closed channel accepts
 poll_send-none : {T : Type 0} (past : Past T) (op : ℕ) (message : Option T) (closed full : Bool) → closed ≡ true
-    → accepted_by past (Poll op) (poll_send_reply message closed full) ≡ None
+    → accepted_by (live_operations past) (Poll op) (poll_send_reply message closed full) ≡ None
 poll_send-none past op None closed full c = refl
 poll_send-none past op (Some message) true full c = refl
 poll_send-none past op (Some message) false full c = cc
 
 poll_recv-none : {T : Type 0} (past : Past T) (op : ℕ) (oldest : Option T) (closed : Bool)
-    → accepted_by past (Poll op) (poll_recv_reply oldest closed) ≡ None
+    → accepted_by (live_operations past) (Poll op) (poll_recv_reply oldest closed) ≡ None
 poll_recv-none past op (Some message) closed = refl
 poll_recv-none past op None true = refl
 poll_recv-none past op None false = refl
 
 poll_closed-none : {T : Type 0} (past : Past T) (op : ℕ) (no_receiver : Bool)
-    → accepted_by {T = T} past (Poll op) (poll_closed_reply no_receiver) ≡ None
+    → accepted_by {T = T} (live_operations past) (Poll op) (poll_closed_reply no_receiver) ≡ None
 poll_closed-none past op true = refl
 poll_closed-none past op false = refl
 
 poll-none : {T : Type 0} (past : Past T) (op : ℕ) (operation : Option (Operation T)) (closed no_receiver full : Bool)
-    (oldest : Option T) → closed ≡ true → accepted_by past (Poll op)
+    (oldest : Option T) → closed ≡ true → accepted_by (live_operations past) (Poll op)
     (poll_reply operation closed no_receiver full oldest) ≡ None
 poll-none past op (Some (sending sender message)) closed no_receiver full oldest c =
     poll_send-none past op message closed full c
@@ -60,12 +61,12 @@ poll-none past op (Some (awaiting_close sender)) closed no_receiver full oldest 
 poll-none past op None closed no_receiver full oldest c = refl
 
 pub accepted_by-closed : {T : Type 0} (kind : Kind) (past : Past T) (step : Step T) → is_closed past ≡ true
-    → accepted_by past step (due_reply kind past step) ≡ None
+    → accepted_by (live_operations past) step (due_reply kind past step) ≡ None
 accepted_by-closed {T} kind past (TrySend sender message) c =
-    ap (λ (closed : Bool). accepted_by past (TrySend sender message)
+    ap (λ (closed : Bool). accepted_by (live_operations past) (TrySend sender message)
     (try_send_reply closed (is_full kind past) message)) c
 accepted_by-closed {T} kind past (ForceSend sender message) c =
-    ap (λ (closed : Bool). accepted_by past (ForceSend sender message)
+    ap (λ (closed : Bool). accepted_by (live_operations past) (ForceSend sender message)
     (force_send_reply closed (is_full kind past) (oldest_message past) message)) c
 accepted_by-closed kind past (Poll op) c =
     poll-none past op (operation_of past op) (is_closed past) (has_no_receiver past) (is_full kind past)
@@ -77,7 +78,7 @@ pub accepted_messages-closed : {T : Type 0} (kind : Kind) (past later : Past T) 
 accepted_messages-closed kind past [] legal closed = refl
 accepted_messages-closed {T} kind past ((step, reply) ∷ later) legal closed =
     ap (λ (found : Option T). with_last (accepted_messages (later ++ past)) found)
-    (ap (λ (r : Reply T). accepted_by (later ++ past) step r) legal.1
+    (ap (λ (r : Reply T). accepted_by (live_operations (later ++ past)) step r) legal.1
     ∙ accepted_by-closed kind (later ++ past) step (is_closed-later past later closed))
     ∙ accepted_messages-closed kind past later legal.0 closed
 
@@ -166,7 +167,7 @@ GivesWhatIsLeft-closed {T} kind past closed = record {
 
 -- a reply that gives the message back took nothing and put nothing in
 Refuses : {T : Type 0} → Past T → Step T → Reply T → T → Type 0
-Refuses past step reply message = (sent_by past step ≡ Some message) × (accepted_by past step reply ≡ None)
+Refuses past step reply message = (sent_by past step ≡ Some message) × (accepted_by (live_operations past) step reply ≡ None)
     × (taken_by reply ≡ None)
 
 try_send-refuses : {T : Type 0} (past : Past T) (sender : ℕ) (sent : T) (closed full : Bool) (message : T)

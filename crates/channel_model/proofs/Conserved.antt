@@ -7,12 +7,13 @@ use Rattle.channel_model.specs.declared.step.Step.{Step}
 use Rattle.channel_model.specs.declared.step.Step.TheVariants.{TrySend, ForceSend, TryRecv, Poll, PollNext}
 use Rattle.channel_model.specs.declared.step.Reply.{Reply}
 use Rattle.channel_model.specs.Past.{Past}
-use Rattle.channel_model.specs.Operations.{Operation, awaiting_close, operation_of, receiving, sending}
+use Rattle.channel_model.specs.Operations.{Operation, awaiting_close, operation_of, receiving, sending, live_operations}
 use Rattle.channel_model.specs.Messages.{accepted_by, accepted_messages, held_messages, oldest_message, taken_by, taken_messages, with_last}
 use Rattle.channel_model.specs.Capacity.{is_full}
 use Rattle.channel_model.specs.Closing.{has_no_receiver, is_closed}
-use Rattle.channel_model.specs.Replies.{due_reply, force_send_reply, poll_closed_reply, poll_next_reply, poll_recv_reply, poll_reply, poll_send_reply, try_recv_reply, try_send_reply}
+use Rattle.channel_model.specs.Replies.{due_reply, poll_reply}
 use Rattle.channel_model.specs.Legal.{IsLegal}
+use Rattle.channel_model.proofs.ReplyForms.{force_send_reply, poll_closed_reply, poll_next_reply, poll_recv_reply, poll_send_reply, try_recv_reply, try_send_reply}
 
 module _ {T : Type 0} where
   -- a reply takes nothing, or the oldest message
@@ -111,11 +112,11 @@ unfolding TakesOldest
 accepted_messages-IsLegal kind [] legal = refl
 accepted_messages-IsLegal kind ((step, reply) ∷ past) legal =
     let takes : TakesOldest reply (oldest_message past) = rw legal.1 (due_reply-takes kind past step) in
-    let more = Conserved-step (taken_messages past) (held_messages past) (accepted_by past step reply)
+    let more = Conserved-step (taken_messages past) (held_messages past) (accepted_by (live_operations past) step reply)
     (taken_by reply) takes in
-    held_rest (with_last (accepted_messages past) (accepted_by past step reply))
+    held_rest (with_last (accepted_messages past) (accepted_by (live_operations past) step reply))
     (with_last (taken_messages past) (taken_by reply)) more.0
-    (ap (λ all. with_last all (accepted_by past step reply)) (accepted_messages-IsLegal kind past legal.0) ∙ more.1)
+    (ap (λ all. with_last all (accepted_by (live_operations past) step reply)) (accepted_messages-IsLegal kind past legal.0) ∙ more.1)
 
 abbrev pub count_of : {T : Type 0} → Option T → ℕ
 count_of None = 0

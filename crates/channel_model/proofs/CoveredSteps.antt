@@ -12,16 +12,17 @@ use Rattle.channel_model.specs.declared.step.Refusal.TheVariants.{Unknown}
 use Rattle.channel_model.specs.declared.step.Reply.TheVariants.{SendPolled, Done, Refused}
 use Rattle.channel_model.specs.Past.{Past}
 use Rattle.channel_model.specs.Handles.{live_receivers, live_senders}
-use Rattle.channel_model.specs.Operations.{Operation, awaiting_close, is_finished_send, message_of, operation_of, receiving, sending, unsent_message}
+use Rattle.channel_model.specs.Operations.{Operation, awaiting_close, is_finished_send, message_of, operation_of, receiving, sending, unsent_message, live_operations}
 use Rattle.channel_model.specs.Messages.{accepted_by, accepted_messages, held_messages, oldest_message, received_by, taken_by, taken_messages}
 use Rattle.channel_model.specs.Capacity.{HasPositiveCapacity, capacity_of, is_full}
 use Rattle.channel_model.specs.Closing.{has_no_receiver, has_none, is_close, is_closed}
-use Rattle.channel_model.specs.Replies.{due_reply, force_send_reply, poll_closed_reply, poll_next_reply, poll_recv_reply, poll_reply, poll_send_reply, try_recv_reply, try_send_reply}
+use Rattle.channel_model.specs.Replies.{due_reply, poll_reply}
 use Rattle.channel_model.specs.Rosters.{AreSound, Roster, Rosters, hand_on, leave, tell_all, tell_one, wait, IsSound}
 use Rattle.channel_model.specs.Notices.{after_accepting, after_closing, after_last_receiver, after_own_move, after_receiving, rosters}
 use Rattle.channel_model.specs.Legal.{IsLegal}
 use Rattle.channel_model.specs.Covered.{IsCovered}
 use Rattle.channel_model.specs.Standing.{standing_of}
+use Rattle.channel_model.proofs.ReplyForms.{force_send_reply, poll_closed_reply, poll_next_reply, poll_recv_reply, poll_send_reply, try_recv_reply, try_send_reply}
 use Rattle.std.proofs.lemmas.Bool.{leb-true, leb-false}
 use Rattle.channel_model.proofs.Conserved.{accepted_messages-IsLegal, count_of, length-with_last}
 use Rattle.channel_model.proofs.Measure.{rosters-AreSound}
@@ -31,7 +32,7 @@ use Rattle.channel_model.proofs.Keeping.{HasUntold, Enough, IsAllTold, IsAllTold
 pub length-held_messages : {T : Type 0} (kind : Kind) (past : Past T) (step : Step T) (reply : Reply T)
     → IsLegal kind ((step, reply) ∷ past)
     → length (held_messages ((step, reply) ∷ past)) + count_of (taken_by reply)
-    ≡ length (held_messages past) + count_of (accepted_by past step reply)
+    ≡ length (held_messages past) + count_of (accepted_by (live_operations past) step reply)
 length-held_messages {T} kind past step reply legal =
     let before : length (accepted_messages past) ≡ length (taken_messages past) + length (held_messages past) =
     ap length (accepted_messages-IsLegal kind past legal.0)
@@ -40,7 +41,7 @@ length-held_messages {T} kind past step reply legal =
     ≡ length (taken_messages ((step, reply) ∷ past)) + length (held_messages ((step, reply) ∷ past)) =
     ap length (accepted_messages-IsLegal kind ((step, reply) ∷ past) legal)
     ∙ length-append (taken_messages ((step, reply) ∷ past)) (held_messages ((step, reply) ∷ past)) in
-    let put = length-with_last (accepted_messages past) (accepted_by past step reply) in
+    let put = length-with_last (accepted_messages past) (accepted_by (live_operations past) step reply) in
     let took = length-with_last (taken_messages past) (taken_by reply) in
     omega arith
 
@@ -165,7 +166,7 @@ open-receivers false false false (first ∷ receivers) e = omega arith
 -- the rosters before a closing is told
 abbrev halfway_rosters : {T : Type 0} → Past T → Step T → Reply T → Rosters
 halfway_rosters past step reply = after_receiving (received_by reply)
-    (after_accepting (accepted_by past step reply) (after_own_move past step reply (rosters past)))
+    (after_accepting (accepted_by (live_operations past) step reply) (after_own_move (live_operations past) step reply (rosters past)))
 
 Whole-from_halfway : {T : Type 0} (kind : Kind) (past : Past T) (step : Step T) (reply : Reply T)
     → IsHalfway (capacity_of kind) (length (held_messages ((step, reply) ∷ past))) (is_closed past)
@@ -259,7 +260,7 @@ unmoved kind past held' covered e =
 Halfway : {T : Type 0} → Kind → Past T → Step T → Reply T → Type 0
 Halfway kind past step reply =
     length (held_messages ((step, reply) ∷ past)) + count_of (taken_by reply)
-    ≡ length (held_messages past) + count_of (accepted_by past step reply)
+    ≡ length (held_messages past) + count_of (accepted_by (live_operations past) step reply)
     → IsHalfway (capacity_of kind) (length (held_messages ((step, reply) ∷ past))) (is_closed past)
     (length (live_receivers past)) (halfway_rosters past step reply)
 

@@ -13,11 +13,13 @@ use Rattle.channel_model.specs.Operations.{Operation, awaiting_close, operation_
 use Rattle.channel_model.specs.Messages.{oldest_message}
 use Rattle.channel_model.specs.Capacity.{is_full}
 use Rattle.channel_model.specs.Closing.{has_no_receiver, is_closed}
-use Rattle.channel_model.specs.Replies.{due_reply, force_send_reply, poll_closed_reply, poll_next_reply, poll_recv_reply, poll_reply, poll_send_reply, try_recv_reply, try_send_reply}
+use Rattle.channel_model.specs.Replies.{due_reply, poll_reply}
 use Rattle.channel_model.specs.Refusals.{is_known, refusal_of}
 use Rattle.channel_model.specs.Memory.{may_want_memory}
 use Rattle.channel_model.specs.Answers.{AreAnswers, IsAnswer, message_in, past_after}
 use Rattle.channel_model.specs.Legal.{IsAllowed, IsLegal}
+use Rattle.channel_model.specs.View.{view_of}
+use Rattle.channel_model.proofs.ReplyForms.{force_send_reply, poll_closed_reply, poll_next_reply, poll_recv_reply, poll_send_reply, try_recv_reply, try_send_reply}
 use Rattle.channel_model.proofs.WhoWaits.{allowed}
 
 -- ---- a step that is known stands in the past behind its reply
@@ -87,7 +89,7 @@ poll-longer past step (Some (awaiting_close sender)) closed no_receiver full old
     poll_closed-longer past step no_receiver
 poll-longer past step None closed no_receiver full oldest some = cc
 
-pub due-longer : {T : Type 0} (kind : Kind) (past : Past T) (step : Step T) → is_known past step ≡ true
+pub due-longer : {T : Type 0} (kind : Kind) (past : Past T) (step : Step T) → is_known (view_of kind past) step ≡ true
     → past_after past step (due_reply kind past step) ≡ (step, due_reply kind past step) ∷ past
 unfolding IsLonger
 due-longer kind past (TrySend sender message) known =
@@ -115,18 +117,18 @@ legal_refused {T} kind past step refusal message reply legal refused =
     subst (λ (r : Reply T). IsLegal kind (past_after past step r)) (sym refused) legal
 
 legal_due : {T : Type 0} (kind : Kind) (past : Past T) (step : Step T) (reply : Reply T) → IsLegal kind past
-    → refusal_of past step ≡ None → reply ≡ due_reply kind past step → IsLegal kind (past_after past step reply)
+    → refusal_of kind past step ≡ None → reply ≡ due_reply kind past step → IsLegal kind (past_after past step reply)
 legal_due {T} kind past step reply legal none due =
-    let longer = due-longer kind past step (allowed past step none).known in
+    let longer = due-longer kind past step (allowed (view_of kind past) step none).known in
     subst (λ (r : Reply T). IsLegal kind (past_after past step r)) (sym due)
     (subst (λ (more : Past T). IsLegal kind more) (sym longer)
-    (legal, refl, allowed_if_none step (refusal_of past step) none))
+    (legal, refl, allowed_if_none step (refusal_of kind past step) none))
 
 pub IsLegal-IsAnswer : {T : Type 0} (kind : Kind) (past : Past T) (step : Step T) (reply : Reply T) → IsLegal kind past
     → IsAnswer kind past step reply → IsLegal kind (past_after past step reply)
-IsLegal-IsAnswer {T} kind past step reply legal answer = go (refusal_of past step) refl answer
+IsLegal-IsAnswer {T} kind past step reply legal answer = go (refusal_of kind past step) refl answer
   where
-    go : (found : Option Refusal) → refusal_of past step ≡ found
+    go : (found : Option Refusal) → refusal_of kind past step ≡ found
         → MatchOption found ((reply ≡ due_reply kind past step)
         ⊎ ((may_want_memory kind past step ≡ true) × (reply ≡ Refused OutOfMemory (message_in step))))
         (λ refusal. reply ≡ Refused refusal (message_in step))

@@ -7,10 +7,12 @@ mod RowsNotices
 mod RowsSettling
 mod RowsNames
 mod RowsOriginal
+pub mod ReplyForms
 pub mod Conserved
 pub mod NameLists
 pub mod RosterLemmas
 pub mod Measure
+pub mod HeldMessages
 pub mod Keeping
 pub mod CoveredSteps
 pub mod Unchanged

@@ -1,5 +1,5 @@
 -- The number that each poll of a told one lowers.
-use Rattle.std.proofs.Common.{◌≡◌, ℕ, zero, suc, ◌+◌, ◌<◌, ◌≤◌, [], ◌∷◌, Bool, true, false, cond, length, arith, length-append, Some, None, Option}
+use Rattle.std.proofs.Common.{◌≡◌, ℕ, zero, suc, ◌+◌, ◌<◌, ◌≤◌, [], ◌∷◌, Bool, true, false, cond, length, arith, length-append, Some, None, Option, List}
 use Rattle.futures.specs.declared.task.Poll.TheVariants.{Ready, Pending}
 use Rattle.channel_model.specs.declared.step.Step.{Step}
 use Rattle.channel_model.specs.declared.step.Step.TheVariants.{Poll, PollNext, DropOp, DropReceiver}
@@ -7,7 +7,7 @@ use Rattle.channel_model.specs.declared.step.Reply.{Reply}
 use Rattle.channel_model.specs.declared.step.Reply.TheVariants.{SendPolled, RecvPolled, ClosedPolled, NextPolled}
 use Rattle.event_list.specs.Keys.{is_among}
 use Rattle.channel_model.specs.Past.{Past}
-use Rattle.channel_model.specs.Operations.{is_finished_send, operation_of}
+use Rattle.channel_model.specs.Operations.{is_finished_send, live_operations, Operation, operation_in}
 use Rattle.channel_model.specs.Messages.{accepted_by, received_by}
 use Rattle.channel_model.specs.Closing.{has_no_receiver, is_closed}
 use Rattle.channel_model.specs.Rosters.{AreSound, IsSound, Roster, Rosters, arrive, is_told, leave, nobody, wait}
@@ -15,16 +15,16 @@ use Rattle.channel_model.specs.Notices.{after_accepting, after_closing, after_la
 use Rattle.channel_model.specs.Polling.{told_in, waiting_in}
 use Rattle.channel_model.proofs.RosterLemmas.{Left, told_left, untold_left, nobody_left, left, leave-IsSound, wait-IsSound, tell_one-IsSound, tell_all-IsSound, hand_on-IsSound}
 
-after_own_move-AreSound : {T : Type 0} (past : Past T) (step : Step T) (reply : Reply T) (all : Rosters) → AreSound all
-    → AreSound (after_own_move past step reply all)
-after_own_move-AreSound past (Poll op) (SendPolled (Ready result)) all sound =
+after_own_move-AreSound : {T : Type 0} (operations : List (ℕ × Operation T)) (step : Step T)
+    (reply : Reply T) (all : Rosters) → AreSound all → AreSound (after_own_move operations step reply all)
+after_own_move-AreSound operations (Poll op) (SendPolled (Ready result)) all sound =
     record {
       sends = leave-IsSound op all.sends sound.sends;
       receives = sound.receives;
       streams = sound.streams;
       closeds = sound.closeds;
     }
-after_own_move-AreSound past (Poll op) (SendPolled Pending) all sound = go (is_finished_send (operation_of past op))
+after_own_move-AreSound operations (Poll op) (SendPolled Pending) all sound = go (is_finished_send (operation_in operations op))
   where
     go : (finished : Bool) → AreSound (cond finished all (record all { sends = wait op all.sends }))
     go true = sound
@@ -34,63 +34,63 @@ after_own_move-AreSound past (Poll op) (SendPolled Pending) all sound = go (is_f
       streams = sound.streams;
       closeds = sound.closeds;
     }
-after_own_move-AreSound past (Poll op) (RecvPolled (Ready result)) all sound =
+after_own_move-AreSound operations (Poll op) (RecvPolled (Ready result)) all sound =
     record {
       sends = sound.sends;
       receives = leave-IsSound op all.receives sound.receives;
       streams = sound.streams;
       closeds = sound.closeds;
     }
-after_own_move-AreSound past (Poll op) (RecvPolled Pending) all sound =
+after_own_move-AreSound operations (Poll op) (RecvPolled Pending) all sound =
     record {
       sends = sound.sends;
       receives = wait-IsSound op all.receives sound.receives;
       streams = sound.streams;
       closeds = sound.closeds;
     }
-after_own_move-AreSound past (Poll op) (ClosedPolled (Ready done)) all sound =
+after_own_move-AreSound operations (Poll op) (ClosedPolled (Ready done)) all sound =
     record {
       sends = sound.sends;
       receives = sound.receives;
       streams = sound.streams;
       closeds = leave-IsSound op all.closeds sound.closeds;
     }
-after_own_move-AreSound past (Poll op) (ClosedPolled Pending) all sound =
+after_own_move-AreSound operations (Poll op) (ClosedPolled Pending) all sound =
     record {
       sends = sound.sends;
       receives = sound.receives;
       streams = sound.streams;
       closeds = wait-IsSound op all.closeds sound.closeds;
     }
-after_own_move-AreSound past (PollNext receiver) (NextPolled (Ready item)) all sound =
+after_own_move-AreSound operations (PollNext receiver) (NextPolled (Ready item)) all sound =
     record {
       sends = sound.sends;
       receives = sound.receives;
       streams = leave-IsSound receiver all.streams sound.streams;
       closeds = sound.closeds;
     }
-after_own_move-AreSound past (PollNext receiver) (NextPolled Pending) all sound =
+after_own_move-AreSound operations (PollNext receiver) (NextPolled Pending) all sound =
     record {
       sends = sound.sends;
       receives = sound.receives;
       streams = wait-IsSound receiver all.streams sound.streams;
       closeds = sound.closeds;
     }
-after_own_move-AreSound past (DropOp op) reply all sound =
+after_own_move-AreSound operations (DropOp op) reply all sound =
     record {
       sends = hand_on-IsSound op all.sends sound.sends;
       receives = hand_on-IsSound op all.receives sound.receives;
       streams = sound.streams;
       closeds = leave-IsSound op all.closeds sound.closeds;
     }
-after_own_move-AreSound past (DropReceiver receiver) reply all sound =
+after_own_move-AreSound operations (DropReceiver receiver) reply all sound =
     record {
       sends = sound.sends;
       receives = sound.receives;
       streams = leave-IsSound receiver all.streams sound.streams;
       closeds = sound.closeds;
     }
-after_own_move-AreSound past step reply all sound = sound
+after_own_move-AreSound operations step reply all sound = sound
 
 after_accepting-AreSound : {T : Type 0} (accepted : Option T) (all : Rosters) → AreSound all
     → AreSound (after_accepting accepted all)
@@ -152,8 +152,8 @@ rosters-AreSound ((step, reply) ∷ past) =
     after_last_receiver-AreSound (has_no_receiver past) (has_no_receiver ((step, reply) ∷ past)) _
     (after_closing-AreSound (is_closed past) (is_closed ((step, reply) ∷ past)) _
     (after_receiving-AreSound (received_by reply) _
-    (after_accepting-AreSound (accepted_by past step reply) _
-    (after_own_move-AreSound past step reply (rosters past) (rosters-AreSound past)))))
+    (after_accepting-AreSound (accepted_by (live_operations past) step reply) _
+    (after_own_move-AreSound (live_operations past) step reply (rosters past) (rosters-AreSound past)))))
 
 -- how many pairs so many can form
 abbrev pub pairs : ℕ → ℕ

@@ -3,18 +3,13 @@ use Rattle.std.specs.Prelude.{◌≡◌, ℕ, List, [], ◌∷◌, ◌++◌, Opt
 use Rattle.channel_model.specs.declared.step.Kind.{Kind}
 use Rattle.channel_model.specs.declared.step.Who.{Who}
 use Rattle.channel_model.specs.declared.step.Notice.{Notice}
-use Rattle.channel_model.specs.declared.step.Refusal.{Refusal}
 use Rattle.channel_model.specs.declared.step.Step.{Step}
 use Rattle.channel_model.specs.declared.step.Reply.{Reply}
-use Rattle.channel_model.specs.declared.step.Reply.TheVariants.{Refused}
 use Rattle.channel_model.specs.Past.{Past}
-use Rattle.channel_model.specs.Replies.{due_reply}
-use Rattle.channel_model.specs.Refusals.{refusal_of}
 use Rattle.channel_model.specs.Notices.{notice_of}
-use Rattle.channel_model.specs.Answers.{message_in, past_after}
+use Rattle.channel_model.specs.Answers.{answer_of, past_made}
 use Rattle.channel_model.specs.Legal.{IsLegal}
-use Rattle.channel_model.specs.Polling.{finished_polls}
-use Rattle.channel_model.proofs.Settling.{settling_polls}
+use Rattle.channel_model.specs.Polling.{finished_polls, settling_polls}
 
 -- A line, and what is expected of it: a step and its reply, somebody and the notice, settling with the number of
 -- its polls and those that were ready.
@@ -23,19 +18,11 @@ pub data Line : Type 0 where
   notes : Who → Notice → Line
   settles : ℕ → List (Who × Reply ℕ) → Line
 
--- the refusal, or else the reply that is due: what answers a step where no memory is wanted
-abbrev pub answer_of : Option Refusal → Option ℕ → Reply ℕ → Reply ℕ
-answer_of (Some refusal) message due = Refused refusal message
-answer_of None message due = due
-
-abbrev pub answer : Kind → Past ℕ → Step ℕ → Reply ℕ
-answer kind past step = answer_of (refusal_of past step) (message_in step) (due_reply kind past step)
-
 -- The lines with what the definitions answer to them.
 abbrev pub answered : Kind → Past ℕ → List Line → List Line
 answered kind past [] = []
 answered kind past (does step expected ∷ lines) =
-    does step (answer kind past step) ∷ answered kind (past_after past step (answer kind past step)) lines
+    does step (answer_of kind past step) ∷ answered kind (past_made kind past step) lines
 answered kind past (notes who expected ∷ lines) = notes who (notice_of past who) ∷ answered kind past lines
 answered kind past (settles expected finished ∷ lines) =
     settles (length (settling_polls kind past)) (finished_polls (settling_polls kind past))
@@ -45,7 +32,7 @@ answered kind past (settles expected finished ∷ lines) =
 abbrev pub past_behind : Kind → Past ℕ → List Line → Past ℕ
 past_behind kind past [] = past
 past_behind kind past (does step expected ∷ lines) =
-    past_behind kind (past_after past step (answer kind past step)) lines
+    past_behind kind (past_made kind past step) lines
 past_behind kind past (notes who expected ∷ lines) = past_behind kind past lines
 past_behind kind past (settles expected finished ∷ lines) = past_behind kind (settling_polls kind past ++ past) lines
 

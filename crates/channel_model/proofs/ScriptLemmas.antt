@@ -13,21 +13,22 @@ use Rattle.channel_model.specs.Capacity.{HasPositiveCapacity}
 use Rattle.channel_model.specs.Replies.{due_reply}
 use Rattle.channel_model.specs.Refusals.{refusal_of}
 use Rattle.channel_model.specs.Memory.{may_want_memory}
-use Rattle.channel_model.specs.Answers.{IsAnswer, message_in, past_after}
+use Rattle.channel_model.specs.Answers.{IsAnswer, answer_of, message_in, past_made, refused_or}
 use Rattle.channel_model.specs.Legal.{IsLegal}
+use Rattle.channel_model.specs.Polling.{settling_polls}
 use Rattle.channel_model.proofs.LegalAnswers.{IsLegal-IsAnswer}
-use Rattle.channel_model.proofs.Settling.{settling_polls, IsComplete-IsLegal}
-use Rattle.channel_model.proofs.Script.{Line, does, notes, settles, answer_of, answer, past_behind, Row, EndsLegal}
+use Rattle.channel_model.proofs.Settling.{IsComplete-IsLegal}
+use Rattle.channel_model.proofs.Script.{Line, does, notes, settles, past_behind, Row, EndsLegal}
 
 -- what a line answers is an answer
-pub answer-IsAnswer : (kind : Kind) (past : Past ℕ) (step : Step ℕ) → IsAnswer kind past step (answer kind past step)
-answer-IsAnswer kind past step = go (refusal_of past step)
+pub answer-IsAnswer : (kind : Kind) (past : Past ℕ) (step : Step ℕ) → IsAnswer kind past step (answer_of kind past step)
+answer-IsAnswer kind past step = go (refusal_of kind past step)
   where
     go : (refusal : Option Refusal) → MatchOption refusal
-        ((answer_of refusal (message_in step) (due_reply kind past step) ≡ due_reply kind past step)
+        ((refused_or refusal step (due_reply kind past step) ≡ due_reply kind past step)
         ⊎ ((may_want_memory kind past step ≡ true)
-        × (answer_of refusal (message_in step) (due_reply kind past step) ≡ Refused OutOfMemory (message_in step))))
-        (λ found. answer_of refusal (message_in step) (due_reply kind past step) ≡ Refused found (message_in step))
+        × (refused_or refusal step (due_reply kind past step) ≡ Refused OutOfMemory (message_in step))))
+        (λ found. refused_or refusal step (due_reply kind past step) ≡ Refused found (message_in step))
     go (Some refusal) = refl
     go None = inl refl
 
@@ -35,8 +36,8 @@ pub IsLegal-past_behind : (kind : Kind) (past : Past ℕ) (lines : List Line) �
     → IsLegal kind (past_behind kind past lines)
 IsLegal-past_behind kind past [] legal = legal
 IsLegal-past_behind kind past (does step expected ∷ lines) legal =
-    IsLegal-past_behind kind (past_after past step (answer kind past step)) lines
-    (IsLegal-IsAnswer kind past step (answer kind past step) legal (answer-IsAnswer kind past step))
+    IsLegal-past_behind kind (past_made kind past step) lines
+    (IsLegal-IsAnswer kind past step (answer_of kind past step) legal (answer-IsAnswer kind past step))
 IsLegal-past_behind kind past (notes who expected ∷ lines) legal = IsLegal-past_behind kind past lines legal
 IsLegal-past_behind kind past (settles expected finished ∷ lines) legal =
     IsLegal-past_behind kind (settling_polls kind past ++ past) lines (IsComplete-IsLegal kind past legal).legal

@@ -1,7 +1,9 @@
 -- Settling by computation: it ends, and then nobody is told.
-use Rattle.std.proofs.Common.{◌≡◌, ℕ, zero, suc, ◌≤◌, List, [], ◌∷◌, ◌++◌, Some, None, Option, refl, length, map, take, arith}
+use Rattle.std.proofs.Common.{◌≡◌, ℕ, zero, suc, ◌+◌, ◌≤◌, List, [], ◌∷◌, ◌++◌, Some, None, Option, refl, sym, ◌∙◌, ap, length, map, take, arith}
 use Rattle.std.specs.Prelude.{slice_get}
 use Rattle.channel_model.specs.declared.step.Kind.{Kind}
+use Rattle.channel_model.specs.declared.step.Who.{Who}
+use Rattle.channel_model.specs.declared.step.Reply.{Reply}
 use Rattle.channel_model.specs.declared.step.Step.{Step}
 use Rattle.channel_model.specs.declared.step.Step.TheVariants.{Poll, PollNext}
 use Rattle.channel_model.specs.Past.{Past}
@@ -9,18 +11,9 @@ use Rattle.channel_model.specs.Replies.{due_reply}
 use Rattle.channel_model.specs.Rosters.{Roster, Rosters, told_names}
 use Rattle.channel_model.specs.Notices.{rosters}
 use Rattle.channel_model.specs.Legal.{IsLegal}
-use Rattle.channel_model.specs.Polling.{EndsWell, IsQuiet, IsSettling, Settles, finished_polls, most_polls, told_polls, waiting_in}
+use Rattle.channel_model.specs.Polling.{EndsWell, IsQuiet, IsSettling, Settles, finished_polls, most_polls, settling, settling_polls, told_polls, waiting_in}
 use Rattle.channel_model.proofs.Measure.{measure, rosters-AreSound}
 use Rattle.channel_model.proofs.AnyOrder.{PollsTold, polls_told, measure-falls, told-allowed, first-Contains, IsFreePolling-IsSettling, EndsWell-IsFreePolling, told-waiting, within_most}
-
--- The polls of settling behind this past, after these ones, the newest first; so many more at the most.
-abbrev pub settling : {T : Type 0} → ℕ → Kind → Past T → (polls : Past T) → Past T
-settling zero kind past polls = polls
-settling (suc most) kind past polls =
-    elim (slice_get (told_polls (rosters (polls ++ past))) 0) [
-      | None ↦ polls
-      | Some step ↦ settling most kind past ((step, due_reply kind (polls ++ past) step) ∷ polls)
-    ]
 
 -- ---- nobody to poll is nobody told
 
@@ -123,10 +116,6 @@ IsComplete-settling {T} (suc most) kind past polls each legal few =
         (legal, refl, told-allowed kind (polls ++ past) step legal (told step e))
         (let falls = measure-falls kind (polls ++ past) step legal (told step e) in omega arith)
 
--- the polls of settling behind a past
-abbrev pub settling_polls : {T : Type 0} → Kind → Past T → Past T
-settling_polls kind past = settling (most_polls (waiting_in (rosters past))) kind past []
-
 pub IsComplete-IsLegal : {T : Type 0} (kind : Kind) (past : Past T) → IsLegal kind past
     → IsComplete kind past (settling_polls kind past)
 IsComplete-IsLegal kind past legal =
@@ -151,3 +140,60 @@ Settles-IsLegal kind past legal =
       settled = ends.settled complete.quiet;
       bounded = ends.bounded;
     }
+
+-- ---- no other polls settle it
+
+-- the poll of the first who was told, behind polls that were made
+abbrev next_poll : {T : Type 0} → Past T → (polls : Past T) → Option (Step T)
+next_poll past polls = slice_get (told_polls (rosters (polls ++ past))) 0
+
+abbrev with_poll : {T : Type 0} → Kind → Past T → (polls : Past T) → Option (Step T) → Past T
+with_poll kind past polls None = polls
+with_poll kind past polls (Some step) = (step, due_reply kind (polls ++ past) step) ∷ polls
+
+-- the polls of settling again, so many of them
+abbrev polls_within : {T : Type 0} → ℕ → Kind → Past T → Past T
+polls_within zero kind past = []
+polls_within (suc n) kind past =
+    with_poll kind past (polls_within n kind past) (next_poll past (polls_within n kind past))
+
+polls_within-IsSettling : {T : Type 0} (kind : Kind) (past polls : Past T) → IsSettling kind past polls
+    → polls_within (length polls) kind past ≡ polls
+polls_within-IsSettling kind past [] each = refl
+polls_within-IsSettling {T} kind past ((step, reply) ∷ polls) each =
+    ap (λ (made : Past T). with_poll kind past made (next_poll past made))
+    (polls_within-IsSettling kind past polls each.0)
+    ∙ (ap (λ (next : Option (Step T)). with_poll kind past polls next) each.1
+    ∙ ap (λ (due : Reply T). (step, due) ∷ polls) (sym each.2))
+
+nobody_polled : {T : Type 0} (all : Rosters) → IsQuiet all → told_polls {T = T} all ≡ []
+nobody_polled all quiet = rw (quiet.receives, quiet.streams, quiet.sends, quiet.closeds) refl
+
+-- where nobody is told, no more polls are made
+polls_within-stay : {T : Type 0} (kind : Kind) (past polls : Past T) (n : ℕ) → polls_within n kind past ≡ polls
+    → IsQuiet (rosters (polls ++ past)) → (k m : ℕ) → m ≡ k + n → polls_within m kind past ≡ polls
+polls_within-stay kind past polls n made quiet zero m is = let same : m ≡ n = omega (arith, is) in rw same made
+polls_within-stay kind past polls n made quiet (suc k) zero is = absurd (omega (arith, is))
+polls_within-stay {T} kind past polls n made quiet (suc k) (suc m) is =
+    let less : m ≡ k + n = omega (arith, is) in
+    ap (λ (made : Past T). with_poll kind past made (next_poll past made))
+    (polls_within-stay kind past polls n made quiet k m less)
+    ∙ ap (λ (told : List (Step T)). with_poll kind past polls (slice_get told 0))
+    (nobody_polled (rosters (polls ++ past)) quiet)
+
+-- Polls that settled the channel are the ones that are computed.
+pub settling_polls-Settles : {T : Type 0} (kind : Kind) (past polls : Past T) (count : ℕ)
+    (finished : List (Who × Reply T)) → IsLegal kind past → Settles kind past polls count finished
+    → settling_polls kind past ≡ polls
+settling_polls-Settles {T} kind past polls count finished legal settles =
+    sym (polls_within-stay kind past computed (length computed)
+    (polls_within-IsSettling kind past computed complete.each) complete.quiet
+    (length polls) (length polls + length computed) refl)
+    ∙ polls_within-stay kind past polls (length polls) (polls_within-IsSettling kind past polls settles.each)
+    settles.quiet (length computed) (length polls + length computed) (omega arith)
+  where
+    computed : Past T
+    computed = settling_polls kind past
+
+    complete : IsComplete kind past computed
+    complete = IsComplete-IsLegal kind past legal

@@ -12,6 +12,7 @@ use Rattle.channel_model.specs.Rosters.{Rosters}
 use Rattle.channel_model.specs.Notices.{after_accepting, after_closing, after_last_receiver, after_own_move, after_receiving, rosters}
 use Rattle.channel_model.specs.Covered.{IsCovered}
 use Rattle.channel_model.specs.Standing.{standing_of}
+use Rattle.channel_model.specs.Operations.{live_operations}
 
 kept : (before close : Bool) (senders receivers : List ℕ) → close ≡ false → (before ≡ false → 0 < length senders)
     → (before ≡ false → 0 < length receivers) → (((before || close) || has_none senders) || has_none receivers) ≡ before
@@ -51,7 +52,7 @@ pub rosters-kept : {T : Type 0} (kind : Kind) (past : Past T) (step : Step T) (r
     → live_senders ((step, reply) ∷ past) ≡ live_senders past
     → live_receivers ((step, reply) ∷ past) ≡ live_receivers past
     → rosters ((step, reply) ∷ past) ≡ after_receiving (received_by reply)
-    (after_accepting (accepted_by past step reply) (after_own_move past step reply (rosters past)))
+    (after_accepting (accepted_by (live_operations past) step reply) (after_own_move (live_operations past) step reply (rosters past)))
 rosters-kept kind past step reply covered open_still same_senders same_receivers =
     after_last_receiver-kept (has_no_receiver past) (has_no_receiver ((step, reply) ∷ past)) _
     (ap (λ (names : List ℕ). has_none names) same_receivers)

@@ -17,12 +17,14 @@ use Rattle.channel_model.specs.Operations.{Operation, awaiting_close, is_awaitin
 use Rattle.channel_model.specs.Messages.{accepted_by, oldest_message, received_by}
 use Rattle.channel_model.specs.Capacity.{is_full}
 use Rattle.channel_model.specs.Closing.{has_no_receiver, is_closed}
-use Rattle.channel_model.specs.Replies.{due_reply, poll_closed_reply, poll_next_reply, poll_recv_reply, poll_reply, poll_send_reply}
-use Rattle.channel_model.specs.Refusals.{is_borrowed, is_known, is_one_too_many, is_taken, refusal_of}
+use Rattle.channel_model.specs.Replies.{due_reply, poll_reply}
+use Rattle.channel_model.specs.Refusals.{is_borrowed, is_known, is_one_too_many, is_taken, refusal_of, refusal_in}
 use Rattle.channel_model.specs.Rosters.{Rosters, wait}
 use Rattle.channel_model.specs.Notices.{after_accepting, after_closing, after_last_receiver, after_own_move, after_receiving, rosters}
 use Rattle.channel_model.specs.Legal.{IsAllowed, IsLegal}
 use Rattle.channel_model.specs.Laws.{AreLive}
+use Rattle.channel_model.specs.View.{View, view_of}
+use Rattle.channel_model.proofs.ReplyForms.{poll_closed_reply, poll_next_reply, poll_recv_reply, poll_send_reply}
 use Rattle.channel_model.proofs.LookUps.{look_up, look_up-other, look_up-without, look_up-with_finished, among-leave, among-hand_on, among-wait}
 
 AreLive-accepting : {T : Type 0} (past : Past T) (accepted : Option T) (all : Rosters) → AreLive past all
@@ -62,24 +64,24 @@ not_false : (test : Bool) → not test ≡ false → test ≡ true
 not_false true e = refl
 not_false false e = cc
 
-pub record Allowed {T : Type 0} (past : Past T) (step : Step T) : Type 0 where
-  pub known : is_known past step ≡ true
-  pub fresh : is_taken past step ≡ false
+pub record Allowed {T : Type 0} (view : View T) (step : Step T) : Type 0 where
+  pub known : is_known view step ≡ true
+  pub fresh : is_taken view step ≡ false
 
-pub allowed : {T : Type 0} (past : Past T) (step : Step T) → refusal_of past step ≡ None → Allowed past step
-allowed past step e =
-    let first = cond_none (not (is_known past step)) Unknown _ e in
-    let second = cond_none (is_taken past step) Taken _ first.1 in
-    record { known = not_false (is_known past step) first.0; fresh = second.0 }
+pub allowed : {T : Type 0} (view : View T) (step : Step T) → refusal_in view step ≡ None → Allowed view step
+allowed view step e =
+    let first = cond_none (not (is_known view step)) Unknown _ e in
+    let second = cond_none (is_taken view step) Taken _ first.1 in
+    record { known = not_false (is_known view step) first.0; fresh = second.0 }
 
-pub known_if_borrowed : {T : Type 0} (past : Past T) (step : Step T) → refusal_of past step ≡ Some Borrowed
-    → is_known past step ≡ true
-known_if_borrowed past step e = go (is_known past step) refl e
+pub known_if_borrowed : {T : Type 0} (view : View T) (step : Step T) → refusal_in view step ≡ Some Borrowed
+    → is_known view step ≡ true
+known_if_borrowed view step e = go (is_known view step) refl e
   where
-    go : (known : Bool) → is_known past step ≡ known
-        → (if not known then Some Unknown else if is_taken past step then Some Taken else if is_borrowed past step
-        then Some Borrowed else if is_one_too_many past step then Some TooMany else None) ≡ Some Borrowed
-        → is_known past step ≡ true
+    go : (known : Bool) → is_known view step ≡ known
+        → (if not known then Some Unknown else if is_taken view step then Some Taken else if is_borrowed view step
+        then Some Borrowed else if is_one_too_many view step then Some TooMany else None) ≡ Some Borrowed
+        → is_known view step ≡ true
     go true k e = k
     go false k e = cc
 
@@ -158,7 +160,7 @@ is_among-without_other left name (first ∷ names) apart among =
 
 OwnMoveIsLive : {T : Type 0} → Past T → Step T → Reply T → Type 0
 OwnMoveIsLive past step reply = AreLive past (rosters past)
-    → AreLive ((step, reply) ∷ past) (after_own_move past step reply (rosters past))
+    → AreLive ((step, reply) ∷ past) (after_own_move (live_operations past) step reply (rosters past))
 
 -- the send was ready: it left, and is finished
 ready_send : {T : Type 0} (past : Past T) (op sender : ℕ) (message : Option T)
@@ -371,17 +373,17 @@ upgrade_receiver-live past of new true live =
 upgrade_receiver-live past of new false live =
     record { sends = live.sends; receives = live.receives; closeds = live.closeds; streams = live.streams }
 
-due-live : {T : Type 0} (kind : Kind) (past : Past T) (step : Step T) → IsAllowed step (refusal_of past step)
+due-live : {T : Type 0} (kind : Kind) (past : Past T) (step : Step T) → IsAllowed step (refusal_of kind past step)
     → OwnMoveIsLive past step (due_reply kind past step)
 unfolding OwnMoveIsLive
 due-live kind past (Poll op) may live = poll-live past op (operation_of past op) (is_closed past) (has_no_receiver past)
     (is_full kind past) (oldest_message past) refl live
 due-live kind past (PollNext receiver) (inl may) live =
     poll_next-live past receiver (oldest_message past) (is_closed past)
-    (allowed past (PollNext receiver) may).known live
+    (allowed (view_of kind past) (PollNext receiver) may).known live
 due-live kind past (PollNext receiver) (inr may) live =
     poll_next-live past receiver (oldest_message past) (is_closed past)
-    (known_if_borrowed past (PollNext receiver) may) live
+    (known_if_borrowed (view_of kind past) (PollNext receiver) may) live
 due-live kind past (DropOp op) may live = drop_op-live past op live
 due-live kind past (DropReceiver receiver) may live = drop_receiver-live past receiver live
 due-live kind past (CloneReceiver of new) may live =
@@ -394,15 +396,15 @@ due-live kind past (CloneReceiver of new) may live =
 due-live kind past (UpgradeReceiver of new) may live = upgrade_receiver-live past of new (not (is_closed past)) live
 due-live kind past (StartSend op sender message) may live =
     let rest = started past (rosters past) op (sending sender (Some message))
-    (allowed past (StartSend op sender message) may).fresh live in
+    (allowed (view_of kind past) (StartSend op sender message) may).fresh live in
     record { sends = rest.0; receives = rest.1; closeds = rest.2; streams = live.streams }
 due-live kind past (StartRecv op receiver) may live =
     let rest = started past (rosters past) op (receiving receiver)
-    (allowed past (StartRecv op receiver) may).fresh live in
+    (allowed (view_of kind past) (StartRecv op receiver) may).fresh live in
     record { sends = rest.0; receives = rest.1; closeds = rest.2; streams = live.streams }
 due-live kind past (StartClosed op sender) may live =
     let rest = started past (rosters past) op (awaiting_close sender)
-    (allowed past (StartClosed op sender) may).fresh live in
+    (allowed (view_of kind past) (StartClosed op sender) may).fresh live in
     record { sends = rest.0; receives = rest.1; closeds = rest.2; streams = live.streams }
 due-live kind past step may live = record {
   sends = live.sends;
@@ -423,6 +425,6 @@ AreLive-IsLegal {T} kind ((step, reply) ∷ past) legal =
     AreLive-last_receiver ((step, reply) ∷ past) (has_no_receiver past) (has_no_receiver ((step, reply) ∷ past)) _
     (AreLive-closing ((step, reply) ∷ past) (is_closed past) (is_closed ((step, reply) ∷ past)) _
     (AreLive-receiving ((step, reply) ∷ past) (received_by reply) _
-    (AreLive-accepting ((step, reply) ∷ past) (accepted_by past step reply) _
-    (subst (λ (r : Reply T). AreLive ((step, r) ∷ past) (after_own_move past step r (rosters past))) (sym legal.1)
+    (AreLive-accepting ((step, reply) ∷ past) (accepted_by (live_operations past) step reply) _
+    (subst (λ (r : Reply T). AreLive ((step, r) ∷ past) (after_own_move (live_operations past) step r (rosters past))) (sym legal.1)
     (due-live kind past step legal.2 (AreLive-IsLegal kind past legal.0))))))

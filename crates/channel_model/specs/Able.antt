@@ -6,7 +6,8 @@ use Rattle.channel_model.specs.declared.step.Who.TheVariants.{Op, Receiver}
 use Rattle.event_list.specs.Keys.{is_among}
 use Rattle.channel_model.specs.Past.{Past}
 use Rattle.channel_model.specs.Messages.{held_messages}
-use Rattle.channel_model.specs.Capacity.{is_full}
+use Rattle.channel_model.specs.View.{view_of}
+use Rattle.channel_model.specs.Replies.{is_full_in}
 use Rattle.channel_model.specs.Closing.{has_no_receiver, has_none, is_closed}
 use Rattle.channel_model.specs.Notices.{rosters}
 
@@ -16,7 +17,7 @@ can_receive past = is_closed past || not (has_none (held_messages past))
 
 -- A send could go on: a place is free, or the channel is closed.
 abbrev pub can_send : {T : Type 0} → Kind → Past T → Bool
-can_send kind past = is_closed past || not (is_full kind past)
+can_send kind past = is_closed past || not (is_full_in (view_of kind past))
 
 -- An operation, or the stream of a receiver, waits and could go on. A closed operation could where no receiver
 -- is live.

@@ -1,6 +1,7 @@
 -- What answers a step, and a list of steps.
 use Rattle.std.specs.Prelude.{◌≡◌, ◌⊎◌, List, [], ◌∷◌, Option, Some, None, true, MatchOption}
 use Rattle.channel_model.specs.declared.step.Kind.{Kind}
+use Rattle.channel_model.specs.declared.step.Refusal.{Refusal}
 use Rattle.channel_model.specs.declared.step.Refusal.TheVariants.{OutOfMemory}
 use Rattle.channel_model.specs.declared.step.Step.{Step}
 use Rattle.channel_model.specs.declared.step.Step.TheVariants.{TrySend, ForceSend, StartSend}
@@ -22,7 +23,7 @@ message_in step = None
 -- that is possible.
 abbrev pub IsAnswer : {T : Type 0} → Kind → Past T → Step T → Reply T → Type 0
 IsAnswer kind past step reply =
-    MatchOption (refusal_of past step)
+    MatchOption (refusal_of kind past step)
     ((reply ≡ due_reply kind past step)
     ⊎ ((may_want_memory kind past step ≡ true) × (reply ≡ Refused OutOfMemory (message_in step))))
     (λ refusal. reply ≡ Refused refusal (message_in step))
@@ -31,6 +32,19 @@ IsAnswer kind past step reply =
 abbrev pub past_after : {T : Type 0} → Past T → Step T → Reply T → Past T
 past_after past step (Refused refusal message) = past
 past_after past step reply = (step, reply) ∷ past
+
+-- the refusal that applies, or else the reply that is due
+abbrev pub refused_or : {T : Type 0} → Option Refusal → Step T → (due : Reply T) → Reply T
+refused_or None step due = due
+refused_or (Some refusal) step due = Refused refusal (message_in step)
+
+-- The answer to a step behind this past where no memory is wanted.
+abbrev pub answer_of : {T : Type 0} → Kind → Past T → Step T → Reply T
+answer_of kind past step = refused_or (refusal_of kind past step) step (due_reply kind past step)
+
+-- the past behind a step that was answered so
+abbrev pub past_made : {T : Type 0} → Kind → Past T → Step T → Past T
+past_made kind past step = past_after past step (answer_of kind past step)
 
 -- Each step, in order, was answered behind the past that those before it left, and this is the past after all
 -- of them.

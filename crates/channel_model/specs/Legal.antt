@@ -20,4 +20,4 @@ IsAllowed step refusal = refusal ≡ None
 abbrev pub IsLegal : {T : Type 0} → Kind → Past T → Type 0
 IsLegal kind [] = HasPositiveCapacity kind
 IsLegal kind ((step, reply) ∷ past) =
-    IsLegal kind past × (reply ≡ due_reply kind past step) × IsAllowed step (refusal_of past step)
+    IsLegal kind past × (reply ≡ due_reply kind past step) × IsAllowed step (refusal_of kind past step)

@@ -7,10 +7,11 @@ pub mod Operations
 pub mod Messages
 pub mod Capacity
 pub mod Closing
-pub mod Replies
-pub mod Refusals
 pub mod Rosters
 pub mod Notices
+pub mod View
+pub mod Replies
+pub mod Refusals
 pub mod Memory
 pub mod Answers
 pub mod Legal

@@ -2,50 +2,48 @@
 use Rattle.std.specs.Prelude.{Bool, true, false, not, ◌&&◌, ◌||◌, is_none, is_some}
 use Rattle.channel_model.specs.declared.step.Kind.{Kind}
 use Rattle.channel_model.specs.declared.step.Step.{Step}
-use Rattle.channel_model.specs.declared.step.Step.TheVariants.{TrySend, ForceSend, CloneSender, CloneReceiver, CloneWeakSender, CloneWeakReceiver, DowngradeSender, DowngradeReceiver, UpgradeSender, UpgradeReceiver, StartSend, StartRecv, StartClosed, Poll, PollNext}
+use Rattle.channel_model.specs.declared.step.Step.TheVariants.{TrySend, ForceSend, UpgradeSender, UpgradeReceiver, Poll, PollNext}
 use Rattle.event_list.specs.Keys.{is_among}
 use Rattle.channel_model.specs.Past.{Past}
-use Rattle.channel_model.specs.Operations.{is_finished_send, message_of, operation_of}
-use Rattle.channel_model.specs.Capacity.{is_unbounded}
-use Rattle.channel_model.specs.Closing.{is_closed}
-use Rattle.channel_model.specs.Replies.{due_reply, is_pending}
-use Rattle.channel_model.specs.Refusals.{refusal_of}
+use Rattle.channel_model.specs.Operations.{is_finished_send, message_among, operation_in}
+use Rattle.channel_model.specs.Replies.{is_pending, reply_in}
+use Rattle.channel_model.specs.Refusals.{new_is_live, refusal_in}
 use Rattle.channel_model.specs.Rosters.{waits_anywhere}
-use Rattle.channel_model.specs.Notices.{rosters}
+use Rattle.channel_model.specs.View.{View, view_of}
+
+-- a weak handle is upgraded
+abbrev pub is_upgrade : {T : Type 0} → Step T → Bool
+is_upgrade (UpgradeSender of new) = true
+is_upgrade (UpgradeReceiver of new) = true
+is_upgrade step = false
 
 -- The step makes a name; an upgrade does so on an open channel.
-abbrev pub makes_name : {T : Type 0} → Past T → Step T → Bool
-makes_name past (CloneSender of new) = true
-makes_name past (CloneReceiver of new) = true
-makes_name past (CloneWeakSender of new) = true
-makes_name past (CloneWeakReceiver of new) = true
-makes_name past (DowngradeSender of new) = true
-makes_name past (DowngradeReceiver of new) = true
-makes_name past (UpgradeSender of new) = not (is_closed past)
-makes_name past (UpgradeReceiver of new) = not (is_closed past)
-makes_name past (StartSend op sender message) = true
-makes_name past (StartRecv op receiver) = true
-makes_name past (StartClosed op sender) = true
-makes_name past step = false
+abbrev pub makes_name : {T : Type 0} → View T → Step T → Bool
+makes_name view step = is_some (new_is_live view step) && not (is_upgrade step && view.closed)
 
 -- The step brings a message to send: its own, or that of an unfinished send.
-abbrev pub brings_message : {T : Type 0} → Past T → Step T → Bool
-brings_message past (TrySend sender message) = true
-brings_message past (ForceSend sender message) = true
-brings_message past (Poll op) = is_some (message_of past op)
-brings_message past step = false
+abbrev pub brings_message : {T : Type 0} → View T → Step T → Bool
+brings_message view (TrySend sender message) = true
+brings_message view (ForceSend sender message) = true
+brings_message view (Poll op) = is_some (message_among view.operations op)
+brings_message view step = false
 
 -- The step polls somebody who waits nowhere, a finished send aside.
-abbrev pub polls_newcomer : {T : Type 0} → Past T → Step T → Bool
-polls_newcomer past (Poll op) = not (waits_anywhere op (rosters past)) && not (is_finished_send (operation_of past op))
-polls_newcomer past (PollNext receiver) = not (is_among receiver (rosters past).streams.names)
-polls_newcomer past step = false
+abbrev pub polls_newcomer : {T : Type 0} → View T → Step T → Bool
+polls_newcomer view (Poll op) =
+    not (waits_anywhere op view.rosters) && not (is_finished_send (operation_in view.operations op))
+polls_newcomer view (PollNext receiver) = not (is_among receiver view.rosters.streams.names)
+polls_newcomer view step = false
 
 -- Where want of memory is possible: the step isn't refused, and makes a name, brings a message to an
 -- open unbounded channel, or begins to wait. A step that wants memory changes nothing.
+abbrev pub may_want_memory_in : {T : Type 0} → View T → Step T → Bool
+may_want_memory_in view step =
+    is_none (refusal_in view step)
+    && (makes_name view step
+    || (brings_message view step && is_none view.capacity && not view.closed)
+    || (polls_newcomer view step && is_pending (reply_in view step)))
+
+-- Want of memory is possible behind this past.
 abbrev pub may_want_memory : {T : Type 0} → Kind → Past T → Step T → Bool
-may_want_memory kind past step =
-    is_none (refusal_of past step)
-    && (makes_name past step
-    || (brings_message past step && is_unbounded kind && not (is_closed past))
-    || (polls_newcomer past step && is_pending (due_reply kind past step)))
+may_want_memory kind past step = may_want_memory_in (view_of kind past) step

@@ -1,5 +1,5 @@
 -- Which messages went into a channel, came out of it and are in it.
-use Rattle.std.specs.Prelude.{List, [], ◌∷◌, ◌++◌, Option, Some, None, Ok, length, drop, slice_get}
+use Rattle.std.specs.Prelude.{ℕ, List, [], ◌∷◌, ◌++◌, Option, Some, None, Ok, length, drop, slice_get}
 use Rattle.std.specs.Option.{option_or}
 use Rattle.futures.specs.declared.task.Poll.TheVariants.{Ready}
 use Rattle.channel_model.specs.declared.step.Step.{Step}
@@ -7,14 +7,15 @@ use Rattle.channel_model.specs.declared.step.Step.TheVariants.{TrySend, ForceSen
 use Rattle.channel_model.specs.declared.step.Reply.{Reply}
 use Rattle.channel_model.specs.declared.step.Reply.TheVariants.{TrySent, Forced, Received, SendPolled, RecvPolled, NextPolled}
 use Rattle.channel_model.specs.Past.{Past}
-use Rattle.channel_model.specs.Operations.{message_of}
+use Rattle.channel_model.specs.Operations.{Operation, live_operations, message_among}
 
--- The message that a step with this reply put in, behind this past: sent at once, forced in, or sent by a poll.
-abbrev pub accepted_by : {T : Type 0} → Past T → Step T → Reply T → Option T
-accepted_by past (TrySend sender message) (TrySent (Ok done)) = Some message
-accepted_by past (ForceSend sender message) (Forced (Ok displaced)) = Some message
-accepted_by past (Poll op) (SendPolled (Ready (Ok done))) = message_of past op
-accepted_by past step reply = None
+-- The message that a step with this reply put in, beside these live operations: sent at once, forced in, or sent by
+-- a poll.
+abbrev pub accepted_by : {T : Type 0} → List (ℕ × Operation T) → Step T → Reply T → Option T
+accepted_by operations (TrySend sender message) (TrySent (Ok done)) = Some message
+accepted_by operations (ForceSend sender message) (Forced (Ok displaced)) = Some message
+accepted_by operations (Poll op) (SendPolled (Ready (Ok done))) = message_among operations op
+accepted_by operations step reply = None
 
 -- The message that a receiver got: at once, by a poll of a receive, or by a poll of a stream.
 abbrev pub received_by : {T : Type 0} → Reply T → Option T
@@ -40,7 +41,8 @@ with_last items (Some last) = items ++ last ∷ []
 -- The messages that were accepted, in order.
 abbrev pub accepted_messages : {T : Type 0} → Past T → List T
 accepted_messages [] = []
-accepted_messages ((step, reply) ∷ past) = with_last (accepted_messages past) (accepted_by past step reply)
+accepted_messages ((step, reply) ∷ past) =
+    with_last (accepted_messages past) (accepted_by (live_operations past) step reply)
 
 -- The messages that were received or displaced, in order.
 abbrev pub taken_messages : {T : Type 0} → Past T → List T

@@ -1,5 +1,5 @@
 -- The rule of notices: who waits behind a past, and who of them was told.
-use Rattle.std.specs.Prelude.{[], ◌∷◌, Option, Some, None, Bool, true, false, if◌then◌else◌}
+use Rattle.std.specs.Prelude.{ℕ, List, [], ◌∷◌, Option, Some, None, Bool, true, false, if◌then◌else◌}
 use Rattle.futures.specs.declared.task.Poll.TheVariants.{Ready, Pending}
 use Rattle.channel_model.specs.declared.step.Who.{Who}
 use Rattle.channel_model.specs.declared.step.Who.TheVariants.{Op, Receiver}
@@ -10,7 +10,7 @@ use Rattle.channel_model.specs.declared.step.Reply.{Reply}
 use Rattle.channel_model.specs.declared.step.Reply.TheVariants.{SendPolled, RecvPolled, ClosedPolled, NextPolled}
 use Rattle.event_list.specs.Keys.{is_among}
 use Rattle.channel_model.specs.Past.{Past}
-use Rattle.channel_model.specs.Operations.{is_finished_send, operation_of}
+use Rattle.channel_model.specs.Operations.{Operation, is_finished_send, live_operations, operation_in}
 use Rattle.channel_model.specs.Messages.{accepted_by, received_by}
 use Rattle.channel_model.specs.Closing.{has_no_receiver, is_closed}
 use Rattle.channel_model.specs.Rosters.{Rosters, hand_on, notice_in, tell_all, tell_one, leave, nobody, wait}
@@ -20,21 +20,22 @@ use Rattle.channel_model.specs.Rosters.{Rosters, hand_on, notice_in, tell_all, t
 -- Whose poll is ready leaves. Whose poll is pending goes last, untold, or keeps its place if it waits untold
 -- already; for a finished send nothing changes. Whoever is given up leaves, and a told send or receive hands
 -- its notice on. With a receiver its stream leaves.
-abbrev pub after_own_move : {T : Type 0} → Past T → Step T → Reply T → Rosters → Rosters
-after_own_move past (Poll op) (SendPolled (Ready result)) all = record all { sends = leave op all.sends }
-after_own_move past (Poll op) (SendPolled Pending) all =
-    if is_finished_send (operation_of past op) then all else record all { sends = wait op all.sends }
-after_own_move past (Poll op) (RecvPolled (Ready result)) all = record all { receives = leave op all.receives }
-after_own_move past (Poll op) (RecvPolled Pending) all = record all { receives = wait op all.receives }
-after_own_move past (Poll op) (ClosedPolled (Ready done)) all = record all { closeds = leave op all.closeds }
-after_own_move past (Poll op) (ClosedPolled Pending) all = record all { closeds = wait op all.closeds }
-after_own_move past (PollNext receiver) (NextPolled (Ready item)) all =
+abbrev pub after_own_move : {T : Type 0} → List (ℕ × Operation T) → Step T → Reply T → Rosters → Rosters
+after_own_move operations (Poll op) (SendPolled (Ready result)) all = record all { sends = leave op all.sends }
+after_own_move operations (Poll op) (SendPolled Pending) all =
+    if is_finished_send (operation_in operations op) then all else record all { sends = wait op all.sends }
+after_own_move operations (Poll op) (RecvPolled (Ready result)) all = record all { receives = leave op all.receives }
+after_own_move operations (Poll op) (RecvPolled Pending) all = record all { receives = wait op all.receives }
+after_own_move operations (Poll op) (ClosedPolled (Ready done)) all = record all { closeds = leave op all.closeds }
+after_own_move operations (Poll op) (ClosedPolled Pending) all = record all { closeds = wait op all.closeds }
+after_own_move operations (PollNext receiver) (NextPolled (Ready item)) all =
     record all { streams = leave receiver all.streams }
-after_own_move past (PollNext receiver) (NextPolled Pending) all = record all { streams = wait receiver all.streams }
-after_own_move past (DropOp op) reply all =
+after_own_move operations (PollNext receiver) (NextPolled Pending) all =
+    record all { streams = wait receiver all.streams }
+after_own_move operations (DropOp op) reply all =
     record all { sends = hand_on op all.sends; receives = hand_on op all.receives; closeds = leave op all.closeds }
-after_own_move past (DropReceiver receiver) reply all = record all { streams = leave receiver all.streams }
-after_own_move past step reply all = all
+after_own_move operations (DropReceiver receiver) reply all = record all { streams = leave receiver all.streams }
+after_own_move operations step reply all = all
 
 -- ---- Then the others are told.
 
@@ -68,8 +69,8 @@ rosters ((step, reply) ∷ past) =
     after_last_receiver (has_no_receiver past) (has_no_receiver ((step, reply) ∷ past))
     (after_closing (is_closed past) (is_closed ((step, reply) ∷ past))
     (after_receiving (received_by reply)
-    (after_accepting (accepted_by past step reply)
-    (after_own_move past step reply (rosters past)))))
+    (after_accepting (accepted_by (live_operations past) step reply)
+    (after_own_move (live_operations past) step reply (rosters past)))))
 
 -- Whether somebody waits, and was told. An operation is in one roster at most.
 abbrev pub notice_of : {T : Type 0} → Past T → Who → Notice

@@ -1,7 +1,9 @@
 -- Which operations are live, what each borrows, and which sends still have their message.
 use Rattle.std.specs.Prelude.{ℕ, List, [], ◌∷◌, Option, Some, None, Bool, true, false, not, ◌==◌, if◌then◌else◌, filter, find, map, option_map, option_and_then}
 use Rattle.futures.specs.declared.task.Poll.TheVariants.{Ready}
+use Rattle.channel_model.specs.declared.step.Step.{Step}
 use Rattle.channel_model.specs.declared.step.Step.TheVariants.{StartSend, StartRecv, StartClosed, Poll, DropOp}
+use Rattle.channel_model.specs.declared.step.Reply.{Reply}
 use Rattle.channel_model.specs.declared.step.Reply.TheVariants.{SendPolled}
 use Rattle.channel_model.specs.Past.{Past}
 
@@ -25,16 +27,20 @@ without_operation op operations = filter (λ entry. not (entry.0 == op)) operati
 abbrev pub with_finished : {T : Type 0} → ℕ → List (ℕ × Operation T) → List (ℕ × Operation T)
 with_finished op operations = map (λ entry. if entry.0 == op then (entry.0, finished entry.1) else entry) operations
 
+-- What a step with this reply makes of the operations that were live before it: one that is started is live, a send
+-- whose poll was ready has finished, and one that is given up isn't live.
+abbrev pub operations_after : {T : Type 0} → Step T → Reply T → List (ℕ × Operation T) → List (ℕ × Operation T)
+operations_after (StartSend op sender message) reply operations = (op, sending sender (Some message)) ∷ operations
+operations_after (StartRecv op receiver) reply operations = (op, receiving receiver) ∷ operations
+operations_after (StartClosed op sender) reply operations = (op, awaiting_close sender) ∷ operations
+operations_after (Poll op) (SendPolled (Ready result)) operations = with_finished op operations
+operations_after (DropOp op) reply operations = without_operation op operations
+operations_after step reply operations = operations
+
 -- The operations that were started and not given up since, each with its name. A new channel has none.
 abbrev pub live_operations : {T : Type 0} → Past T → List (ℕ × Operation T)
 live_operations [] = []
-live_operations ((StartSend op sender message, reply) ∷ past) =
-    (op, sending sender (Some message)) ∷ live_operations past
-live_operations ((StartRecv op receiver, reply) ∷ past) = (op, receiving receiver) ∷ live_operations past
-live_operations ((StartClosed op sender, reply) ∷ past) = (op, awaiting_close sender) ∷ live_operations past
-live_operations ((Poll op, SendPolled (Ready result)) ∷ past) = with_finished op (live_operations past)
-live_operations ((DropOp op, reply) ∷ past) = without_operation op (live_operations past)
-live_operations (pair ∷ past) = live_operations past
+live_operations ((step, reply) ∷ past) = operations_after step reply (live_operations past)
 
 -- their names
 abbrev pub names_of : {T : Type 0} → List (ℕ × Operation T) → List ℕ
@@ -53,9 +59,13 @@ abbrev pub unsent_message : {T : Type 0} → Operation T → Option T
 unsent_message (sending sender message) = message
 unsent_message operation = None
 
+-- the message of the send of this name among these, if there is one that has not finished
+abbrev pub message_among : {T : Type 0} → List (ℕ × Operation T) → ℕ → Option T
+message_among operations op = option_and_then unsent_message (operation_in operations op)
+
 -- The message of the send of this name, if one is live and not finished.
 abbrev pub message_of : {T : Type 0} → Past T → ℕ → Option T
-message_of past op = option_and_then unsent_message (operation_of past op)
+message_of past op = message_among (live_operations past) op
 
 -- ---- what an operation is
 

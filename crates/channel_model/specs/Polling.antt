@@ -1,5 +1,5 @@
 -- Settling: those who were told are polled until nobody is told.
-use Rattle.std.specs.Prelude.{◌≡◌, ◌≤◌, ◌+◌, ◌*◌, ◌/◌, ⊤, ℕ, List, [], ◌∷◌, ◌++◌, Option, Some, None, length, map, slice_get, Contains, if◌then◌else◌}
+use Rattle.std.specs.Prelude.{◌≡◌, ◌≤◌, ◌+◌, ◌*◌, ◌/◌, ⊤, ℕ, zero, suc, List, [], ◌∷◌, ◌++◌, Option, Some, None, length, map, slice_get, Contains, if◌then◌else◌}
 use Rattle.channel_model.specs.declared.step.Kind.{Kind}
 use Rattle.channel_model.specs.declared.step.Who.{Who}
 use Rattle.channel_model.specs.declared.step.Who.TheVariants.{Op, Receiver}
@@ -67,6 +67,19 @@ finished_by step reply = None
 abbrev pub finished_polls : {T : Type 0} → (polls : Past T) → List (Who × Reply T)
 finished_polls [] = []
 finished_polls ((step, reply) ∷ polls) = with_last (finished_polls polls) (finished_by step reply)
+
+-- The polls of settling behind this past, after these ones, the newest first; so many more at the most.
+abbrev pub settling : {T : Type 0} → (most : ℕ) → Kind → Past T → (polls : Past T) → Past T
+settling zero kind past polls = polls
+settling (suc most) kind past polls =
+    elim (slice_get (told_polls (rosters (polls ++ past))) 0) [
+      | None ↦ polls
+      | Some step ↦ settling most kind past ((step, due_reply kind (polls ++ past) step) ∷ polls)
+    ]
+
+-- The polls that settle the channel behind this past: there are never more of them than the bound.
+abbrev pub settling_polls : {T : Type 0} → Kind → Past T → Past T
+settling_polls kind past = settling (most_polls (waiting_in (rosters past))) kind past []
 
 -- What settling answers: these polls settled the channel, and were so many.
 pub record Settles {T : Type 0} (kind : Kind) (past polls : Past T) (count : ℕ)

@@ -1,6 +1,7 @@
 -- Which steps are refused, want of memory aside.
-use Rattle.std.specs.Prelude.{ℕ, Option, Some, None, Bool, false, not, ◌&&◌, length, nat_lt, is_some, if◌then◌else◌}
+use Rattle.std.specs.Prelude.{ℕ, Option, Some, None, Bool, false, not, ◌&&◌, length, nat_lt, is_some, unwrap_or, if◌then◌else◌}
 use Rattle.std.specs.List.{list_any}
+use Rattle.channel_model.specs.declared.step.Kind.{Kind}
 use Rattle.channel_model.specs.declared.step.Side.{Side}
 use Rattle.channel_model.specs.declared.step.Side.TheVariants.{Sender, Receiver}
 use Rattle.channel_model.specs.declared.step.Refusal.{Refusal}
@@ -10,109 +11,100 @@ use Rattle.channel_model.specs.declared.step.Step.TheVariants.{TrySend, ForceSen
 use Rattle.event_list.specs.Keys.{is_among}
 use Rattle.channel_model.specs.Tables.{handle_limit}
 use Rattle.channel_model.specs.Past.{Past}
-use Rattle.channel_model.specs.Handles.{live_receivers, live_senders, live_weak_receivers, live_weak_senders}
-use Rattle.channel_model.specs.Operations.{live_operations, operation_of, borrows_receiver, borrows_sender}
-use Rattle.channel_model.specs.Closing.{is_closed}
+use Rattle.channel_model.specs.Operations.{operation_in, borrows_receiver, borrows_sender}
+use Rattle.channel_model.specs.View.{View, view_of}
 
 -- ---- whether a name is live
 
--- a live sender has this name
-abbrev pub is_sender : {T : Type 0} → Past T → ℕ → Bool
-is_sender past name = is_among name (live_senders past)
-
--- a live receiver has this name
-abbrev pub is_receiver : {T : Type 0} → Past T → ℕ → Bool
-is_receiver past name = is_among name (live_receivers past)
-
--- a live weak sender has this name
-abbrev pub is_weak_sender : {T : Type 0} → Past T → ℕ → Bool
-is_weak_sender past name = is_among name (live_weak_senders past)
-
--- a live weak receiver has this name
-abbrev pub is_weak_receiver : {T : Type 0} → Past T → ℕ → Bool
-is_weak_receiver past name = is_among name (live_weak_receivers past)
-
 -- a live operation has this name
-abbrev pub is_operation : {T : Type 0} → Past T → ℕ → Bool
-is_operation past name = is_some (operation_of past name)
+abbrev pub is_operation : {T : Type 0} → View T → ℕ → Bool
+is_operation view name = is_some (operation_in view.operations name)
 
 -- a live sender, or a live receiver, has this name
-abbrev pub is_handle : {T : Type 0} → Past T → Side → Bool
-is_handle past (Sender name) = is_sender past name
-is_handle past (Receiver name) = is_receiver past name
+abbrev pub is_handle : {T : Type 0} → View T → Side → Bool
+is_handle view (Sender name) = is_among name view.senders
+is_handle view (Receiver name) = is_among name view.receivers
 
 -- ---- the four refusals
 
 -- The name by which the step acts is live.
-abbrev pub is_known : {T : Type 0} → Past T → Step T → Bool
-is_known past (TrySend sender message) = is_sender past sender
-is_known past (ForceSend sender message) = is_sender past sender
-is_known past (TryRecv receiver) = is_receiver past receiver
-is_known past (Close side) = is_handle past side
-is_known past (IsClosed side) = is_handle past side
-is_known past (IsEmpty side) = is_handle past side
-is_known past (IsFull side) = is_handle past side
-is_known past (IsTerminated receiver) = is_receiver past receiver
-is_known past (Len side) = is_handle past side
-is_known past (SenderCount side) = is_handle past side
-is_known past (ReceiverCount side) = is_handle past side
-is_known past (Capacity side) = is_handle past side
-is_known past (CloneSender of new) = is_sender past of
-is_known past (CloneReceiver of new) = is_receiver past of
-is_known past (CloneWeakSender of new) = is_weak_sender past of
-is_known past (CloneWeakReceiver of new) = is_weak_receiver past of
-is_known past (DowngradeSender of new) = is_sender past of
-is_known past (DowngradeReceiver of new) = is_receiver past of
-is_known past (UpgradeSender of new) = is_weak_sender past of
-is_known past (UpgradeReceiver of new) = is_weak_receiver past of
-is_known past (DropSender name) = is_sender past name
-is_known past (DropReceiver name) = is_receiver past name
-is_known past (DropWeakSender name) = is_weak_sender past name
-is_known past (DropWeakReceiver name) = is_weak_receiver past name
-is_known past (StartSend op sender message) = is_sender past sender
-is_known past (StartRecv op receiver) = is_receiver past receiver
-is_known past (StartClosed op sender) = is_sender past sender
-is_known past (Poll op) = is_operation past op
-is_known past (PollNext receiver) = is_receiver past receiver
-is_known past (DropOp op) = is_operation past op
+abbrev pub is_known : {T : Type 0} → View T → Step T → Bool
+is_known view (TrySend sender message) = is_among sender view.senders
+is_known view (ForceSend sender message) = is_among sender view.senders
+is_known view (TryRecv receiver) = is_among receiver view.receivers
+is_known view (Close side) = is_handle view side
+is_known view (IsClosed side) = is_handle view side
+is_known view (IsEmpty side) = is_handle view side
+is_known view (IsFull side) = is_handle view side
+is_known view (IsTerminated receiver) = is_among receiver view.receivers
+is_known view (Len side) = is_handle view side
+is_known view (SenderCount side) = is_handle view side
+is_known view (ReceiverCount side) = is_handle view side
+is_known view (Capacity side) = is_handle view side
+is_known view (CloneSender of new) = is_among of view.senders
+is_known view (CloneReceiver of new) = is_among of view.receivers
+is_known view (CloneWeakSender of new) = is_among of view.weak_senders
+is_known view (CloneWeakReceiver of new) = is_among of view.weak_receivers
+is_known view (DowngradeSender of new) = is_among of view.senders
+is_known view (DowngradeReceiver of new) = is_among of view.receivers
+is_known view (UpgradeSender of new) = is_among of view.weak_senders
+is_known view (UpgradeReceiver of new) = is_among of view.weak_receivers
+is_known view (DropSender name) = is_among name view.senders
+is_known view (DropReceiver name) = is_among name view.receivers
+is_known view (DropWeakSender name) = is_among name view.weak_senders
+is_known view (DropWeakReceiver name) = is_among name view.weak_receivers
+is_known view (StartSend op sender message) = is_among sender view.senders
+is_known view (StartRecv op receiver) = is_among receiver view.receivers
+is_known view (StartClosed op sender) = is_among sender view.senders
+is_known view (Poll op) = is_operation view op
+is_known view (PollNext receiver) = is_among receiver view.receivers
+is_known view (DropOp op) = is_operation view op
+
+-- For a step that is to make a name: whether it is live already.
+abbrev pub new_is_live : {T : Type 0} → View T → Step T → Option Bool
+new_is_live view (CloneSender of new) = Some (is_among new view.senders)
+new_is_live view (CloneReceiver of new) = Some (is_among new view.receivers)
+new_is_live view (CloneWeakSender of new) = Some (is_among new view.weak_senders)
+new_is_live view (CloneWeakReceiver of new) = Some (is_among new view.weak_receivers)
+new_is_live view (DowngradeSender of new) = Some (is_among new view.weak_senders)
+new_is_live view (DowngradeReceiver of new) = Some (is_among new view.weak_receivers)
+new_is_live view (UpgradeSender of new) = Some (is_among new view.senders)
+new_is_live view (UpgradeReceiver of new) = Some (is_among new view.receivers)
+new_is_live view (StartSend op sender message) = Some (is_operation view op)
+new_is_live view (StartRecv op receiver) = Some (is_operation view op)
+new_is_live view (StartClosed op sender) = Some (is_operation view op)
+new_is_live view step = None
 
 -- The name that the step is to make is live already.
-abbrev pub is_taken : {T : Type 0} → Past T → Step T → Bool
-is_taken past (CloneSender of new) = is_sender past new
-is_taken past (CloneReceiver of new) = is_receiver past new
-is_taken past (CloneWeakSender of new) = is_weak_sender past new
-is_taken past (CloneWeakReceiver of new) = is_weak_receiver past new
-is_taken past (DowngradeSender of new) = is_weak_sender past new
-is_taken past (DowngradeReceiver of new) = is_weak_receiver past new
-is_taken past (UpgradeSender of new) = is_sender past new
-is_taken past (UpgradeReceiver of new) = is_receiver past new
-is_taken past (StartSend op sender message) = is_operation past op
-is_taken past (StartRecv op receiver) = is_operation past op
-is_taken past (StartClosed op sender) = is_operation past op
-is_taken past step = false
+abbrev pub is_taken : {T : Type 0} → View T → Step T → Bool
+is_taken view step = unwrap_or (new_is_live view step) false
 
 -- A live operation borrows the handle that the step gives up, or the receiver whose stream it polls.
-abbrev pub is_borrowed : {T : Type 0} → Past T → Step T → Bool
-is_borrowed past (DropSender name) = list_any (λ entry. borrows_sender name entry.1) (live_operations past)
-is_borrowed past (DropReceiver name) = list_any (λ entry. borrows_receiver name entry.1) (live_operations past)
-is_borrowed past (PollNext receiver) = list_any (λ entry. borrows_receiver receiver entry.1) (live_operations past)
-is_borrowed past step = false
+abbrev pub is_borrowed : {T : Type 0} → View T → Step T → Bool
+is_borrowed view (DropSender name) = list_any (λ entry. borrows_sender name entry.1) view.operations
+is_borrowed view (DropReceiver name) = list_any (λ entry. borrows_receiver name entry.1) view.operations
+is_borrowed view (PollNext receiver) = list_any (λ entry. borrows_receiver receiver entry.1) view.operations
+is_borrowed view step = false
 
 -- A handle would be copied, or upgraded on an open channel, beside more of its kind than the limit.
-abbrev pub is_one_too_many : {T : Type 0} → Past T → Step T → Bool
-is_one_too_many past (CloneSender of new) = nat_lt handle_limit (length (live_senders past))
-is_one_too_many past (CloneReceiver of new) = nat_lt handle_limit (length (live_receivers past))
-is_one_too_many past (UpgradeSender of new) = not (is_closed past) && nat_lt handle_limit (length (live_senders past))
-is_one_too_many past (UpgradeReceiver of new) =
-    not (is_closed past) && nat_lt handle_limit (length (live_receivers past))
-is_one_too_many past step = false
+abbrev pub is_one_too_many : {T : Type 0} → View T → Step T → Bool
+is_one_too_many view (CloneSender of new) = nat_lt handle_limit (length view.senders)
+is_one_too_many view (CloneReceiver of new) = nat_lt handle_limit (length view.receivers)
+is_one_too_many view (UpgradeSender of new) = not view.closed && nat_lt handle_limit (length view.senders)
+is_one_too_many view (UpgradeReceiver of new) =
+    not view.closed && nat_lt handle_limit (length view.receivers)
+is_one_too_many view step = false
 
 -- The first refusal that applies: a name that isn't live, then a new name that is live, then a handle
 -- that is borrowed, then one handle too many.
-abbrev pub refusal_of : {T : Type 0} → Past T → Step T → Option Refusal
-refusal_of past step =
-    if not (is_known past step) then Some Unknown
-    else if is_taken past step then Some Taken
-    else if is_borrowed past step then Some Borrowed
-    else if is_one_too_many past step then Some TooMany
+abbrev pub refusal_in : {T : Type 0} → View T → Step T → Option Refusal
+refusal_in view step =
+    if not (is_known view step) then Some Unknown
+    else if is_taken view step then Some Taken
+    else if is_borrowed view step then Some Borrowed
+    else if is_one_too_many view step then Some TooMany
     else None
+
+-- The refusal that applies behind this past.
+abbrev pub refusal_of : {T : Type 0} → Kind → Past T → Step T → Option Refusal
+refusal_of kind past step = refusal_in (view_of kind past) step

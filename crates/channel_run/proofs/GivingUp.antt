@@ -6,7 +6,7 @@ use Rattle.channel_model.specs.declared.step.Reply.TheVariants.{Done}
 use Rattle.event_list.specs.Keys.{is_among}
 use Rattle.channel_model.specs.Operations.{awaiting_close, is_awaiting, is_receive, is_unsent, operation_in, receiving, sending, without_operation}
 use Rattle.channel_model.specs.Rosters.{Roster, Rosters, arrive, hand_on, is_told, leave, tell_one, wait}
-use Rattle.channel_run.specs.StandsFor.{RunView}
+use Rattle.channel_model.specs.View.{View}
 use Rattle.channel_run.specs.RunSteps.{IsMade}
 use Rattle.channel_model.proofs.NameLists.{is_among-take, without-absent}
 use Rattle.channel_run.proofs.RunWants.{AreLiveIn, absent_if}
@@ -57,7 +57,7 @@ wait-when_absent name roster absent = ap (λ t. by_place name roster t (is_among
 
 -- ---- an operation of each kind is given up: it waits in the roster of its kind, if anywhere
 
-module _ {T : Type 0} (run : RunView T) (op : ℕ) (live : AreLiveIn run) where
+module _ {T : Type 0} (run : View T) (op : ℕ) (live : AreLiveIn run) where
   no_send : is_unsent (operation_in run.operations op) ≡ false → is_among op run.rosters.sends.names ≡ false
   no_send isnt = absent_if (is_among op run.rosters.sends.names) (is_unsent (operation_in run.operations op))
       (live.sends op) isnt

@@ -1,7 +1,7 @@
 pub mod LiveNames
 pub mod SameNames
 pub mod SameOperations
-pub mod RunAnswers
+pub mod AlikeViews
 pub mod Stepping
 pub mod WholeSteps
 pub mod MadeSteps

@@ -13,6 +13,7 @@ use Rattle.channel_model.specs.Closing.{is_closed}
 use Rattle.channel_model.specs.Legal.{IsLegal}
 use Rattle.channel_model.proofs.NameLists.{AreDifferent-without}
 use Rattle.channel_model.proofs.LookUps.{look_up, look_up-cons}
+use Rattle.channel_model.specs.View.{view_of}
 use Rattle.channel_model.proofs.WhoWaits.{allowed}
 use Rattle.channel_model.proofs.CoveredSteps.{IsCovered-IsLegal}
 
@@ -21,9 +22,9 @@ pub live_senders-AreDifferent : {T : Type 0} (kind : Kind) (past : Past T) → I
     → AreDifferent (live_senders past)
 live_senders-AreDifferent kind [] legal = (refl, tt)
 live_senders-AreDifferent kind ((CloneSender of new, reply) ∷ past) legal =
-    ((allowed past (CloneSender of new) legal.2).fresh, live_senders-AreDifferent kind past legal.0)
+    ((allowed (view_of kind past) (CloneSender of new) legal.2).fresh, live_senders-AreDifferent kind past legal.0)
 live_senders-AreDifferent kind ((UpgradeSender of new, Upgraded true) ∷ past) legal =
-    ((allowed past (UpgradeSender of new) legal.2).fresh, live_senders-AreDifferent kind past legal.0)
+    ((allowed (view_of kind past) (UpgradeSender of new) legal.2).fresh, live_senders-AreDifferent kind past legal.0)
 live_senders-AreDifferent kind ((DropSender name, reply) ∷ past) legal =
     AreDifferent-without name (live_senders past) (live_senders-AreDifferent kind past legal.0)
 live_senders-AreDifferent kind ((step, reply) ∷ past) legal = live_senders-AreDifferent kind past legal.0
@@ -32,9 +33,9 @@ pub live_receivers-AreDifferent : {T : Type 0} (kind : Kind) (past : Past T) →
     → AreDifferent (live_receivers past)
 live_receivers-AreDifferent kind [] legal = (refl, tt)
 live_receivers-AreDifferent kind ((CloneReceiver of new, reply) ∷ past) legal =
-    ((allowed past (CloneReceiver of new) legal.2).fresh, live_receivers-AreDifferent kind past legal.0)
+    ((allowed (view_of kind past) (CloneReceiver of new) legal.2).fresh, live_receivers-AreDifferent kind past legal.0)
 live_receivers-AreDifferent kind ((UpgradeReceiver of new, Upgraded true) ∷ past) legal =
-    ((allowed past (UpgradeReceiver of new) legal.2).fresh, live_receivers-AreDifferent kind past legal.0)
+    ((allowed (view_of kind past) (UpgradeReceiver of new) legal.2).fresh, live_receivers-AreDifferent kind past legal.0)
 live_receivers-AreDifferent kind ((DropReceiver name, reply) ∷ past) legal =
     AreDifferent-without name (live_receivers past) (live_receivers-AreDifferent kind past legal.0)
 live_receivers-AreDifferent kind ((step, reply) ∷ past) legal = live_receivers-AreDifferent kind past legal.0
@@ -43,9 +44,9 @@ pub live_weak_senders-AreDifferent : {T : Type 0} (kind : Kind) (past : Past T) 
     → AreDifferent (live_weak_senders past)
 live_weak_senders-AreDifferent kind [] legal = tt
 live_weak_senders-AreDifferent kind ((CloneWeakSender of new, reply) ∷ past) legal =
-    ((allowed past (CloneWeakSender of new) legal.2).fresh, live_weak_senders-AreDifferent kind past legal.0)
+    ((allowed (view_of kind past) (CloneWeakSender of new) legal.2).fresh, live_weak_senders-AreDifferent kind past legal.0)
 live_weak_senders-AreDifferent kind ((DowngradeSender of new, reply) ∷ past) legal =
-    ((allowed past (DowngradeSender of new) legal.2).fresh, live_weak_senders-AreDifferent kind past legal.0)
+    ((allowed (view_of kind past) (DowngradeSender of new) legal.2).fresh, live_weak_senders-AreDifferent kind past legal.0)
 live_weak_senders-AreDifferent kind ((DropWeakSender name, reply) ∷ past) legal =
     AreDifferent-without name (live_weak_senders past) (live_weak_senders-AreDifferent kind past legal.0)
 live_weak_senders-AreDifferent kind ((step, reply) ∷ past) legal = live_weak_senders-AreDifferent kind past legal.0
@@ -54,9 +55,9 @@ pub live_weak_receivers-AreDifferent : {T : Type 0} (kind : Kind) (past : Past T
     → AreDifferent (live_weak_receivers past)
 live_weak_receivers-AreDifferent kind [] legal = tt
 live_weak_receivers-AreDifferent kind ((CloneWeakReceiver of new, reply) ∷ past) legal =
-    ((allowed past (CloneWeakReceiver of new) legal.2).fresh, live_weak_receivers-AreDifferent kind past legal.0)
+    ((allowed (view_of kind past) (CloneWeakReceiver of new) legal.2).fresh, live_weak_receivers-AreDifferent kind past legal.0)
 live_weak_receivers-AreDifferent kind ((DowngradeReceiver of new, reply) ∷ past) legal =
-    ((allowed past (DowngradeReceiver of new) legal.2).fresh, live_weak_receivers-AreDifferent kind past legal.0)
+    ((allowed (view_of kind past) (DowngradeReceiver of new) legal.2).fresh, live_weak_receivers-AreDifferent kind past legal.0)
 live_weak_receivers-AreDifferent kind ((DropWeakReceiver name, reply) ∷ past) legal =
     AreDifferent-without name (live_weak_receivers past) (live_weak_receivers-AreDifferent kind past legal.0)
 live_weak_receivers-AreDifferent kind ((step, reply) ∷ past) legal = live_weak_receivers-AreDifferent kind past legal.0
@@ -107,17 +108,17 @@ pub live_operations-AreDifferent : {T : Type 0} (kind : Kind) (past : Past T) �
     → AreDifferent (names_of (live_operations past))
 live_operations-AreDifferent kind [] legal = tt
 live_operations-AreDifferent kind ((StartSend op sender message, reply) ∷ past) legal = (
-  fresh_name past op (allowed past (StartSend op sender message) legal.2).fresh,
+  fresh_name past op (allowed (view_of kind past) (StartSend op sender message) legal.2).fresh,
   live_operations-AreDifferent kind
       past legal.0,
 )
 live_operations-AreDifferent kind ((StartRecv op receiver, reply) ∷ past) legal = (
-  fresh_name past op (allowed past (StartRecv op receiver) legal.2).fresh,
+  fresh_name past op (allowed (view_of kind past) (StartRecv op receiver) legal.2).fresh,
   live_operations-AreDifferent kind past
       legal.0,
 )
 live_operations-AreDifferent kind ((StartClosed op sender, reply) ∷ past) legal = (
-  fresh_name past op (allowed past (StartClosed op sender) legal.2).fresh,
+  fresh_name past op (allowed (view_of kind past) (StartClosed op sender) legal.2).fresh,
   live_operations-AreDifferent kind past
       legal.0,
 )

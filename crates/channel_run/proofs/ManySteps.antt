@@ -6,7 +6,8 @@ use Rattle.channel_model.specs.declared.step.Reply.{Reply}
 use Rattle.channel_model.specs.Past.{Past}
 use Rattle.channel_model.specs.Messages.{accepted_messages, taken_messages}
 use Rattle.channel_model.specs.Answers.{AreAnswers, IsAnswer, past_after}
-use Rattle.channel_run.specs.StandsFor.{RunView, StandsFor}
+use Rattle.channel_model.specs.View.{View}
+use Rattle.channel_run.specs.StandsFor.{StandsFor}
 use Rattle.channel_model.proofs.Conserved.{accepted_messages-IsLegal}
 
 -- one step more, answered behind the past that the others left
@@ -34,7 +35,7 @@ length-AreAnswers kind past (first ∷ steps) (other ∷ replies) after answers 
     ap suc (length-AreAnswers kind (past_after past first other) steps replies after answers.1)
 
 -- What was accepted is what was taken, followed by what the run holds.
-pub conserved-StandsFor : {T : Type 0} (kind : Kind) (past : Past T) (run : RunView T) → StandsFor kind past run
+pub conserved-StandsFor : {T : Type 0} (kind : Kind) (past : Past T) (run : View T) → StandsFor kind past run
     → accepted_messages past ≡ taken_messages past ++ run.messages
 conserved-StandsFor {T} kind past run stands = accepted_messages-IsLegal kind past stands.legal
-    ∙ ap (λ (held : List T). taken_messages past ++ held) (sym stands.messages)
+    ∙ ap (λ (held : List T). taken_messages past ++ held) (sym stands.shows.messages)

@@ -14,12 +14,14 @@ use Rattle.channel_core.specs.Channel.{Change, Channel, accepting, closing, forc
 use Rattle.channel_model.specs.Closing.{has_none}
 use Rattle.channel_model.specs.Handles.{without}
 use Rattle.channel_core.specs.Queue.{is_full}
-use Rattle.channel_model.specs.Replies.{force_send_reply}
+use Rattle.channel_model.specs.Replies.{is_full_in}
 use Rattle.channel_model.specs.Tables.{force_send_answer, try_recv_answer, try_send_answer}
 use Rattle.channel_model.specs.Rosters.{Roster, Rosters}
-use Rattle.channel_run.specs.StandsFor.{RunView}
-use Rattle.channel_run.specs.RunSteps.{IsMade, full_at, is_full_in}
+use Rattle.channel_model.specs.View.{View}
+use Rattle.channel_model.specs.Capacity.{full_at}
+use Rattle.channel_run.specs.RunSteps.{IsMade}
 use Rattle.channel_run.specs.RunShown.{IsWhole, closed_ticket, recv_ticket, rosters_shown, send_ticket, shown, stream_ticket, ticket_at}
+use Rattle.channel_model.proofs.ReplyForms.{force_send_reply}
 use Rattle.channel_run.proofs.Holding.{Holds, holds-refl, holds-told_all, holds-told_one}
 use Rattle.channel_run.proofs.SameNames.{has_none-length}
 use Rattle.channel_run.proofs.WholeSteps.{AreAlike-refl}
@@ -75,13 +77,13 @@ module _ {T W : Type 0} where
       fits.fits_closeds.shows
 
   -- The step was made, and what the run keeps now fits together.
-  pub record Stepped (run : RunView T) (step : Step T) (reply : Reply T) (core : Channel T W) (senders : List ℕ)
+  pub record Stepped (run : View T) (step : Step T) (reply : Reply T) (core : Channel T W) (senders : List ℕ)
       (receivers : List (ℕ × Option ℕ)) (weak_senders weak_receivers : List ℕ)
       (operations : List (ℕ × Started T)) : Type 0 where
     pub whole : IsWhole core senders receivers operations
     pub made : IsMade run step reply (shown core senders receivers weak_senders weak_receivers operations)
 
-  pub stepped : (run : RunView T) (step : Step T) (reply : Reply T) (core : Channel T W) (senders : List ℕ)
+  pub stepped : (run : View T) (step : Step T) (reply : Reply T) (core : Channel T W) (senders : List ℕ)
       (receivers : List (ℕ × Option ℕ)) (weak_senders weak_receivers : List ℕ) (operations : List (ℕ × Started T))
       (all : Rosters)
       → Fits core senders receivers operations all
@@ -160,7 +162,7 @@ module _ {T W : Type 0} where
   -- ---- the steps without a ticket
 
   module _ (core : Channel T W) (senders : List ℕ) (receivers : List (ℕ × Option ℕ)) (weak_senders weak_receivers : List ℕ) (operations : List (ℕ × Started T)) (whole : IsWhole core senders receivers operations) where
-    abbrev pub run : RunView T
+    abbrev pub run : View T
     run = shown core senders receivers weak_senders weak_receivers operations
 
     abbrev all : Rosters

@@ -13,20 +13,20 @@ use Rattle.event_list.specs.Keys.{AreDifferent, is_among}
 use Rattle.channel_model.specs.Past.{Past}
 use Rattle.channel_model.specs.Handles.{live_receivers, live_senders, without}
 use Rattle.channel_model.specs.Operations.{Operation, names_of, awaiting_close, finished, is_awaiting, is_receive, is_unsent, operation_of, receiving, sending, with_finished, without_operation}
-use Rattle.channel_model.specs.Messages.{held_messages}
-use Rattle.channel_model.specs.Capacity.{capacity_of}
-use Rattle.channel_model.specs.Closing.{has_none, is_closed}
+use Rattle.channel_model.specs.Closing.{has_none}
 use Rattle.channel_model.specs.Rosters.{Roster, Rosters, notice_in}
 use Rattle.channel_model.specs.Notices.{notice_of, rosters}
 use Rattle.channel_model.specs.Covered.{IsCovered, Standing}
-use Rattle.channel_model.specs.Standing.{standing_of, waiters_of}
+use Rattle.channel_model.specs.Standing.{standing_in}
 use Rattle.channel_model.specs.Laws.{AreLive}
-use Rattle.channel_run.specs.StandsFor.{AreSameNames, AreSameOperations, RunView, StandsFor}
-use Rattle.channel_run.specs.RunSteps.{AreAlike, notice_of_operation, notice_shown}
+use Rattle.channel_model.specs.View.{AreSameNames, AreSameOperations, View, AreAlike, view_of}
+use Rattle.channel_run.specs.StandsFor.{StandsFor}
+use Rattle.channel_run.specs.RunSteps.{notice_of_operation, notice_shown}
 use Rattle.channel_model.proofs.NameLists.{is_among-take, length-without}
 use Rattle.channel_model.proofs.LookUps.{look_up}
 use Rattle.channel_model.proofs.CoveredSteps.{IsCovered-IsLegal}
 use Rattle.channel_model.proofs.WhoWaits.{AreLive-IsLegal}
+use Rattle.channel_run.proofs.AlikeViews.{standing_in-AreAlike}
 use Rattle.channel_run.proofs.LiveNames.{live_senders-AreDifferent, live_receivers-AreDifferent, some_sender, some_receiver, is_some-look_up, names_of-without_operation}
 use Rattle.channel_run.proofs.SameNames.{AreSameNames-refl, is_among-without_is, has_none-length, length-without_same}
 use Rattle.std.proofs.lemmas.List.{length-map}
@@ -36,27 +36,27 @@ use Rattle.channel_model.proofs.LookUps.{look_up-without, look_up-with_finished,
 -- ---- counts
 
 -- a live sender is given up: one fewer is left
-pub senders-fewer : {T : Type 0} (kind : Kind) (past : Past T) (run : RunView T) (name : ℕ) → StandsFor kind past run
+pub senders-fewer : {T : Type 0} (kind : Kind) (past : Past T) (run : View T) (name : ℕ) → StandsFor kind past run
     → is_among name run.senders ≡ true → length run.senders ≡ suc (length (without name run.senders))
 senders-fewer kind past run name stands among =
     length-without_same run.senders (live_senders past) name
-    (live_senders-AreDifferent kind past stands.legal) stands.senders among
+    (live_senders-AreDifferent kind past stands.legal) stands.shows.senders among
 
-pub receivers-fewer : {T : Type 0} (kind : Kind) (past : Past T) (run : RunView T) (name : ℕ) → StandsFor kind past run
+pub receivers-fewer : {T : Type 0} (kind : Kind) (past : Past T) (run : View T) (name : ℕ) → StandsFor kind past run
     → is_among name run.receivers ≡ true → length run.receivers ≡ suc (length (without name run.receivers))
 receivers-fewer kind past run name stands among =
     length-without_same run.receivers (live_receivers past) name
-    (live_receivers-AreDifferent kind past stands.legal) stands.receivers among
+    (live_receivers-AreDifferent kind past stands.legal) stands.shows.receivers among
 
 -- by the number that is left it shows whether it was the last
-pub last_sender : {T : Type 0} (kind : Kind) (past : Past T) (run : RunView T) (name : ℕ) → StandsFor kind past run
+pub last_sender : {T : Type 0} (kind : Kind) (past : Past T) (run : View T) (name : ℕ) → StandsFor kind past run
     → is_among name run.senders ≡ true → has_none (without name run.senders) ≡ (length run.senders - 1 == 0)
 last_sender kind past run name stands among =
     let fewer = senders-fewer kind past run name stands among in
     let left : length (without name run.senders) ≡ length run.senders - 1 = omega arith in
     has_none-length (without name run.senders) ∙ ap (λ count. count == 0) left
 
-pub last_receiver : {T : Type 0} (kind : Kind) (past : Past T) (run : RunView T) (name : ℕ) → StandsFor kind past run
+pub last_receiver : {T : Type 0} (kind : Kind) (past : Past T) (run : View T) (name : ℕ) → StandsFor kind past run
     → is_among name run.receivers ≡ true → has_none (without name run.receivers) ≡ (length run.receivers - 1 == 0)
 last_receiver kind past run name stands among =
     let fewer = receivers-fewer kind past run name stands among in
@@ -64,56 +64,24 @@ last_receiver kind past run name stands among =
     has_none-length (without name run.receivers) ∙ ap (λ count. count == 0) left
 
 -- an open run has a sender and a receiver
-pub some_sender_shown : {T : Type 0} (kind : Kind) (past : Past T) (run : RunView T) → StandsFor kind past run
+pub some_sender_shown : {T : Type 0} (kind : Kind) (past : Past T) (run : View T) → StandsFor kind past run
     → run.closed ≡ false → 0 < length run.senders
-some_sender_shown kind past run stands opened = let same = stands.senders.count in
-    let some = some_sender kind past stands.legal (sym stands.closed ∙ opened) in omega arith
+some_sender_shown kind past run stands opened = let same = stands.shows.senders.count in
+    let some = some_sender kind past stands.legal (sym stands.shows.closed ∙ opened) in omega arith
 
-pub some_receiver_shown : {T : Type 0} (kind : Kind) (past : Past T) (run : RunView T) → StandsFor kind past run
+pub some_receiver_shown : {T : Type 0} (kind : Kind) (past : Past T) (run : View T) → StandsFor kind past run
     → run.closed ≡ false → 0 < length run.receivers
-some_receiver_shown kind past run stands opened = let same = stands.receivers.count in
-    let some = some_receiver kind past stands.legal (sym stands.closed ∙ opened) in omega arith
+some_receiver_shown kind past run stands opened = let same = stands.shows.receivers.count in
+    let some = some_receiver kind past stands.legal (sym stands.shows.closed ∙ opened) in omega arith
 
 -- ---- the law of notices
 
--- the numbers of a channel with these parts
-abbrev standing : Option ℕ → ℕ → Bool → ℕ → ℕ → Rosters → Standing
-standing capacity held closed senders receivers all = record {
-  capacity = capacity;
-  held = held;
-  closed = closed;
-  senders = senders;
-  receivers = receivers;
-  sends = waiters_of all.sends;
-  receives = waiters_of all.receives;
-  streams = waiters_of all.streams;
-  closeds = waiters_of all.closeds;
-}
-
-abbrev pub standing_shown : {T : Type 0} → RunView T → Standing
-standing_shown run = standing run.capacity (length run.messages) run.closed (length run.senders)
-    (length run.receivers) run.rosters
-
 -- Whoever waits untold in a run could not go on, or enough others were told.
-pub IsCovered-StandsFor : {T : Type 0} (kind : Kind) (past : Past T) (run : RunView T) → StandsFor kind past run
-    → IsCovered (standing_shown run)
-IsCovered-StandsFor {T} kind past run stands =
-    subst (λ (standing : Standing). IsCovered standing) (sym same) (IsCovered-IsLegal kind past stands.legal)
-  where
-    same : standing_shown run ≡ standing_of kind past
-    same =
-        ap (λ (capacity : Option ℕ). standing capacity (length run.messages) run.closed (length run.senders)
-        (length run.receivers) run.rosters) stands.capacity
-        ∙ ap (λ (messages : List T). standing (capacity_of kind) (length messages) run.closed (length run.senders)
-        (length run.receivers) run.rosters) stands.messages
-        ∙ ap (λ (closed : Bool). standing (capacity_of kind) (length (held_messages past)) closed (length run.senders)
-        (length run.receivers) run.rosters) stands.closed
-        ∙ ap (λ (count : ℕ). standing (capacity_of kind) (length (held_messages past)) (is_closed past) count
-        (length run.receivers) run.rosters) stands.senders.count
-        ∙ ap (λ (count : ℕ). standing (capacity_of kind) (length (held_messages past)) (is_closed past)
-        (length (live_senders past)) count run.rosters) stands.receivers.count
-        ∙ ap (λ (all : Rosters). standing (capacity_of kind) (length (held_messages past)) (is_closed past)
-        (length (live_senders past)) (length (live_receivers past)) all) stands.rosters
+pub IsCovered-StandsFor : {T : Type 0} (kind : Kind) (past : Past T) (run : View T) → StandsFor kind past run
+    → IsCovered (standing_in run)
+IsCovered-StandsFor kind past run stands =
+    subst (λ (standing : Standing). IsCovered standing)
+    (sym (standing_in-AreAlike run (view_of kind past) stands.shows)) (IsCovered-IsLegal kind past stands.legal)
 
 -- ---- notices
 
@@ -149,7 +117,7 @@ in_closeds true receives a b c s r = cc
 in_closeds false true a b c s r = cc
 in_closeds false false a b c s r = refl
 
-notice_of_op : {T : Type 0} (kind : Kind) (past : Past T) (run : RunView T) (op : ℕ) (operation : Option (Operation T))
+notice_of_op : {T : Type 0} (kind : Kind) (past : Past T) (run : View T) (op : ℕ) (operation : Option (Operation T))
     → StandsFor kind past run → operation_of past op ≡ operation
     → notice_of past (Op op) ≡ notice_of_operation (rosters past) op operation
 notice_of_op {T} kind past run op operation stands o = go operation o
@@ -201,23 +169,23 @@ notice_of_op {T} kind past run op operation stands o = go operation o
         in_closeds sends receives a b c (no_send (ap is_unsent e)) (no_receive (ap is_receive e))
 
 -- Whether somebody waits and was told shows in the roster of its kind.
-pub notice_shown-StandsFor : {T : Type 0} (kind : Kind) (past : Past T) (run : RunView T) (who : Who)
+pub notice_shown-StandsFor : {T : Type 0} (kind : Kind) (past : Past T) (run : View T) (who : Who)
     → StandsFor kind past run → notice_shown run who ≡ notice_of past who
 notice_shown-StandsFor {T} kind past run (Op op) stands =
-    ap (λ (all : Rosters). notice_of_operation all op (look_up op run.operations)) stands.rosters
+    ap (λ (all : Rosters). notice_of_operation all op (look_up op run.operations)) stands.shows.rosters
     ∙ ap (λ (operation : Option (Operation T)). notice_of_operation (rosters past) op operation)
-    (stands.operations.each op)
+    (stands.shows.operations.each op)
     ∙ sym (notice_of_op kind past run op (operation_of past op) stands refl)
 notice_shown-StandsFor kind past run (Receiver receiver) stands =
-    ap (λ (all : Rosters). notice_in receiver all.streams) stands.rosters
+    ap (λ (all : Rosters). notice_in receiver all.streams) stands.shows.rosters
 
 -- the stream of no live receiver waits
-pub notice_of-no_receiver : {T : Type 0} (kind : Kind) (past : Past T) (run : RunView T) (receiver : ℕ)
+pub notice_of-no_receiver : {T : Type 0} (kind : Kind) (past : Past T) (run : View T) (receiver : ℕ)
     → StandsFor kind past run → is_among receiver run.receivers ≡ false → notice_of past (Receiver receiver) ≡ Absent
 notice_of-no_receiver kind past run receiver stands none =
     notice_absent receiver (rosters past).streams
     (absent_if (is_among receiver (rosters past).streams.names) (is_among receiver (live_receivers past))
-    ((AreLive-IsLegal kind past stands.legal).streams receiver) (sym (stands.receivers.each receiver) ∙ none))
+    ((AreLive-IsLegal kind past stands.legal).streams receiver) (sym (stands.shows.receivers.each receiver) ∙ none))
 
 -- ---- lists that were changed in some other order
 
@@ -329,7 +297,7 @@ AreSameOperations-removed operations others op once there count here elsewhere =
 
 -- ---- runs that differ in the order of one list
 
-pub alike-senders : {T : Type 0} (run : RunView T) (names others : List ℕ) → AreSameNames names others
+pub alike-senders : {T : Type 0} (run : View T) (names others : List ℕ) → AreSameNames names others
     → AreAlike (record run { senders = names }) (record run { senders = others })
 alike-senders run names others same = record {
   capacity = refl;
@@ -343,7 +311,7 @@ alike-senders run names others same = record {
   rosters = refl;
 }
 
-pub alike-receivers : {T : Type 0} (run : RunView T) (names others : List ℕ) → AreSameNames names others
+pub alike-receivers : {T : Type 0} (run : View T) (names others : List ℕ) → AreSameNames names others
     → AreAlike (record run { receivers = names }) (record run { receivers = others })
 alike-receivers run names others same = record {
   capacity = refl;
@@ -357,7 +325,7 @@ alike-receivers run names others same = record {
   rosters = refl;
 }
 
-pub alike-weak_senders : {T : Type 0} (run : RunView T) (names others : List ℕ) → AreSameNames names others
+pub alike-weak_senders : {T : Type 0} (run : View T) (names others : List ℕ) → AreSameNames names others
     → AreAlike (record run { weak_senders = names }) (record run { weak_senders = others })
 alike-weak_senders run names others same = record {
   capacity = refl;
@@ -371,7 +339,7 @@ alike-weak_senders run names others same = record {
   rosters = refl;
 }
 
-pub alike-weak_receivers : {T : Type 0} (run : RunView T) (names others : List ℕ) → AreSameNames names others
+pub alike-weak_receivers : {T : Type 0} (run : View T) (names others : List ℕ) → AreSameNames names others
     → AreAlike (record run { weak_receivers = names }) (record run { weak_receivers = others })
 alike-weak_receivers run names others same = record {
   capacity = refl;
@@ -385,7 +353,7 @@ alike-weak_receivers run names others same = record {
   rosters = refl;
 }
 
-pub alike-operations : {T : Type 0} (run : RunView T) (operations others : List (ℕ × Operation T))
+pub alike-operations : {T : Type 0} (run : View T) (operations others : List (ℕ × Operation T))
     → AreSameOperations operations others → AreAlike (record run { operations = operations })
     (record run { operations = others })
 alike-operations run operations others same = record {

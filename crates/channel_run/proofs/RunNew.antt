@@ -10,8 +10,8 @@ use Rattle.channel_model.specs.Capacity.{HasPositiveCapacity, capacity_of}
 use Rattle.channel_core.specs.Channel.{new_channel}
 use Rattle.channel_model.specs.Rosters as rosters
 use Rattle.channel_run.specs.StandsFor.{StandsFor}
-use Rattle.channel_run.specs.RunSteps.{new_run}
 use Rattle.channel_run.specs.RunShown.{AreHeld, Changed, IsWhole, roster_of, rosters_shown, shown, stream_ticket, ticket_at, recv_ticket, closed_ticket}
+use Rattle.channel_model.specs.View.{view_of}
 use Rattle.channel_run.proofs.RunTables.{names-inserted}
 use Rattle.channel_run.proofs.SameNames.{AreSameNames-refl}
 use Rattle.channel_run.proofs.SameOperations.{AreSameOperations-refl}
@@ -53,7 +53,7 @@ module _ (T W : Type 0) (kind : Kind) (receivers : List (ℕ × Option ℕ)) (ch
 
   pub stands-new : HasPositiveCapacity kind
       → StandsFor {T = T} kind [] (shown {T = T} {W = W} (new_channel (capacity_of kind)) (0 ∷ []) receivers [] [] [])
-  stands-new positive = StandsFor-AreAlike kind [] (new_run kind)
+  stands-new positive = StandsFor-AreAlike kind [] (view_of kind [])
       (shown {T = T} {W = W} (new_channel (capacity_of kind)) (0 ∷ []) receivers [] [] [])
       (StandsFor-new T kind positive) (record {
         capacity = refl;

@@ -7,7 +7,6 @@ use Rattle.channel_run.specs.declared.operations.Operation.TheVariants.{Send, Re
 use Rattle.channel_model.specs.declared.step.Who.TheVariants.{Op, Receiver}
 use Rattle.channel_core.specs.Channel.{Channel}
 use Rattle.channel_model.specs.Operations.{Operation}
-use Rattle.channel_run.specs.StandsFor.{RunView}
 use Rattle.channel_run.specs.RunSteps.{notice_of_operation, notice_shown}
 use Rattle.channel_run.proofs.Entries.{operation_in-entry_at}
 use Rattle.event_list.specs.Keys.{is_among}
@@ -15,6 +14,7 @@ use Rattle.event_list.specs.Waiting.{Waiting, keys, untold_keys}
 use Rattle.event_list.proofs.Splits.{is_among-append}
 use Rattle.channel_model.specs.declared.step.Notice.TheVariants.{Absent, Told, Untold}
 use Rattle.channel_model.specs.Rosters.{notice_in}
+use Rattle.channel_model.specs.View.{View}
 use Rattle.channel_run.specs.RunShown.{AreHeld, IsWhole, closed_ticket, entry_at, notice_at, notice_by_mark, operation_shown, recv_ticket, roster_of, send_ticket, shown, stream_ticket, ticket_at}
 use Rattle.channel_run.proofs.Holding.{absent-Holds, holds-refl, is_told-key, key_roster, keyed}
 use Rattle.channel_run.proofs.KeyedRosters.{notice_in-keyed}
@@ -50,7 +50,7 @@ notice-held ticket_of names list each name (Some key) has =
 -- ---- what a run shows of each who may wait
 
 module _ {T W : Type 0} (core : Channel T W) (senders : List ℕ) (receivers : List (ℕ × Option ℕ)) (weak_senders weak_receivers : List ℕ) (operations : List (ℕ × Started T)) (whole : IsWhole core senders receivers operations) where
-  abbrev pub run : RunView T
+  abbrev pub run : View T
   run = shown core senders receivers weak_senders weak_receivers operations
 
   of_operation : (op : ℕ) (found : Option (Started T)) → entry_at operations op ≡ found

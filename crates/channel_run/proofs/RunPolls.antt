@@ -26,8 +26,10 @@ use Rattle.channel_core.specs.Tickets.{Waits, left, waits}
 use Rattle.channel_model.specs.Operations.{Operation, operation_in, with_finished}
 use Rattle.channel_model.specs.Operations as model
 use Rattle.channel_model.specs.Rosters.{Roster, Rosters, leave, wait}
-use Rattle.channel_run.specs.StandsFor.{AreSameOperations, RunView}
-use Rattle.channel_run.specs.RunSteps.{AreAlike, IsMade, StepsTo, may_want_memory_in, polls_newcomer_in, refusal_in}
+use Rattle.channel_model.specs.View.{AreSameOperations, View, AreAlike}
+use Rattle.channel_model.specs.Memory.{may_want_memory_in, polls_newcomer}
+use Rattle.channel_model.specs.Refusals.{refusal_in}
+use Rattle.channel_run.specs.RunSteps.{IsMade, StepsTo}
 use Rattle.channel_run.specs.RunShown.{Changed, IsWhole, closed_ticket, entry_at, operation_shown, recv_ticket, rosters_shown, send_ticket, shown, ticket_at}
 use Rattle.channel_run.proofs.Entries.{operation_in-entry_at}
 use Rattle.channel_run.proofs.Holding.{Holds, absent-Holds, absent-newcomer, holds-left, holds-waits}
@@ -56,7 +58,7 @@ pub is_there : {X : Type 0} (found : Option X) (entry : X) → found ≡ Some en
 is_there found entry e = rw e refl
 
 -- What a step did, and that what the run keeps fits together.
-pub record Outcome {T W : Type 0} (run : RunView T) (step : Step T) (reply : Reply T) (core : Channel T W)
+pub record Outcome {T W : Type 0} (run : View T) (step : Step T) (reply : Reply T) (core : Channel T W)
     (senders : List ℕ) (receivers : List (ℕ × Option ℕ)) (weak_senders weak_receivers : List ℕ)
     (operations : List (ℕ × Started T)) : Type 0 where
   pub whole : IsWhole core senders receivers operations
@@ -64,7 +66,7 @@ pub record Outcome {T W : Type 0} (run : RunView T) (step : Step T) (reply : Rep
 
 module _ {T W : Type 0} (core : Channel T W) (senders : List ℕ) (receivers : List (ℕ × Option ℕ)) (weak_senders weak_receivers : List ℕ) (operations operations' : List (ℕ × Started T)) (whole : IsWhole core senders receivers operations)
     (op : ℕ) (same : length operations' ≡ length operations) where
-  abbrev run : RunView T
+  abbrev run : View T
   run = shown core senders receivers weak_senders weak_receivers operations
 
   abbrev all : Rosters
@@ -280,7 +282,7 @@ module _ {T W : Type 0} (core : Channel T W) (senders : List ℕ) (receivers : L
             at : operation_in (operations_shown operations) op ≡ Some (model.sending sender (Some m))
             at = live ∙ ap (λ (x : Option T). Some (model.sending sender x)) e
 
-            newcomer : polls_newcomer_in run (Poll op) ≡ true
+            newcomer : polls_newcomer run (Poll op) ≡ true
             newcomer =
                 none_of (is_among op all.sends.names) (is_among op all.receives.names) (is_among op all.closeds.names)
                 (model.is_finished_send (operation_in (operations_shown operations) op))
@@ -467,7 +469,7 @@ module _ {T W : Type 0} (core : Channel T W) (senders : List ℕ) (receivers : L
             run) (sym (shows-Fits core senders receivers operations' all same_fits))
             (alike-operations run (operations_shown operations') (operations_shown operations) same-recv)
 
-        newcomer : polls_newcomer_in run (Poll op) ≡ true
+        newcomer : polls_newcomer run (Poll op) ≡ true
         newcomer =
             none_of (is_among op all.sends.names) (is_among op all.receives.names) (is_among op all.closeds.names)
             (model.is_finished_send (operation_in (operations_shown operations) op))
@@ -642,7 +644,7 @@ module _ {T W : Type 0} (core : Channel T W) (senders : List ℕ) (receivers : L
             run) (sym (shows-Fits core senders receivers operations' all same_fits))
             (alike-operations run (operations_shown operations') (operations_shown operations) same-closed)
 
-        newcomer : polls_newcomer_in run (Poll op) ≡ true
+        newcomer : polls_newcomer run (Poll op) ≡ true
         newcomer =
             none_of (is_among op all.sends.names) (is_among op all.receives.names) (is_among op all.closeds.names)
             (model.is_finished_send (operation_in (operations_shown operations) op))

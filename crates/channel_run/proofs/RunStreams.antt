@@ -17,8 +17,10 @@ use Rattle.channel_model.specs.Tables.{OnReady, OnWait, next_poll}
 use Rattle.channel_model.specs.Replies.{is_pending}
 use Rattle.channel_core.specs.Tickets.{Waits, left}
 use Rattle.channel_model.specs.Rosters.{Roster, Rosters, leave, wait}
-use Rattle.channel_run.specs.StandsFor.{AreSameNames, RunView}
-use Rattle.channel_run.specs.RunSteps.{AreAlike, IsMade, StepsAsAllowed, StepsTo, polls_newcomer_in, refusal_in}
+use Rattle.channel_model.specs.View.{AreSameNames, View, AreAlike}
+use Rattle.channel_model.specs.Memory.{polls_newcomer}
+use Rattle.channel_model.specs.Refusals.{refusal_in}
+use Rattle.channel_run.specs.RunSteps.{IsMade, StepsAsAllowed, StepsTo}
 use Rattle.channel_run.specs.RunShown.{Changed, IsWhole, entry_at, rosters_shown, shown, stream_ticket, ticket_at}
 use Rattle.channel_run.proofs.Holding.{Holds, absent-newcomer, holds-left, holds-same, holds-waits}
 use Rattle.channel_run.proofs.MadeSteps.{made-poll_next_end, made-poll_next_pending, made-poll_next_taken, received_told}
@@ -31,13 +33,13 @@ use Rattle.channel_run.proofs.SameNames.{AreSameNames-refl}
 use Rattle.channel_run.proofs.WholeSteps.{IsMade-AreAlike, StepsTo-made, StepsTo-wants}
 
 -- What a poll did, and that what the run keeps fits together.
-pub record Polls {T W : Type 0} (run : RunView T) (step : Step T) (reply : Reply T) (core : Channel T W)
+pub record Polls {T W : Type 0} (run : View T) (step : Step T) (reply : Reply T) (core : Channel T W)
     (senders : List ℕ) (receivers : List (ℕ × Option ℕ)) (weak_senders weak_receivers : List ℕ)
     (operations : List (ℕ × Started T)) : Type 0 where
   pub whole : IsWhole core senders receivers operations
   pub polls : StepsAsAllowed run step reply (shown core senders receivers weak_senders weak_receivers operations)
 
-pub StepsTo-allowed : {T : Type 0} (run after : RunView T) (step : Step T) (reply : Reply T)
+pub StepsTo-allowed : {T : Type 0} (run after : View T) (step : Step T) (reply : Reply T)
     → refusal_in run step ≡ None → StepsAsAllowed run step reply after → StepsTo run step reply after
 StepsTo-allowed run after step reply allowed (inl made) = StepsTo-made run after step reply allowed made
 StepsTo-allowed run after step reply allowed (inr wanted) =
@@ -47,7 +49,7 @@ module _ {T W : Type 0} (core : Channel T W) (senders : List ℕ) (receivers rec
     (name : ℕ) (names : keys_of receivers' ≡ keys_of receivers) (same : length receivers' ≡ length receivers)
     (ticket ticket' : Option ℕ) (was : entry_at receivers name ≡ Some ticket)
     (change : Changed name receivers receivers' (Some ticket')) where
-  abbrev run : RunView T
+  abbrev run : View T
   run = shown core senders receivers weak_senders weak_receivers operations
 
   abbrev all : Rosters
@@ -180,7 +182,7 @@ module _ {T W : Type 0} (core : Channel T W) (senders : List ℕ) (receivers rec
           (sym (shows-Fits core senders receivers' operations all same_fits))
           (alike-receivers run (keys_of receivers') (keys_of receivers) same-names)
 
-      newcomer : polls_newcomer_in run (PollNext name) ≡ true
+      newcomer : polls_newcomer run (PollNext name) ≡ true
       newcomer = ap (λ among. not among) (absent-newcomer (ticket_at stream_ticket receivers)
           (keys_of receivers) core.streams all.streams is.fits_streams name ticket had begins.1)
 

@@ -25,8 +25,8 @@ use Rattle.channel_model.specs.Rosters.{Rosters, hand_on, leave}
 use Rattle.channel_model.specs.declared.step.Step.{Step}
 use Rattle.channel_model.specs.declared.step.Reply.{Reply}
 use Rattle.channel_model.specs.declared.step.Reply.TheVariants.{Done}
+use Rattle.channel_model.specs.View.{AreSameNames, AreSameOperations, View}
 use Rattle.channel_run.specs.RunSteps.{IsMade}
-use Rattle.channel_run.specs.StandsFor.{AreSameNames, AreSameOperations, RunView}
 use Rattle.channel_run.specs.RunShown.{Changed, IsWhole, rosters_shown, shown, closed_ticket, entry_at, operation_shown, recv_ticket, send_ticket, stream_ticket, ticket_at}
 use Rattle.channel_run.proofs.Entries.{is_among-entry_at, is_eq-nat_cmp, is_some-shown, operation_in-entry_at}
 use Rattle.channel_run.proofs.Holding.{Holds, holds-handed_on, holds-left, holds-same, holds-told_all}
@@ -254,7 +254,7 @@ nothing_at {X} entries name e = go (entry_at entries name) e
     go (Some entry) e = cc
 
 module _ {T W : Type 0} (core : Channel T W) (senders : List ℕ) (receivers : List (ℕ × Option ℕ)) (weak_senders weak_receivers : List ℕ) (operations : List (ℕ × Started T)) (whole : IsWhole core senders receivers operations) where
-  abbrev here : RunView T
+  abbrev here : View T
   here = shown core senders receivers weak_senders weak_receivers operations
 
   abbrev waiting : Rosters
@@ -332,7 +332,7 @@ upgraded-count false count e small = rw (one_more count small) refl
 module _ {T W : Type 0} (core : Channel T W) (senders : List ℕ) (receivers receivers' : List (ℕ × Option ℕ)) (weak_senders weak_receivers : List ℕ) (operations : List (ℕ × Started T)) (whole : IsWhole core senders receivers operations) (name : ℕ)
     (once : AreDifferent (keys_of receivers)) (there : is_among name (keys_of receivers) ≡ true)
     (change : Changed name receivers receivers' None) (fewer : length receivers ≡ suc (length receivers')) where
-  abbrev before : RunView T
+  abbrev before : View T
   before = shown core senders receivers weak_senders weak_receivers operations
 
   left_names : AreSameNames (keys_of receivers') (without name (keys_of receivers))
@@ -458,7 +458,7 @@ module _ {T W : Type 0} (core : Channel T W) (senders : List ℕ) (receivers rec
 module _ {T W : Type 0} (core : Channel T W) (senders : List ℕ) (receivers : List (ℕ × Option ℕ)) (weak_senders weak_receivers : List ℕ) (operations operations' : List (ℕ × Started T)) (whole : IsWhole core senders receivers operations) (op : ℕ)
     (once : AreDifferent (keys_of operations)) (there : is_some (entry_at operations op) ≡ true)
     (change : Changed op operations operations' None) (fewer : length operations ≡ suc (length operations')) where
-  abbrev earlier : RunView T
+  abbrev earlier : View T
   earlier = shown core senders receivers weak_senders weak_receivers operations
 
   gone : (ticket : Started T → Option ℕ) → ticket_at ticket operations' op ≡ None

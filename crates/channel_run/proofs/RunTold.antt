@@ -23,16 +23,18 @@ use Rattle.channel_model.specs.declared.step.Who.{Who}
 use Rattle.channel_model.specs.declared.step.Who.TheVariants.{Op, Receiver}
 use Rattle.channel_core.specs.Channel.{Channel}
 use Rattle.channel_model.specs.Closing.{has_none}
-use Rattle.channel_model.specs.Messages.{received_by}
-use Rattle.channel_model.specs.Replies.{poll_reply}
+use Rattle.channel_model.specs.Messages.{received_by, accepted_by}
+use Rattle.channel_model.specs.Replies.{poll_reply, is_full_in, reply_in}
 use Rattle.channel_model.specs.Tables.{send_poll, recv_poll, next_poll, closed_poll}
 use Rattle.channel_model.specs.Operations.{Operation, awaiting_close, is_finished_send, operation_in, receiving, sending}
 use Rattle.channel_model.specs.Notices.{after_accepting, after_receiving}
 use Rattle.channel_model.specs.Polling.{told_polls, waiting_in}
 use Rattle.channel_model.specs.Rosters.{AreSound, IsSound, Roster, Rosters, is_told, leave, wait}
-use Rattle.channel_run.specs.StandsFor.{RunView}
+use Rattle.channel_model.specs.View.{View}
+use Rattle.channel_model.specs.Memory.{may_want_memory_in}
+use Rattle.channel_model.specs.Refusals.{refusal_in}
 use Rattle.channel_run.specs.RunShown.{AreHeld, IsWhole, closed_ticket, entry_at, operation_shown, recv_ticket, roster_of, rosters_shown, send_ticket, shown, stream_ticket, ticket_at}
-use Rattle.channel_run.specs.RunSteps.{IsMade, IsRefused, PollsTo, StepsAsAllowed, StepsTo, accepted_in, is_full_in, is_ready, may_want_memory_in, poll_of, refusal_in, reply_in, rosters_after}
+use Rattle.channel_run.specs.RunSteps.{IsMade, IsRefused, PollsTo, StepsAsAllowed, StepsTo, is_ready, poll_of, rosters_after}
 use Rattle.channel_model.proofs.AnyOrder.{PollsTold, a_closed, a_receive, a_send, a_stream, first-Contains, leave-told, polls_told, told_among, waiting-accepting, waiting-receiving}
 use Rattle.channel_run.proofs.Entries.{operation_in-entry_at}
 use Rattle.channel_run.proofs.Holding.{holds-refl, key_roster, keyed}
@@ -256,13 +258,13 @@ module _ {T W : Type 0} (core : Channel T W) (senders : List ℕ) (receivers : L
 abbrev ready_count : {T : Type 0} → Reply T → ℕ
 ready_count reply = cond (is_ready reply) 1 0
 
-module _ {T : Type 0} (run : RunView T) (sound : AreSound run.rosters) where
+module _ {T : Type 0} (run : View T) (sound : AreSound run.rosters) where
   -- those whom the message tells wait already
   others : (step : Step T) (reply : Reply T) (own : Rosters)
-      → waiting_in (after_receiving (received_by reply) (after_accepting (accepted_in run step reply) own))
+      → waiting_in (after_receiving (received_by reply) (after_accepting (accepted_by run.operations step reply) own))
       ≡ waiting_in own
-  others step reply own = waiting-receiving (received_by reply) (after_accepting (accepted_in run step reply) own)
-      ∙ waiting-accepting (accepted_in run step reply) own
+  others step reply own = waiting-receiving (received_by reply) (after_accepting (accepted_by run.operations step reply) own)
+      ∙ waiting-accepting (accepted_by run.operations step reply) own
 
   polled-send : (op : ℕ) (answer : Answer (Result (Unit {0}) (SendError T))) → is_told op run.rosters.sends ≡ true
       → waiting_in (rosters_after run (Poll op) (SendPolled answer)) + ready_count {T = T}
@@ -317,10 +319,10 @@ module _ {T : Type 0} (run : RunView T) (sound : AreSound run.rosters) where
       let names = on.names in omega arith
 
 -- No more wait behind the poll than before, and one fewer where it was ready.
-abbrev pub Lowers : {T : Type 0} → RunView T → Reply T → RunView T → Type 0
+abbrev pub Lowers : {T : Type 0} → View T → Reply T → View T → Type 0
 Lowers before reply after = waiting_in after.rosters + (if is_ready reply then 1 else 0) ≤ waiting_in before.rosters
 
-lowers-refused : {T : Type 0} (before after : RunView T) (step : Step T) (refusal : Refusal) (reply : Reply T)
+lowers-refused : {T : Type 0} (before after : View T) (step : Step T) (refusal : Refusal) (reply : Reply T)
     → IsRefused before step refusal reply after → Lowers before reply after
 lowers-refused {T} before after step refusal reply refused =
     let same : waiting_in after.rosters ≡ waiting_in before.rosters =
@@ -328,7 +330,7 @@ lowers-refused {T} before after step refusal reply refused =
     let none : ready_count reply ≡ 0 = ap (λ (r : Reply T). ready_count r) refused.replied in
     omega arith
 
-lowers-made : {T : Type 0} (before after : RunView T) (step : Step T) (reply given : Reply T)
+lowers-made : {T : Type 0} (before after : View T) (step : Step T) (reply given : Reply T)
     → IsMade before step reply after → reply_in before step ≡ given
     → waiting_in (rosters_after before step given) + ready_count given ≤ waiting_in before.rosters
     → Lowers before reply after
@@ -341,7 +343,7 @@ lowers-made {T} before after step reply given made is less =
     omega arith
 
 module _ {T W : Type 0} (core : Channel T W) (senders : List ℕ) (receivers : List (ℕ × Option ℕ)) (weak_senders weak_receivers : List ℕ) (operations : List (ℕ × Started T)) (whole : IsWhole core senders receivers operations) where
-  abbrev run : RunView T
+  abbrev run : View T
   run = shown core senders receivers weak_senders weak_receivers operations
 
   sound : AreSound run.rosters
@@ -353,7 +355,7 @@ module _ {T W : Type 0} (core : Channel T W) (senders : List ℕ) (receivers : L
   given op operation e = ap (λ (found : Option (Operation T)). poll_reply found run.closed (has_none run.receivers)
       (is_full_in run) (slice_get run.messages 0)) e
 
-  lowers-poll : (op : ℕ) (reply : Reply T) (after : RunView T) → PollsTold {T = T} run.rosters (Poll op)
+  lowers-poll : (op : ℕ) (reply : Reply T) (after : View T) → PollsTold {T = T} run.rosters (Poll op)
       → IsMade run (Poll op) reply after → Lowers run reply after
   lowers-poll op reply after (a_send other e told) made =
       let same : op ≡ other = cc in
@@ -381,7 +383,7 @@ module _ {T W : Type 0} (core : Channel T W) (senders : List ℕ) (receivers : L
       (polled-closed run sound op (closed_poll (has_none run.receivers)) told')
   lowers-poll op reply after (a_stream other e told) made = cc
 
-  lowers-steps : (op : ℕ) (reply : Reply T) (after : RunView T) → PollsTold {T = T} run.rosters (Poll op)
+  lowers-steps : (op : ℕ) (reply : Reply T) (after : View T) → PollsTold {T = T} run.rosters (Poll op)
       → StepsTo run (Poll op) reply after → Lowers run reply after
   lowers-steps op reply after told steps = go (refusal_in run (Poll op)) steps
     where
@@ -401,7 +403,7 @@ module _ {T W : Type 0} (core : Channel T W) (senders : List ℕ) (receivers : L
   stream_told receiver (a_stream other e told) =
       let same : receiver ≡ other = cc in ap (λ (n : ℕ). is_told n run.rosters.streams) same ∙ told
 
-  lowers-stream : (receiver : ℕ) (reply : Reply T) (after : RunView T)
+  lowers-stream : (receiver : ℕ) (reply : Reply T) (after : View T)
       → PollsTold {T = T} run.rosters (PollNext receiver) → StepsAsAllowed run (PollNext receiver) reply after
       → Lowers run reply after
   lowers-stream receiver reply after told (inl made) =
@@ -416,7 +418,7 @@ module _ {T W : Type 0} (core : Channel T W) (senders : List ℕ) (receivers : L
   told_first who first = polls_told run.rosters (poll_of who)
       (first-Contains (told_polls run.rosters) (poll_of who) first)
 
-  pub lowers-PollsTo : (who : Who) (reply : Reply T) (after : RunView T)
+  pub lowers-PollsTo : (who : Who) (reply : Reply T) (after : View T)
       → slice_get (told_polls {T = T} run.rosters) 0 ≡ Some (poll_of who) → PollsTo run who reply after
       → Lowers run reply after
   lowers-PollsTo (Op op) reply after first polled = lowers-steps op reply after (told_first (Op op) first) polled

@@ -6,7 +6,7 @@ use Rattle.std.proofs.lemmas.List.Folds.{list_any-append}
 use Rattle.event_list.specs.Keys.{AreDifferent, is_among}
 use Rattle.channel_model.specs.Handles.{without}
 use Rattle.channel_model.specs.Closing.{has_none}
-use Rattle.channel_run.specs.StandsFor.{AreSameNames}
+use Rattle.channel_model.specs.View.{AreSameNames}
 use Rattle.channel_model.proofs.NameLists.{is_among-without_same, without-absent, is_among-without, AreDifferent-without, length-without}
 use Rattle.channel_model.proofs.WhoWaits.{is_among-without_other}
 
@@ -85,6 +85,12 @@ pub AreSameNames-trans : (names others third : List ℕ) → AreSameNames names 
 AreSameNames-trans names others third same more =
     record { count = same.count ∙ more.count; each = λ name. same.each name ∙ more.each name }
 
+-- a new name comes first in both
+pub AreSameNames-first : (names others : List ℕ) (new : ℕ) → AreSameNames names others
+    → AreSameNames (new ∷ names) (new ∷ others)
+AreSameNames-first names others new same =
+    record { count = ap suc same.count; each = λ name. ap (λ among. (new == name) || among) (same.each name) }
+
 -- a new name comes last here and first there
 pub AreSameNames-added : (names others : List ℕ) (new : ℕ) → AreSameNames names others
     → AreSameNames (names ++ new ∷ []) (new ∷ others)
@@ -102,6 +108,10 @@ AreSameNames-added names others new same =
     last true false = refl
     last false true = refl
     last false false = refl
+
+-- a new name comes last here and first there, and all else is the same
+pub AreSameNames-pushed : (names : List ℕ) (new : ℕ) → AreSameNames (names ++ new ∷ []) (new ∷ names)
+AreSameNames-pushed names new = AreSameNames-added names names new (AreSameNames-refl names)
 
 -- a name is given up; where each stands once in one of the lists, as many are left
 pub AreSameNames-without : (names others : List ℕ) (name : ℕ) → AreDifferent others → AreSameNames names others

@@ -1,14 +1,14 @@
 -- Two lists of operations that give the same by name: what a change leaves the same, and who borrows.
-use Rattle.std.proofs.Common.{◌≡◌, ℕ, List, [], ◌∷◌, ◌++◌, Bool, true, false, not, ◌||◌, ◌==◌, cond, Some, None, Option, refl, sym, ◌∙◌, ap, length, length-append, arith}
+use Rattle.std.proofs.Common.{◌≡◌, ℕ, suc, List, [], ◌∷◌, ◌++◌, Bool, true, false, not, ◌||◌, ◌==◌, cond, Some, None, Option, refl, sym, ◌∙◌, ap, length, length-append, arith}
 use Rattle.std.specs.Prelude.{is_some}
 use Rattle.std.specs.Option.{option_map}
 use Rattle.std.specs.List.{list_any}
 use Rattle.std.proofs.lemmas.Bool.{eqb-true, eq-eqb}
 use Rattle.event_list.specs.Keys.{AreDifferent, is_among}
 use Rattle.channel_model.specs.Operations.{Operation, finished, names_of, with_finished, without_operation}
+use Rattle.channel_model.specs.View.{AreSameNames, AreSameOperations}
 use Rattle.channel_model.proofs.LookUps.{look_up, look_up-cons, look_up-other, look_up-without, look_up-with_finished}
 use Rattle.channel_run.proofs.LiveNames.{is_some-look_up, names_of-without_operation}
-use Rattle.channel_run.specs.StandsFor.{AreSameNames, AreSameOperations}
 use Rattle.channel_run.proofs.SameNames.{AreSameNames-without, AreDifferent-AreSameNames}
 use Rattle.std.proofs.lemmas.List.{length-map}
 
@@ -252,6 +252,17 @@ pub AreDifferent-AreSameOperations : {T : Type 0} (operations others : List (ℕ
 AreDifferent-AreSameOperations operations others once same =
     AreDifferent-AreSameNames (names_of operations) (names_of others) once
     (AreSameNames-AreSameOperations operations others same)
+
+pub AreSameOperations-first : {T : Type 0} (operations others : List (ℕ × Operation T)) (op : ℕ)
+    (operation : Operation T) → AreSameOperations operations others
+    → AreSameOperations ((op, operation) ∷ operations) ((op, operation) ∷ others)
+AreSameOperations-first {T} operations others op operation same =
+    record {
+      count = ap suc same.count;
+      each = λ name. look_up-cons name (op, operation) operations
+          ∙ ap (λ (found : Option (Operation T)). cond (op == name) (Some operation) found) (same.each name)
+          ∙ sym (look_up-cons name (op, operation) others);
+    }
 
 pub AreSameOperations-added : {T : Type 0} (operations others : List (ℕ × Operation T)) (op : ℕ)
     (operation : Operation T) → is_some (look_up op others) ≡ false → AreSameOperations operations others

@@ -15,24 +15,25 @@ use Rattle.channel_model.specs.declared.step.Reply.TheVariants.{SendPolled, Recv
 use Rattle.channel_model.specs.declared.step.Who.{Who}
 use Rattle.channel_model.specs.declared.step.Who.TheVariants.{Op, Receiver}
 use Rattle.channel_model.specs.Past.{Past}
-use Rattle.channel_model.specs.Capacity.{capacity_of, is_unbounded}
+use Rattle.channel_model.specs.Capacity.{capacity_of}
 use Rattle.channel_model.specs.Closing.{has_no_receiver, is_closed}
 use Rattle.channel_model.specs.Legal.{IsLegal}
-use Rattle.channel_model.specs.Memory.{may_want_memory, polls_newcomer}
+use Rattle.channel_model.specs.Memory.{may_want_memory, polls_newcomer, may_want_memory_in}
 use Rattle.channel_model.specs.Messages.{oldest_message, with_last}
 use Rattle.channel_model.specs.Capacity.{is_full}
 use Rattle.channel_model.specs.Notices.{rosters}
 use Rattle.channel_model.specs.Operations.{Operation, awaiting_close, is_awaiting, is_finished_send, is_receive, message_of, operation_of, receiving, sending, unsent_message}
 use Rattle.channel_model.specs.Polling.{IsQuiet, IsSettling, finished_by, finished_polls, told_polls, waiting_in}
-use Rattle.channel_model.specs.Refusals.{refusal_of}
+use Rattle.channel_model.specs.Refusals.{refusal_of, refusal_in}
 use Rattle.channel_model.specs.Replies.{due_reply, is_pending, poll_reply}
 use Rattle.channel_model.specs.Rosters.{Rosters, waits_anywhere}
+use Rattle.channel_model.specs.View.{View, view_of}
 use Rattle.channel_run.specs.Runs.{SettlesTo}
-use Rattle.channel_run.specs.StandsFor.{RunView, StandsFor}
-use Rattle.channel_run.specs.RunSteps.{IsMade, IsRefused, PollsTo, StepsAsAllowed, StepsTo, after_step, is_ready, may_want_memory_in, poll_of, refusal_in}
+use Rattle.channel_run.specs.StandsFor.{StandsFor}
+use Rattle.channel_run.specs.RunSteps.{IsMade, IsRefused, PollsTo, StepsAsAllowed, StepsTo, after_step, is_ready, poll_of}
 use Rattle.channel_model.proofs.AnyOrder.{EndsWell-IsFreePolling, IsFreePolling-IsSettling, PollsTold, a_closed, a_receive, a_send, a_stream, first-Contains, known_if, polls_told, told-allowed, told_among}
 use Rattle.channel_model.proofs.CoveredSteps.{IsCovered-IsLegal}
-use Rattle.channel_run.proofs.RunAnswers.{may_want_memory_in-StandsFor, refusal_in-StandsFor, reply_in-StandsFor}
+use Rattle.channel_run.proofs.AlikeViews.{may_want_memory_in-StandsFor, refusal_in-StandsFor, reply_in-StandsFor}
 use Rattle.channel_run.proofs.RunSettles.{PollsOn, polls_on, Settles-IsQuiet}
 use Rattle.channel_run.proofs.WholeSteps.{StandsFor-AreAlike}
 use Rattle.channel_model.proofs.WhoWaits.{AreLive-IsLegal}
@@ -66,7 +67,7 @@ no_message (Some (awaiting_close sender)) which = refl
 module _ {T : Type 0} (kind : Kind) (past : Past T) (legal : IsLegal kind past) where
   -- on an unbounded channel no send waits
   bounded_if : (name : ℕ) → is_among name (rosters past).sends.names ≡ true → (kind' : Kind) → kind ≡ kind'
-      → is_unbounded kind' ≡ false
+      → is_none (capacity_of kind') ≡ false
   bounded_if name among (Bounded capacity) e = refl
   bounded_if name among Unbounded e =
       let none = (IsCovered-IsLegal kind past legal).unbounded (ap (λ (k : Kind). capacity_of k) e) in
@@ -113,7 +114,7 @@ module _ {T : Type 0} (kind : Kind) (past : Past T) (legal : IsLegal kind past) 
   waits_here op (a_stream other e told) = cc
 
   no_message_or_bounded : (op : ℕ) → PollsTold {T = T} (rosters past) (Poll op)
-      → (is_some (message_of past op) ≡ false) ⊎ (is_unbounded kind ≡ false)
+      → (is_some (message_of past op) ≡ false) ⊎ (is_none (capacity_of kind) ≡ false)
   no_message_or_bounded op (a_send other e told) =
       inr (bounded_if other (told_among other (rosters past).sends told) kind refl)
   no_message_or_bounded op (a_receive other e told) =
@@ -130,8 +131,8 @@ module _ {T : Type 0} (kind : Kind) (past : Past T) (legal : IsLegal kind past) 
 
   wants_nothing : (op : ℕ) → PollsTold {T = T} (rosters past) (Poll op) → may_want_memory kind past (Poll op) ≡ false
   wants_nothing op told =
-      no_wish (is_none (refusal_of past (Poll op))) (is_some (message_of past op)) (is_unbounded kind)
-      (not (is_closed past)) (polls_newcomer past (Poll op)) (is_pending (due_reply kind past (Poll op)))
+      no_wish (is_none (refusal_of kind past (Poll op))) (is_some (message_of past op)) (is_none (capacity_of kind))
+      (not (is_closed past)) (polls_newcomer (view_of kind past) (Poll op)) (is_pending (due_reply kind past (Poll op)))
       (no_message_or_bounded op told)
       (ap (λ waits. not waits && not (is_finished_send (operation_of past op))) (waits_here op told))
 
@@ -189,8 +190,8 @@ module _ {T : Type 0} (kind : Kind) (past : Past T) (legal : IsLegal kind past) 
 
   -- ---- it is made
 
-  module _ (run : RunView T) (stands : StandsFor kind past run) where
-    made-op : (op : ℕ) (reply : Reply T) (after : RunView T) → PollsTold {T = T} (rosters past) (Poll op)
+  module _ (run : View T) (stands : StandsFor kind past run) where
+    made-op : (op : ℕ) (reply : Reply T) (after : View T) → PollsTold {T = T} (rosters past) (Poll op)
         → StepsTo run (Poll op) reply after → IsMade run (Poll op) reply after
     made-op op reply after told steps = go (refusal_in run (Poll op))
         (refusal_in-StandsFor kind past run (Poll op) stands ∙ told-allowed kind past (Poll op) legal told) steps
@@ -206,14 +207,14 @@ module _ {T : Type 0} (kind : Kind) (past : Past T) (legal : IsLegal kind past) 
             may_want_memory_in-StandsFor kind past run (Poll op) stands ∙ wants_nothing op told in cc
         go (Some refusal) e refused = cc
 
-    made-stream : (receiver : ℕ) (reply : Reply T) (after : RunView T)
+    made-stream : (receiver : ℕ) (reply : Reply T) (after : View T)
         → PollsTold {T = T} (rosters past) (PollNext receiver) → StepsAsAllowed run (PollNext receiver) reply after
         → IsMade run (PollNext receiver) reply after
     made-stream receiver reply after told (inl made) = made
     made-stream receiver reply after (a_stream other e told) (inr wanted) =
         let same : other ≡ receiver = cc in
         let among : is_among receiver run.rosters.streams.names ≡ true =
-        ap (λ (all : Rosters). is_among receiver all.streams.names) stands.rosters
+        ap (λ (all : Rosters). is_among receiver all.streams.names) stands.shows.rosters
         ∙ ap (λ (n : ℕ). is_among n (rosters past).streams.names) (sym same)
         ∙ told_among other (rosters past).streams told in
         let none : not (is_among receiver run.rosters.streams.names) ≡ false = ap (λ (b : Bool). not b) among in
@@ -223,7 +224,7 @@ module _ {T : Type 0} (kind : Kind) (past : Past T) (legal : IsLegal kind past) 
     made-stream receiver reply after (a_receive other e told) (inr wanted) = cc
     made-stream receiver reply after (a_closed other e told) (inr wanted) = cc
 
-    pub made : (who : Who) (reply : Reply T) (after : RunView T) → PollsTold {T = T} (rosters past) (poll_of who)
+    pub made : (who : Who) (reply : Reply T) (after : View T) → PollsTold {T = T} (rosters past) (poll_of who)
         → PollsTo run who reply after → IsMade run (poll_of who) reply after
     made (Op op) reply after told polled = made-op op reply after told polled
     made (Receiver receiver) reply after told polled = made-stream receiver reply after told polled
@@ -232,14 +233,14 @@ module _ {T : Type 0} (kind : Kind) (past : Past T) (legal : IsLegal kind past) 
 
 -- These polls were made behind the past, so many of them, and these ones were ready.
 pub record SettlesSoFar {T : Type 0} (kind : Kind) (past : Past T) (count : ℕ) (finished : List (Who × Reply T))
-    (run : RunView T) : Type 0 where
+    (run : View T) : Type 0 where
   pub polls : Past T
   pub settling : IsSettling kind past polls
   pub counted : count ≡ length polls
   pub listed : finished ≡ finished_polls polls
   pub stands : StandsFor kind (polls ++ past) run
 
-pub SettlesSoFar-none : {T : Type 0} (kind : Kind) (past : Past T) (run : RunView T) → StandsFor kind past run
+pub SettlesSoFar-none : {T : Type 0} (kind : Kind) (past : Past T) (run : View T) → StandsFor kind past run
     → SettlesSoFar kind past 0 [] run
 SettlesSoFar-none kind past run stands =
     record { polls = []; settling = tt; counted = refl; listed = refl; stands = stands }
@@ -271,7 +272,7 @@ with_finished {T} finished (Receiver receiver) reply e = go (is_ready reply) (is
     go false false e = cc
 
 pub SettlesSoFar-more : {T : Type 0} (kind : Kind) (past : Past T) (count : ℕ) (finished : List (Who × Reply T))
-    (run after : RunView T) (who : Who) (reply : Reply T) → SettlesSoFar kind past count finished run
+    (run after : View T) (who : Who) (reply : Reply T) → SettlesSoFar kind past count finished run
     → slice_get (told_polls {T = T} run.rosters) 0 ≡ Some (poll_of who) → PollsTo run who reply after
     → SettlesSoFar kind past (count + 1) (with_ready finished who reply) after
 SettlesSoFar-more {T} kind past count finished run after who reply so first polled =
@@ -286,7 +287,7 @@ SettlesSoFar-more {T} kind past count finished run after who reply so first poll
     }
   where
     at_first : slice_get (told_polls {T = T} (rosters (so.polls ++ past))) 0 ≡ Some (poll_of who)
-    at_first = ap (λ (all : Rosters). slice_get (told_polls {T = T} all) 0) (sym so.stands.rosters) ∙ first
+    at_first = ap (λ (all : Rosters). slice_get (told_polls {T = T} all) 0) (sym so.stands.shows.rosters) ∙ first
 
     told : PollsTold {T = T} (rosters (so.polls ++ past)) (poll_of who)
     told = polls_told (rosters (so.polls ++ past)) (poll_of who)
@@ -307,7 +308,7 @@ SettlesSoFar-more {T} kind past count finished run after who reply so first poll
 
 -- nobody is told any more
 pub SettlesTo-IsQuiet : {T : Type 0} (kind : Kind) (past : Past T) (count : ℕ) (finished : List (Who × Reply T))
-    (before run : RunView T) → StandsFor kind past before → SettlesSoFar kind past count finished run
+    (before run : View T) → StandsFor kind past before → SettlesSoFar kind past count finished run
     → IsQuiet run.rosters
     → SettlesTo kind past count finished run
 SettlesTo-IsQuiet kind past count finished before run stood so quiet =
@@ -316,14 +317,14 @@ SettlesTo-IsQuiet kind past count finished before run stood so quiet =
 
 -- So many polls are never made.
 pub never : {T : Type 0} (kind : Kind) (past : Past T) (count : ℕ) (finished : List (Who × Reply T))
-    (before run : RunView T) → StandsFor kind past before → SettlesSoFar kind past count finished run
+    (before run : View T) → StandsFor kind past before → SettlesSoFar kind past count finished run
     → waiting_in before.rosters < 2 ^ 64 → count ≡ 2 ^ 128 - 1 → ⊥
 never kind past count finished before run stood so few all =
     let ends = EndsWell-IsFreePolling kind past so.polls stood.legal
     (IsFreePolling-IsSettling kind past so.polls so.settling) in
     let bounded : length so.polls ≤ waiting_in (rosters past) * (waiting_in (rosters past) + 1) / 2 = ends.bounded in
     let waiting : waiting_in before.rosters ≡ waiting_in (rosters past) =
-    ap (λ (all : Rosters). waiting_in all) stood.rosters in
+    ap (λ (all : Rosters). waiting_in all) stood.shows.rosters in
     let most : waiting_in (rosters past) * (waiting_in (rosters past) + 1) ≤ (2 ^ 64 - 1) * 2 ^ 64 =
     mul-le (waiting_in (rosters past)) (waiting_in (rosters past) + 1) (2 ^ 64 - 1) (2 ^ 64) (omega arith)
     (omega arith) in

@@ -15,7 +15,7 @@ use Rattle.channel_core.specs.Channel.{Channel}
 use Rattle.channel_model.specs.Operations.{Operation, awaiting_close, receiving, sending}
 use Rattle.channel_core.specs.Tickets.{handed_on, left}
 use Rattle.channel_model.specs.Rosters.{Roster, Rosters}
-use Rattle.channel_run.specs.StandsFor.{RunView}
+use Rattle.channel_model.specs.View.{View}
 
 -- ---- tickets by name, and names by ticket
 
@@ -133,7 +133,7 @@ module _ {T : Type 0} where
 
   abbrev pub shown : {W : Type 0} → Channel T W
       → (senders : List ℕ) (receivers : List (ℕ × Option ℕ)) (weak_senders weak_receivers : List ℕ)
-      (operations : List (ℕ × Started T)) → RunView T
+      (operations : List (ℕ × Started T)) → View T
   shown core senders receivers weak_senders weak_receivers operations = record {
     capacity = core.capacity;
     messages = core.messages;

@@ -8,12 +8,13 @@ use Rattle.channel_model.specs.Past.{Past}
 use Rattle.channel_model.specs.Messages.{accepted_messages, taken_messages}
 use Rattle.channel_model.specs.Answers.{AreAnswers}
 use Rattle.channel_model.specs.Polling.{Settles}
-use Rattle.channel_run.specs.StandsFor.{RunView, StandsFor}
+use Rattle.channel_model.specs.View.{View}
+use Rattle.channel_run.specs.StandsFor.{StandsFor}
 
 -- There is a past of these steps: each reply is an answer behind the past of the steps before it, and the last past
 -- stands for the run at the end. What was accepted is what was taken, followed by what the run holds, in order.
 pub record ComesTo {T : Type 0} (kind : Kind) (steps : List (Step T)) (replies : List (Reply T))
-    (run : RunView T) : Type 0 where
+    (run : View T) : Type 0 where
   pub past : Past T
   pub answers : AreAnswers kind [] steps replies past
   pub stands : StandsFor kind past run
@@ -22,7 +23,7 @@ pub record ComesTo {T : Type 0} (kind : Kind) (steps : List (Step T)) (replies :
 -- There are polls behind this past that settled the channel, so many of them, with these ones ready, and the past
 -- that is longer by them stands for the run now.
 pub record SettlesTo {T : Type 0} (kind : Kind) (past : Past T) (count : ℕ) (finished : List (Who × Reply T))
-    (run : RunView T) : Type 0 where
+    (run : View T) : Type 0 where
   pub polls : Past T
   pub settles : Settles kind past polls count finished
   pub stands : StandsFor kind (polls ++ past) run

@@ -12,11 +12,12 @@ ghost use Rattle.channel_model.specs.Past.{Past};
 ghost use Rattle.channel_model.specs.Capacity.{HasPositiveCapacity};
 ghost use Rattle.channel_model.specs.Notices.{notice_of};
 ghost use Rattle.channel_model.specs.Answers.{IsAnswer, past_after};
+ghost use Rattle.channel_model.specs.Refusals.{is_handle, is_operation};
 ghost use Rattle.channel_core.specs.Channel.{list_of};
 ghost use Rattle.channel_run.specs.StandsFor.{StandsFor};
 ghost use Rattle.channel_run.specs.Runs.{ComesTo};
 ghost use Rattle.channel_run.specs.RunShown.{notice_at};
-ghost use Rattle.channel_run.specs.RunSteps.{is_handle_in, is_operation_in, StepsTo};
+ghost use Rattle.channel_run.specs.RunSteps.{StepsTo};
 
 mod handles;
 mod messages;
@@ -55,10 +56,10 @@ pub struct Run<T> {
 }
 
 impl<T> Model for Run<T> {
-    ghost use Rattle.channel_run.specs.StandsFor.{RunView};
+    ghost use Rattle.channel_model.specs.View.{View};
     ghost use Rattle.channel_run.specs.RunShown.{shown, IsWhole};
 
-    ghost Value = { RunView T };
+    ghost Value = { View T };
 
     ghost view = { λ run. shown run.core run.senders run.receivers.entries run.weak_senders
         run.weak_receivers run.operations.entries };
@@ -166,7 +167,7 @@ impl<T: Drop> Run<T> {
     }
 
     fn has_handle(&self, side: Side) -> bool
-        ensures { result ≡ is_handle_in self.now side }
+        ensures { result ≡ is_handle self.now side }
     {
         match side {
             Side::Sender(name) => self.senders.has(name),
@@ -181,7 +182,7 @@ impl<T: Drop> Run<T> {
     }
 
     fn has_operation(&self, op: u64) -> bool
-        ensures { result ≡ is_operation_in self.now op }
+        ensures { result ≡ is_operation self.now op }
     {
         self.operations.contains_key(&op)
     }

@@ -11,9 +11,9 @@ use Rattle.channel_model.specs.Past.{Past}
 use Rattle.channel_model.specs.Replies.{due_reply}
 use Rattle.channel_model.specs.Refusals.{refusal_of}
 use Rattle.channel_model.specs.Memory.{may_want_memory}
-use Rattle.channel_model.specs.Answers.{IsAnswer, message_in, past_after}
-use Rattle.channel_run.specs.StandsFor.{RunView, StandsFor}
-use Rattle.chanrun.specs.Script.{answer_of, refused_or}
+use Rattle.channel_model.specs.Answers.{IsAnswer, answer_of, message_in, past_after, refused_or}
+use Rattle.channel_model.specs.View.{View}
+use Rattle.channel_run.specs.StandsFor.{StandsFor}
 use Rattle.chanrun.specs.Wants.{wants_memory}
 
 true_false : true ≡ false → ⊥
@@ -30,10 +30,10 @@ pub answered : (kind : Kind) (past : Past ℕ) (step : Step ℕ) (reply : Reply 
     → wants_memory reply ≡ false
     → reply ≡ answer_of kind past step
 answered kind past step reply answer not =
-    answered_by (refusal_of past step) step (due_reply kind past step) reply (may_want_memory kind past step) answer not
+    answered_by (refusal_of kind past step) step (due_reply kind past step) reply (may_want_memory kind past step) answer not
 
 -- so the past behind it is the one that the model decides
-pub made_behind : (kind : Kind) (past : Past ℕ) (step : Step ℕ) (reply : Reply ℕ) (run : RunView ℕ)
+pub made_behind : (kind : Kind) (past : Past ℕ) (step : Step ℕ) (reply : Reply ℕ) (run : View ℕ)
     → reply ≡ answer_of kind past step
     → StandsFor kind (past_after past step reply) run → StandsFor kind (past_after past step (answer_of kind past step)) run
 made_behind kind past step reply run is stands =

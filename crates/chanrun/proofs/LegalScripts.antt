@@ -10,13 +10,13 @@ use Rattle.channel_model.specs.Past.{Past}
 use Rattle.channel_model.specs.Refusals.{refusal_of}
 use Rattle.channel_model.specs.Replies.{due_reply}
 use Rattle.channel_model.specs.Notices.{rosters}
-use Rattle.channel_model.specs.Answers.{AreAnswers, IsAnswer, message_in, past_after}
+use Rattle.channel_model.specs.Answers.{AreAnswers, IsAnswer, answer_of, message_in, past_after, refused_or}
 use Rattle.channel_model.specs.Legal.{IsLegal}
-use Rattle.channel_model.specs.Polling.{EndsWell, IsFreePolling, IsSettling, Settles, finished_polls, told_polls}
+use Rattle.channel_model.specs.Polling.{EndsWell, IsFreePolling, IsSettling, Settles, finished_polls, settling_polls, told_polls}
 use Rattle.chanrun.specs.declared.grammar.command.Command.{Command}
 use Rattle.chanrun.specs.declared.grammar.command.Command.TheVariants.{Make, Notice, Settle}
-use Rattle.chanrun.specs.Script.{answer_of, past_behind, past_behind_all, refused_or, settling_polls}
-use Rattle.chanrun.proofs.SettlingPolls.{polls-Settles}
+use Rattle.chanrun.specs.Script.{past_behind, past_behind_all}
+use Rattle.channel_model.proofs.Settling.{settling_polls-Settles}
 
 -- the laws of pasts, for the messages of a script
 abbrev pub AnswersMakeLegalPasts : Type 0
@@ -37,7 +37,7 @@ answer_by None step due Wanted = inl refl
 answer_by (Some refusal) step due Wanted = refl
 
 answer-IsAnswer : (kind : Kind) (past : Past ℕ) (step : Step ℕ) → IsAnswer kind past step (answer_of kind past step)
-answer-IsAnswer kind past step = answer_by (refusal_of past step) step (due_reply kind past step) _
+answer-IsAnswer kind past step = answer_by (refusal_of kind past step) step (due_reply kind past step) _
 
 legal-step : AnswersMakeLegalPasts → (kind : Kind) (past : Past ℕ) (step : Step ℕ) → IsLegal kind past
     → IsLegal kind (past_after past step (answer_of kind past step))
@@ -58,7 +58,8 @@ pub settled : CanBeSettled → (kind : Kind) (past : Past ℕ) → IsLegal kind 
     → Settles kind past (settling_polls kind past) (length (settling_polls kind past)) (finished_polls (settling_polls kind past))
 settled law kind past legal =
     let found = law kind past legal in
-    subst (λ (polls : Past ℕ). Settles kind past polls (length polls) (finished_polls polls)) (sym (polls-Settles kind past found.0 _ _ found.1)) found.1
+    subst (λ (polls : Past ℕ). Settles kind past polls (length polls) (finished_polls polls))
+    (sym (settling_polls-Settles kind past found.0 _ _ legal found.1)) found.1
 
 legal-behind : AnswersMakeLegalPasts → EndsInAnyOrder → CanBeSettled
     → (kind : Kind) (past : Past ℕ) (command : Command) → IsLegal kind past

@@ -1,52 +1,19 @@
 -- What is written for a script: the replies that the model decides, line by line, up to the first faulty one.
-use Rattle.std.specs.Prelude.{ℕ, zero, suc, ◌+◌, List, [], ◌∷◌, ◌++◌, length, flat_map, slice_get, codes, Option, None, Some, Result, Ok, Err}
+use Rattle.std.specs.Prelude.{ℕ, ◌+◌, List, [], ◌∷◌, ◌++◌, length, flat_map, codes, Option, None, Some, Result, Ok, Err}
 use Rattle.std.specs.Fmt.{decimal}
 use Rattle.channel_model.specs.declared.step.Kind.{Kind}
-use Rattle.channel_model.specs.declared.step.Refusal.{Refusal}
 use Rattle.channel_model.specs.declared.step.Reply.{Reply}
-use Rattle.channel_model.specs.declared.step.Reply.TheVariants.{Refused}
-use Rattle.channel_model.specs.declared.step.Step.{Step}
 use Rattle.channel_model.specs.declared.step.Who.{Who}
 use Rattle.channel_model.specs.Past.{Past}
-use Rattle.channel_model.specs.Replies.{due_reply}
-use Rattle.channel_model.specs.Refusals.{refusal_of}
-use Rattle.channel_model.specs.Answers.{message_in, past_after}
-use Rattle.channel_model.specs.Notices.{notice_of, rosters}
-use Rattle.channel_model.specs.Polling.{finished_polls, most_polls, told_polls, waiting_in}
+use Rattle.channel_model.specs.Answers.{answer_of, past_made}
+use Rattle.channel_model.specs.Notices.{notice_of}
+use Rattle.channel_model.specs.Polling.{finished_polls, settling_polls}
 use Rattle.chanrun.specs.declared.grammar.command.Command.{Command}
 use Rattle.chanrun.specs.declared.grammar.command.Command.TheVariants.{Make, Notice, Settle}
 use Rattle.chanrun.specs.declared.grammar.fault.Fault.{Fault}
 use Rattle.chanrun.specs.declared.grammar.fault.Fault.TheVariants.{ChannelMissing}
 use Rattle.chanrun.specs.Grammar.{command_of, kind_of, lines_of}
 use Rattle.chanrun.specs.Texts.{notice_text, reply_text, who_text}
-
--- ---- the answer to a step
-
-abbrev pub refused_or : Option Refusal → Step ℕ → (due : Reply ℕ) → Reply ℕ
-refused_or None step due = due
-refused_or (Some refusal) step due = Refused refusal (message_in step)
-
--- The answer to a step behind this past: the refusal that applies; where none does, the reply that is due.
--- Where memory is refused a script ends, so that want of memory is no answer here.
-abbrev pub answer_of : Kind → Past ℕ → Step ℕ → Reply ℕ
-answer_of kind past step = refused_or (refusal_of past step) step (due_reply kind past step)
-
--- ---- settling
-
-abbrev pub with_poll : Kind → Past ℕ → (polls : Past ℕ) → Option (Step ℕ) → Past ℕ
-with_poll kind past polls None = polls
-with_poll kind past polls (Some step) = (step, due_reply kind (polls ++ past) step) ∷ polls
-
--- The first who was told is polled, so many times at the most: where nobody is told no more polls are made.
-abbrev pub polls_within : ℕ → Kind → Past ℕ → Past ℕ
-polls_within zero kind past = []
-polls_within (suc n) kind past =
-    let polls = polls_within n kind past in
-    with_poll kind past polls (slice_get (told_polls (rosters (polls ++ past))) 0)
-
--- The polls that settle the channel behind this past, the newest first: settling never takes more than the bound.
-abbrev pub settling_polls : Kind → Past ℕ → Past ℕ
-settling_polls kind past = polls_within (most_polls (waiting_in (rosters past))) kind past
 
 -- ---- texts
 
@@ -75,7 +42,7 @@ command_text kind past Settle =
 
 -- the past behind a command
 abbrev pub past_behind : Kind → Past ℕ → Command → Past ℕ
-past_behind kind past (Make step) = past_after past step (answer_of kind past step)
+past_behind kind past (Make step) = past_made kind past step
 past_behind kind past (Notice who) = past
 past_behind kind past Settle = settling_polls kind past ++ past
 

@@ -7,8 +7,8 @@ ghost use Rattle.channel_model.specs.declared.step.Kind.{Kind};
 ghost use Rattle.channel_model.specs.Past.{Past};
 ghost use Rattle.channel_model.specs.Capacity.{HasPositiveCapacity};
 ghost use Rattle.channel_model.specs.Legal.{IsLegal};
-ghost use Rattle.channel_model.specs.Polling.{Settles, finished_polls};
-ghost use Rattle.chanrun.specs.Script.{past_behind_all, settling_polls};
+ghost use Rattle.channel_model.specs.Polling.{Settles, finished_polls, settling_polls};
+ghost use Rattle.chanrun.specs.Script.{past_behind_all};
 ghost use Rattle.chanrun.specs.declared.grammar.command.Command.{Command};
 
 use channel_model::laws;

@@ -7,7 +7,7 @@ ghost use Rattle.channel_model.specs.Capacity.{HasPositiveCapacity};
 ghost use Rattle.channel_run.specs.StandsFor.{StandsFor};
 ghost use Rattle.chanrun.specs.Device.{one_more, AppendsFront};
 ghost use Rattle.chanrun.specs.Grammar.{lines_of, command_of};
-ghost use Rattle.chanrun.specs.Script.{answer_of, as_line, command_text, past_behind, settled_line, finished_line, settled_text, fault_from, texts_after, commands_of, script_text, script_fault};
+ghost use Rattle.chanrun.specs.Script.{as_line, command_text, past_behind, settled_line, finished_line, settled_text, fault_from, texts_after, commands_of, script_text, script_fault};
 ghost use Rattle.chanrun.specs.Texts.{reply_text};
 ghost use Rattle.chanrun.specs.Wants.{wants_memory};
 ghost use Rattle.chanrun.specs.Outcome.{HasRead, IsDone, IsBegun, ending};

@@ -1,7 +1,8 @@
 //! What a handle asks of the channel, and what closes it.
 ghost use Rattle.std.specs.Prelude.{◌≡◌, Some};
 ghost use Rattle.channel_model.specs.declared.step.Step.{Step};
-ghost use Rattle.channel_run.specs.RunSteps.{asker, reply_in, StepsTo};
+ghost use Rattle.channel_model.specs.Replies.{reply_in};
+ghost use Rattle.channel_run.specs.RunSteps.{asker, StepsTo};
 
 use crate::run::Run;
 use channel_model::{Refusal, Reply, Side};

@@ -1,4 +1,5 @@
-use Rattle.channel_model.proofs.Settling.{settling_polls, Settles-IsLegal}
+use Rattle.channel_model.specs.Polling.{settling_polls}
+use Rattle.channel_model.proofs.Settling.{Settles-IsLegal}
 use Rattle.channel_model.proofs.laws.can_be_settled.Goals as goal
 
 pub returns : goal.returns

@@ -15,5 +15,7 @@ returns-in_ok-format-in-Make-clause-ok c = λ kind past stands.
 pub returns-in_ok-settled_text-in-Settle-clause-ok : goal.returns-in_ok-settled_text-in-Settle-clause-ok
 returns-in_ok-settled_text-in-Settle-clause-ok c = λ kind past stands.
     let to = c.in_ok-settle-in-Settle.ensures.settled kind past stands in
-    rw c.in-Settle.is
-    (c.in_ok-settled_text-in-Settle.ensures ∙ text-Settles kind past to.polls _ _ to.settles, settled_behind kind past _ _ _ to)
+    rw c.in-Settle.is (
+      c.in_ok-settled_text-in-Settle.ensures ∙ text-Settles kind past to.polls _ _ stands.legal to.settles,
+      settled_behind kind past _ _ _ stands.legal to,
+    )

@@ -1,8 +1,8 @@
 use Rattle.std.proofs.Common.{◌∙◌, refl, sym, ap}
 use Rattle.channel_model.specs.declared.step.Step.{Step}
+use Rattle.channel_model.specs.View.{View}
+use Rattle.channel_model.specs.Refusals.{is_handle}
 use Rattle.channel_run.specs.RunShown.{shown}
-use Rattle.channel_run.specs.StandsFor.{RunView}
-use Rattle.channel_run.specs.RunSteps.{is_handle_in}
 use Rattle.channel_run.proofs.WholeSteps.{StepsTo-made, not_refused}
 use Rattle.channel_run.proofs.RunChanges.{stepped-close}
 use Rattle.channel_run.proofs.run.Run.close.Goals as goal
@@ -20,7 +20,7 @@ returns g c =
     let is = stepped-close c.self.inside.core c.self.inside.senders c.self.inside.receivers.entries
     c.self.inside.weak_senders c.self.inside.weak_receivers c.self.inside.operations.entries c.self.invariant
     c.args.side in
-    let known = ap (λ (r : RunView g.row.T.Denot). is_handle_in r c.args.side) c.self.view_is ∙ sym c.has_handle.ensures
+    let known = ap (λ (r : View g.row.T.Denot). is_handle r c.args.side) c.self.view_is ∙ sym c.has_handle.ensures
     ∙ c.if-not-has_handle.false in
     rw (← c.self.view_is, c.close.ensures.reply, c.close.ensures.after)
     (StepsTo-made run _ (Step.Close c.args.side) _

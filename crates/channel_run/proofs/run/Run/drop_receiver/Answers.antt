@@ -5,8 +5,8 @@ use Rattle.event_list.specs.Keys.{is_among}
 use Rattle.channel_model.specs.Operations.{borrows_receiver}
 use Rattle.channel_model.specs.declared.step.Refusal.{Refusal}
 use Rattle.channel_model.specs.declared.step.Step.{Step}
-use Rattle.channel_run.specs.StandsFor.{RunView}
-use Rattle.channel_run.specs.RunSteps.{is_borrowed_in}
+use Rattle.channel_model.specs.View.{View}
+use Rattle.channel_model.specs.Refusals.{is_borrowed}
 use Rattle.channel_run.specs.RunShown.{entry_at, shown, stream_ticket, ticket_at}
 use Rattle.channel_run.proofs.Entries.{is_among-entry_at, list_any-shown}
 use Rattle.channel_run.proofs.RunTables.{flat, stepped-drop_receiver}
@@ -18,9 +18,9 @@ returns-then-is_receiver_borrowed g c =
     let run = shown c.self.inside.core c.self.inside.senders c.self.inside.receivers.entries c.self.inside.weak_senders
     c.self.inside.weak_receivers c.self.inside.operations.entries in
     let step = Step.DropReceiver c.args.name in
-    let known = ap (λ (r : RunView g.row.T.Denot). is_among c.args.name r.receivers) c.self.view_is
+    let known = ap (λ (r : View g.row.T.Denot). is_among c.args.name r.receivers) c.self.view_is
     ∙ sym c.has_receiver.ensures ∙ c.if-not-has_receiver.false in
-    let borrowed : is_borrowed_in run step ≡ true =
+    let borrowed : is_borrowed run step ≡ true =
     list_any-shown (λ operation. borrows_receiver c.args.name operation) c.self.inside.operations.entries
     ∙ sym c.is_receiver_borrowed.ensures ∙ c.if-is_receiver_borrowed.true in
     rw (← c.self.view_is) (StepsTo-refused run run step Refusal.Borrowed _
@@ -28,7 +28,7 @@ returns-then-is_receiver_borrowed g c =
 
 pub invariant_of-self : goal.invariant_of-self
 invariant_of-self g c =
-    let known = ap (λ (r : RunView g.row.T.Denot). is_among c.args.name r.receivers) c.self.view_is
+    let known = ap (λ (r : View g.row.T.Denot). is_among c.args.name r.receivers) c.self.view_is
     ∙ sym c.has_receiver.ensures ∙ c.if-not-has_receiver.false in
     let is = stepped-drop_receiver c.self.inside.core c.self.inside.senders c.self.inside.receivers.entries
     c.take.new.entries.entries c.self.inside.weak_senders c.self.inside.weak_receivers
@@ -46,9 +46,9 @@ returns g c =
     let run = shown c.self.inside.core c.self.inside.senders c.self.inside.receivers.entries c.self.inside.weak_senders
     c.self.inside.weak_receivers c.self.inside.operations.entries in
     let step = Step.DropReceiver c.args.name in
-    let known = ap (λ (r : RunView g.row.T.Denot). is_among c.args.name r.receivers) c.self.view_is
+    let known = ap (λ (r : View g.row.T.Denot). is_among c.args.name r.receivers) c.self.view_is
     ∙ sym c.has_receiver.ensures ∙ c.if-not-has_receiver.false in
-    let free : is_borrowed_in run step ≡ false =
+    let free : is_borrowed run step ≡ false =
     list_any-shown (λ operation. borrows_receiver c.args.name operation) c.self.inside.operations.entries
     ∙ sym c.is_receiver_borrowed.ensures ∙ c.if-is_receiver_borrowed.false in
     let is = stepped-drop_receiver c.self.inside.core c.self.inside.senders c.self.inside.receivers.entries

@@ -4,7 +4,7 @@ use Rattle.channel_model.specs.Handles.{without}
 use Rattle.channel_model.specs.Operations.{borrows_sender}
 use Rattle.channel_model.specs.declared.step.Refusal.{Refusal}
 use Rattle.channel_model.specs.declared.step.Step.{Step}
-use Rattle.channel_run.specs.RunSteps.{is_borrowed_in}
+use Rattle.channel_model.specs.Refusals.{is_borrowed}
 use Rattle.channel_run.specs.RunShown.{shown}
 use Rattle.channel_run.proofs.Entries.{list_any-shown}
 use Rattle.channel_run.proofs.RunChanges.{stepped-drop_sender}
@@ -17,7 +17,7 @@ returns-then-is_sender_borrowed g c =
     c.self.inside.weak_receivers c.self.inside.operations.entries in
     let step = Step.DropSender c.args.name in
     let known : is_among c.args.name run.senders ≡ true = sym c.has.ensures ∙ c.if-not-has.false in
-    let borrowed : is_borrowed_in run step ≡ true =
+    let borrowed : is_borrowed run step ≡ true =
     list_any-shown (λ operation. borrows_sender c.args.name operation) c.self.inside.operations.entries
     ∙ sym c.is_sender_borrowed.ensures ∙ c.if-is_sender_borrowed.true in
     rw (← c.self.view_is) (StepsTo-refused run run step Refusal.Borrowed _
@@ -38,7 +38,7 @@ returns g c =
     c.self.inside.weak_receivers c.self.inside.operations.entries in
     let step = Step.DropSender c.args.name in
     let known : is_among c.args.name run.senders ≡ true = sym c.has.ensures ∙ c.if-not-has.false in
-    let free : is_borrowed_in run step ≡ false =
+    let free : is_borrowed run step ≡ false =
     list_any-shown (λ operation. borrows_sender c.args.name operation) c.self.inside.operations.entries
     ∙ sym c.is_sender_borrowed.ensures ∙ c.if-is_sender_borrowed.false in
     let fewer : length c.self.inside.senders ≡ suc (length (without c.args.name c.self.inside.senders)) =

@@ -3,8 +3,8 @@ use Rattle.event_list.specs.Keys.{is_among}
 use Rattle.channel_model.specs.Operations.{borrows_receiver}
 use Rattle.channel_model.specs.declared.step.Refusal.{Refusal}
 use Rattle.channel_model.specs.declared.step.Step.{Step}
-use Rattle.channel_run.specs.StandsFor.{RunView}
-use Rattle.channel_run.specs.RunSteps.{is_borrowed_in, refusal_in}
+use Rattle.channel_model.specs.View.{View}
+use Rattle.channel_model.specs.Refusals.{is_borrowed, refusal_in}
 use Rattle.channel_run.specs.RunShown.{shown}
 use Rattle.channel_run.proofs.Entries.{list_any-shown}
 use Rattle.channel_run.proofs.RunStreams.{StepsTo-allowed}
@@ -16,9 +16,9 @@ returns-then-is_receiver_borrowed g c =
     let run = shown c.self.inside.core c.self.inside.senders c.self.inside.receivers.entries c.self.inside.weak_senders
     c.self.inside.weak_receivers c.self.inside.operations.entries in
     let step = Step.PollNext c.args.receiver in
-    let known = ap (λ (r : RunView g.row.T.Denot). is_among c.args.receiver r.receivers) c.self.view_is
+    let known = ap (λ (r : View g.row.T.Denot). is_among c.args.receiver r.receivers) c.self.view_is
     ∙ sym c.has_receiver.ensures ∙ c.if-not-has_receiver.false in
-    let borrowed : is_borrowed_in run step ≡ true =
+    let borrowed : is_borrowed run step ≡ true =
     list_any-shown (λ operation. borrows_receiver c.args.receiver operation) c.self.inside.operations.entries
     ∙ sym c.is_receiver_borrowed.ensures ∙ c.if-is_receiver_borrowed.true in
     rw (← c.self.view_is) (StepsTo-refused run run step Refusal.Borrowed _
@@ -29,11 +29,11 @@ returns g c =
     let run = shown c.self.inside.core c.self.inside.senders c.self.inside.receivers.entries c.self.inside.weak_senders
     c.self.inside.weak_receivers c.self.inside.operations.entries in
     let step = Step.PollNext c.args.receiver in
-    let known = ap (λ (r : RunView g.row.T.Denot). is_among c.args.receiver r.receivers) c.self.view_is
+    let known = ap (λ (r : View g.row.T.Denot). is_among c.args.receiver r.receivers) c.self.view_is
     ∙ sym c.has_receiver.ensures ∙ c.if-not-has_receiver.false in
-    let free : is_borrowed_in run step ≡ false =
+    let free : is_borrowed run step ≡ false =
     list_any-shown (λ operation. borrows_receiver c.args.receiver operation) c.self.inside.operations.entries
     ∙ sym c.is_receiver_borrowed.ensures ∙ c.if-is_receiver_borrowed.false in
     StepsTo-allowed c.args.self.now _ step _
-    (subst (λ (r : RunView g.row.T.Denot). refusal_in r step ≡ None) c.self.view_is
+    (subst (λ (r : View g.row.T.Denot). refusal_in r step ≡ None) c.self.view_is
     (not_refused run step known refl free refl)) c.poll_stream.ensures

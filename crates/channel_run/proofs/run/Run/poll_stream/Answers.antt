@@ -1,8 +1,8 @@
 use Rattle.std.proofs.Common.{◌≡◌, ◌∙◌, Some, sym, ap}
 use Rattle.std.specs.Prelude.{is_some, Option}
 use Rattle.event_list.specs.Keys.{is_among}
-use Rattle.channel_run.specs.StandsFor.{RunView}
 use Rattle.channel_model.specs.declared.step.Reply.TheVariants.{NextPolled}
+use Rattle.channel_model.specs.View.{View}
 use Rattle.channel_run.specs.RunShown.{entry_at}
 use Rattle.channel_run.proofs.Entries.{is_among-entry_at}
 use Rattle.channel_run.proofs.RunPolls.{first_on_err, is_there, polled}
@@ -13,7 +13,7 @@ use Rattle.channel_run.proofs.run.Run.poll_stream.Goals.{in-Ok, in-Err}
 
 pub returns-in_default : goal.returns-in_default
 returns-in_default g c =
-    let there = ap (λ (r : RunView g.row.T.Denot). is_among c.args.receiver r.receivers) c.self.view_is ∙ c.requires in
+    let there = ap (λ (r : View g.row.T.Denot). is_among c.args.receiver r.receivers) c.self.view_is ∙ c.requires in
     let gone = sym (is_among-entry_at c.self.inside.receivers.entries c.args.receiver)
     ∙ ap (λ (found : Option (Option _)). is_some found) (sym c.in_default.ensures.value) in
     cc

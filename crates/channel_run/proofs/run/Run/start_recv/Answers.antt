@@ -3,8 +3,8 @@ use Rattle.event_list.specs.Keys.{is_among}
 use Rattle.channel_run.specs.declared.operations.Operation.TheVariants.{Recv}
 use Rattle.channel_model.specs.declared.step.Refusal.{Refusal}
 use Rattle.channel_model.specs.declared.step.Step.{Step}
-use Rattle.channel_run.specs.StandsFor.{RunView}
-use Rattle.channel_run.specs.RunSteps.{is_operation_in}
+use Rattle.channel_model.specs.View.{View}
+use Rattle.channel_model.specs.Refusals.{is_operation}
 use Rattle.channel_run.specs.RunShown.{shown}
 use Rattle.channel_run.proofs.Entries.{is_some-shown}
 use Rattle.channel_run.proofs.MadeSteps.{made-start_recv}
@@ -17,23 +17,24 @@ use Rattle.channel_run.proofs.run.Run.start_recv.Goals.{in-Ok, in-Err}
 pub put-requires : goal.put-requires
 put-requires g c = nothing_at c.self.inside.operations.entries c.args.op
     (sym (is_some-shown c.self.inside.operations.entries c.args.op)
-    ∙ ap (λ (r : RunView g.row.T.Denot). is_operation_in r c.args.op) c.self.view_is ∙ sym c.has_operation.ensures
+    ∙ ap (λ (r : View g.row.T.Denot). is_operation r c.args.op) c.self.view_is ∙ sym c.has_operation.ensures
     ∙ c.if-has_operation.false)
 
 pub invariant_of-self : goal.invariant_of-self
 invariant_of-self g c =
     let run = shown c.self.inside.core c.self.inside.senders c.self.inside.receivers.entries c.self.inside.weak_senders
     c.self.inside.weak_receivers c.self.inside.operations.entries in
+    let fresh : is_operation run c.args.op ≡ false =
+    ap (λ (r : View g.row.T.Denot). is_operation r c.args.op) c.self.view_is ∙ sym c.has_operation.ensures
+    ∙ c.if-has_operation.false in
     let absent = nothing_at c.self.inside.operations.entries c.args.op
-    (sym (is_some-shown c.self.inside.operations.entries c.args.op)
-    ∙ ap (λ (r : RunView g.row.T.Denot). is_operation_in r c.args.op) c.self.view_is ∙ sym c.has_operation.ensures
-    ∙ c.if-has_operation.false) in
+    (sym (is_some-shown c.self.inside.operations.entries c.args.op) ∙ fresh) in
     elim c.match-put.branch [
       | in-Ok w ↦ (stepped-started c.self.inside.core c.self.inside.senders c.self.inside.receivers.entries
           c.self.inside.weak_senders c.self.inside.weak_receivers c.self.inside.operations.entries c.self.invariant
           (Step.StartRecv c.args.op c.args.receiver) c.args.op
           (Recv c.args.receiver None) c.put.new.entries.entries absent refl refl refl w.in-Ok.ensures.added
-          w.in-Ok.ensures.more (made-start_recv run c.args.op c.args.receiver)).whole
+          w.in-Ok.ensures.more (made-start_recv run c.args.op c.args.receiver fresh)).whole
       | in-Err w ↦ rw w.in-Err.ensures.unchanged c.self.invariant
     ]
 
@@ -43,15 +44,13 @@ returns g c =
     c.self.inside.weak_receivers c.self.inside.operations.entries in
     let step = Step.StartRecv c.args.op c.args.receiver in
     let known : is_among c.args.receiver run.receivers ≡ true =
-    ap (λ (r : RunView g.row.T.Denot). is_among c.args.receiver r.receivers) c.self.view_is
+    ap (λ (r : View g.row.T.Denot). is_among c.args.receiver r.receivers) c.self.view_is
     ∙ sym c.has_receiver.ensures ∙ c.if-not-has_receiver.false in
-    let absent = nothing_at c.self.inside.operations.entries c.args.op
-    (sym (is_some-shown c.self.inside.operations.entries c.args.op)
-    ∙ ap (λ (r : RunView g.row.T.Denot). is_operation_in r c.args.op) c.self.view_is ∙ sym c.has_operation.ensures
-    ∙ c.if-has_operation.false) in
-    let fresh : is_operation_in run c.args.op ≡ false =
-    ap (λ (r : RunView g.row.T.Denot). is_operation_in r c.args.op) c.self.view_is ∙ sym c.has_operation.ensures
+    let fresh : is_operation run c.args.op ≡ false =
+    ap (λ (r : View g.row.T.Denot). is_operation r c.args.op) c.self.view_is ∙ sym c.has_operation.ensures
     ∙ c.if-has_operation.false in
+    let absent = nothing_at c.self.inside.operations.entries c.args.op
+    (sym (is_some-shown c.self.inside.operations.entries c.args.op) ∙ fresh) in
     let allowed = not_refused run step known fresh refl refl in
     elim c.match-put.branch [
       | in-Ok w ↦ rw (← c.self.view_is, w.result-is)
@@ -59,7 +58,7 @@ returns g c =
           c.self.inside.receivers.entries c.self.inside.weak_senders c.self.inside.weak_receivers
           c.self.inside.operations.entries c.self.invariant step c.args.op
           (Recv c.args.receiver None) c.put.new.entries.entries absent refl refl refl w.in-Ok.ensures.added
-          w.in-Ok.ensures.more (made-start_recv run c.args.op c.args.receiver)).made)
+          w.in-Ok.ensures.more (made-start_recv run c.args.op c.args.receiver fresh)).made)
       | in-Err w ↦ rw (← c.self.view_is, w.result-is, w.in-Err.ensures.unchanged)
           (StepsTo-wants run run step _ (wants-name run step allowed refl)
           (IsRefused-unchanged run step Refusal.OutOfMemory))

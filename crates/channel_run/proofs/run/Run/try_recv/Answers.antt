@@ -1,8 +1,8 @@
 use Rattle.std.proofs.Common.{◌∙◌, refl, sym, ap}
 use Rattle.event_list.specs.Keys.{is_among}
 use Rattle.channel_model.specs.declared.step.Step.{Step}
+use Rattle.channel_model.specs.View.{View}
 use Rattle.channel_run.specs.RunShown.{shown}
-use Rattle.channel_run.specs.StandsFor.{RunView}
 use Rattle.channel_run.proofs.WholeSteps.{StepsTo-made, not_refused}
 use Rattle.channel_run.proofs.RunChanges.{stepped-try_recv}
 use Rattle.channel_run.proofs.run.Run.try_recv.Goals as goal
@@ -21,7 +21,7 @@ returns g c =
     let is = stepped-try_recv c.self.inside.core c.self.inside.senders c.self.inside.receivers.entries
     c.self.inside.weak_senders c.self.inside.weak_receivers c.self.inside.operations.entries c.self.invariant
     c.args.receiver in
-    let known = ap (λ (r : RunView g.row.T.Denot). is_among c.args.receiver r.receivers) c.self.view_is
+    let known = ap (λ (r : View g.row.T.Denot). is_among c.args.receiver r.receivers) c.self.view_is
     ∙ sym c.has_receiver.ensures ∙ c.if-not-has_receiver.false in
     rw (← c.self.view_is, c.try_recv.ensures.reply, c.try_recv.ensures.after)
     (StepsTo-made run _ (Step.TryRecv c.args.receiver) _

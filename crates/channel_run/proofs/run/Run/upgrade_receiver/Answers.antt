@@ -4,8 +4,8 @@ use Rattle.std.specs.Prelude.{nat_lt, ◌&&◌}
 use Rattle.event_list.specs.Keys.{is_among}
 use Rattle.channel_model.specs.declared.step.Reply.{Reply}
 use Rattle.channel_model.specs.declared.step.Step.{Step}
-use Rattle.channel_run.specs.StandsFor.{RunView}
 use Rattle.channel_model.specs.Tables.{handle_limit}
+use Rattle.channel_model.specs.View.{View}
 use Rattle.channel_core.specs.Counts.{count_upgraded}
 use Rattle.channel_run.specs.RunShown.{Changed, shown}
 use Rattle.channel_run.proofs.Entries.{is_among-entry_at}
@@ -17,7 +17,7 @@ use Rattle.channel_run.proofs.run.Run.upgrade_receiver.Goals as goal
 pub put-requires : goal.put-requires
 put-requires g c = nothing_at c.self.inside.receivers.entries c.args.new
     (is_among-entry_at c.self.inside.receivers.entries c.args.new
-    ∙ ap (λ (r : RunView g.row.T.Denot). is_among c.args.new r.receivers) c.self.view_is ∙ sym c.has_receiver.ensures
+    ∙ ap (λ (r : View g.row.T.Denot). is_among c.args.new r.receivers) c.self.view_is ∙ sym c.has_receiver.ensures
     ∙ c.if-has_receiver.false)
 
 pub invariant_of-self-2 : goal.invariant_of-self-2
@@ -27,7 +27,7 @@ invariant_of-self-2 g c =
     c.self.inside.weak_receivers c.self.inside.operations.entries in
     let absent = nothing_at c.self.inside.receivers.entries c.args.new
     (is_among-entry_at c.self.inside.receivers.entries c.args.new
-    ∙ ap (λ (r : RunView g.row.T.Denot). is_among c.args.new r.receivers) c.self.view_is
+    ∙ ap (λ (r : View g.row.T.Denot). is_among c.args.new r.receivers) c.self.view_is
     ∙ sym c.has_receiver.ensures ∙ c.if-has_receiver.false) in
     let change = when_ok c.put.result (Changed c.args.new c.self.inside.receivers.entries c.put.new.entries.entries
     (Some None)) (sym c.is_err.ensures.value ∙ c.if-is_err.false) c.put.ensures.added in
@@ -53,7 +53,7 @@ returns g c =
     c.self.inside.weak_receivers c.self.inside.operations.entries in
     let absent = nothing_at c.self.inside.receivers.entries c.args.new
     (is_among-entry_at c.self.inside.receivers.entries c.args.new
-    ∙ ap (λ (r : RunView g.row.T.Denot). is_among c.args.new r.receivers) c.self.view_is
+    ∙ ap (λ (r : View g.row.T.Denot). is_among c.args.new r.receivers) c.self.view_is
     ∙ sym c.has_receiver.ensures ∙ c.if-has_receiver.false) in
     let change = when_ok c.put.result (Changed c.args.new c.self.inside.receivers.entries c.put.new.entries.entries
     (Some None)) (sym c.is_err.ensures.value ∙ c.if-is_err.false) c.put.ensures.added in
@@ -65,7 +65,7 @@ returns g c =
     (Reply.Upgraded true) c.args.new c.put.new.entries.entries absent change more
     (made-upgrade_receiver run c.args.of c.args.new opened) in
     let known : is_among c.args.of run.weak_receivers ≡ true = sym c.has.ensures ∙ c.if-not-has.false in
-    let fresh = ap (λ (r : RunView g.row.T.Denot). is_among c.args.new r.receivers) c.self.view_is
+    let fresh = ap (λ (r : View g.row.T.Denot). is_among c.args.new r.receivers) c.self.view_is
     ∙ sym c.has_receiver.ensures ∙ c.if-has_receiver.false in
     let few = one_more c.self.inside.core.receivers
     (rw (← c.receiver_count.ensures) c.if-receiver_count-gt-HANDLE_LIMIT.false) in
