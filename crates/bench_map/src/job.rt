@@ -4,20 +4,19 @@ ghost use Rattle.bench_map.specs.Stirring.{stirred};
 
 use parallel_map::Job;
 
-/// A number stirred so many times.
+/// The job that stirs a number `STEPS` times.
 pub struct Stir<const STEPS: u64>;
 
 impl<const STEPS: u64> Job<u64, u64> for Stir<STEPS> {
     ghost answer = { λ number. stirred STEPS number };
 
     fn run(&self, number: &u64) -> u64 {
-        stir::<STEPS>(*number)
+        stir_number::<STEPS>(*number)
     }
 }
 
-/// A number stirred so many times: each time it is multiplied and added to, without what is above
-/// 64 bits.
-pub fn stir<const STEPS: u64>(number: u64) -> u64
+/// The number, multiplied and added to `STEPS` times, without what is above 64 bits.
+pub fn stir_number<const STEPS: u64>(number: u64) -> u64
     ensures { result ≡ stirred STEPS number }
 {
     let mut state = number;

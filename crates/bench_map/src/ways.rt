@@ -1,5 +1,5 @@
 //! The ways in which a list is mapped, and how long each takes.
-use crate::job::{Stir, stir};
+use crate::job::{Stir, stir_number};
 use anyhow::Result;
 use async_channel::StampMaker;
 use parallel_map::{Open, map_all};
@@ -23,7 +23,7 @@ pub enum Way {
     Plain,
     /// By the kit's rayon, on as many threads as it takes.
     Rayon,
-    /// By `map_all`, with so many workers.
+    /// By `map_all`, with this number of workers.
     Map {
         /// How many.
         workers: usize,
@@ -42,7 +42,7 @@ pub struct Best {
 fn plain<const STEPS: u64, R: AllocGlobal>(rt: &R, inputs: &[u64]) -> Result<Vec<u64>> {
     let mut answers = Vec::with_capacity(rt.alloc(), inputs.len())?;
     for input in inputs {
-        answers.push(stir::<STEPS>(*input))?;
+        answers.push(stir_number::<STEPS>(*input))?;
     }
     Ok(answers)
 }
@@ -53,7 +53,7 @@ fn by_rayon<const STEPS: u64, R: AllocGlobal + Threads + Sync>(
 ) -> Result<Vec<u64>> {
     let answers = inputs
         .par_iter()
-        .map(|input: &u64| -> u64 { stir::<STEPS>(*input) })
+        .map(|input: &u64| -> u64 { stir_number::<STEPS>(*input) })
         .collect(rt, rt.alloc())?;
     Ok(answers)
 }
