@@ -16,6 +16,7 @@ run:
 test:
 	rt ci
 	python3 tools/chanrun_runs.py
+	python3 tools/refused_requests.py
 	$(MAKE) --no-print-directory rust
 
 rust:
