@@ -1,9 +1,10 @@
 # `make run` and `make test` do everything on a fresh machine.
 
-.PHONY: help run test rust check bench
+.PHONY: help run try test rust check bench
 
 help:
 	@echo 'make run    proves and builds the channel, and runs trysend, and chanrun on examples/tour.chan'
+	@echo 'make try    runs the same two before any proof, in about a minute'
 	@echo 'make test   the gate: proofs from nothing, must-fail edits, tests and programs; make rust'
 	@echo 'make rust   builds and tests the Rust crate, and compares it with the proved chanrun'
 	@echo 'make check  every crate, lowest first, over what earlier checks kept'
@@ -12,6 +13,10 @@ help:
 run:
 	cd crates/trysend && rt run
 	cd crates/chanrun_program && rt run < ../../examples/tour.chan
+
+try:
+	@cd crates/trysend && rt try 2> /dev/null
+	@cd crates/chanrun_program && rt try < ../../examples/tour.chan 2> /dev/null
 
 test:
 	rt ci
