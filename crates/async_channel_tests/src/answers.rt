@@ -140,7 +140,24 @@ fn said_by_receiver<R: Wait + Clone + Drop>(
     Ok(said)
 }
 
-/// Makes the calls in order on a new channel. Behind each all strong handles say the same of it:
+/// These two handles, and no others yet.
+fn handles_of<R: Wait + Clone + Drop>(
+    alloc: Global,
+    s: Sender<u64, R>,
+    r: Receiver<u64, R>,
+) -> Result<Handles<R>, Fail> {
+    let (mut senders, mut receivers) = (Vec::new(alloc), Vec::new(alloc));
+    senders.push(s)?;
+    receivers.push(r)?;
+    Ok(Handles {
+        senders,
+        receivers,
+        weak_senders: Vec::new(alloc),
+        weak_receivers: Vec::new(alloc),
+    })
+}
+
+/// Makes the calls in order on a new channel. After each all strong handles say the same of it:
 /// how many messages it holds, how many senders and receivers live, and which of the questions are
 /// answered by true.
 fn run<R: Wait + Clone + Drop + AllocGlobal + Abort>(
@@ -156,12 +173,7 @@ fn run<R: Wait + Clone + Drop + AllocGlobal + Abort>(
         _ => unbounded(rt, alloc, &mut maker)?,
     };
     let tag = s.tag;
-    let mut handles = Handles {
-        senders: vec![in alloc; s]?,
-        receivers: vec![in alloc; r]?,
-        weak_senders: Vec::new(alloc),
-        weak_receivers: Vec::new(alloc),
-    };
+    let mut handles = handles_of(alloc, s, r)?;
     for (call, want) in rows {
         handles.make(*call)?;
         for s in &handles.senders {
