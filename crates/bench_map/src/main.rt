@@ -80,5 +80,5 @@ fn main(rt: HostRuntime) -> Result<()> {
     println!(rt; "| Job | Way | µs | to the plain loop | to rayon |")?;
     println!(rt; "|---|---|---|---|---|")?;
     report(&rt, &Stir::<1>, "1,000,000 cheap", 1_000_000)?;
-    report(&rt, &Stir::<60_000>, "1,000 dear", 1_000)
+    report(&rt, &Stir::<600_000>, "1,000 dear", 1_000)
 }
