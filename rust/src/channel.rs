@@ -66,6 +66,32 @@ impl<T> Channel<T> {
         answer
     }
 
+    /// Makes a poll by the owner of a ticket.
+    ///
+    /// One that is ready needs no waker. Where it `waits`, the caller's is copied, and the poll is
+    /// made anew: a waker is copied without the lock, and a poll that turns out to be ready then
+    /// leaves the copy here.
+    #[inline]
+    fn poll<A>(
+        &self,
+        ticket: &mut Option<Ticket>,
+        context: &Context<'_>,
+        waits: impl Fn(&Core<T>) -> bool,
+        mut poll: impl FnMut(&mut Core<T>, &mut Option<Ticket>, Mark, &mut Told) -> A,
+    ) -> A {
+        let mut waker = None;
+        loop {
+            let answer = self.step_of(ticket, |core, ticket, told| {
+                let mark = if waits(core) { Mark(Some(waker.take()?)) } else { Mark(None) };
+                Some(poll(core, ticket, mark, told))
+            });
+            match answer {
+                Some(answer) => return answer,
+                None => waker = Some(context.waker().clone()),
+            }
+        }
+    }
+
     #[inline]
     pub(crate) fn try_send(&self, message: T) -> Result<(), TrySendError<T>> {
         self.step(|core, told| with_memory(core.try_send(message, told)))
@@ -91,8 +117,8 @@ impl<T> Channel<T> {
         ticket: &mut Option<Ticket>,
         context: &Context<'_>,
     ) -> Poll<Result<(), SendError<T>>> {
-        self.step_of(ticket, |core, ticket, told| {
-            let mark = Mark::of(context, core.is_full() && !core.is_closed());
+        let waits = |core: &Core<T>| core.is_full() && !core.is_closed();
+        self.poll(ticket, context, waits, |core, ticket, mark, told| {
             with_memory(core.poll_send(message, ticket, mark, told))
         })
     }
@@ -103,8 +129,8 @@ impl<T> Channel<T> {
         ticket: &mut Option<Ticket>,
         context: &Context<'_>,
     ) -> Poll<Result<T, RecvError>> {
-        self.step_of(ticket, |core, ticket, told| {
-            let mark = Mark::of(context, core.is_empty() && !core.is_closed());
+        let waits = |core: &Core<T>| core.is_empty() && !core.is_closed();
+        self.poll(ticket, context, waits, |core, ticket, mark, told| {
             with_memory(core.poll_recv(ticket, mark, told))
         })
     }
@@ -115,8 +141,8 @@ impl<T> Channel<T> {
         ticket: &mut Option<Ticket>,
         context: &Context<'_>,
     ) -> Poll<Option<T>> {
-        self.step_of(ticket, |core, ticket, told| {
-            let mark = Mark::of(context, core.is_empty() && !core.is_closed());
+        let waits = |core: &Core<T>| core.is_empty() && !core.is_closed();
+        self.poll(ticket, context, waits, |core, ticket, mark, told| {
             with_memory(core.poll_next(ticket, mark, told))
         })
     }
@@ -126,8 +152,8 @@ impl<T> Channel<T> {
         ticket: &mut Option<Ticket>,
         context: &Context<'_>,
     ) -> Poll<()> {
-        self.step_of(ticket, |core, ticket, _told| {
-            let mark = Mark::of(context, core.receiver_count() > 0);
+        let waits = |core: &Core<T>| core.receiver_count() > 0;
+        self.poll(ticket, context, waits, |core, ticket, mark, _told| {
             with_memory(core.poll_closed(ticket, mark))
         })
     }
@@ -243,14 +269,13 @@ impl<T> Channel<T> {
         }
     }
 
-    /// Gives a receiver up, and its stream's wait first. The core is told of the last one.
+    /// Gives a receiver up, and its stream's wait with it. The core is told of the last one.
     #[inline]
     pub(crate) fn drop_receiver(&self, stream: &mut Option<Ticket>) {
-        if stream.is_some() {
-            self.step_of(stream, |core, ticket, _told| core.cancel_stream(ticket));
-        }
         if self.receivers.fetch_sub(1, Ordering::SeqCst) == 1 {
-            self.step(|core, told| core.drop_receiver(&mut None, told));
+            self.step_of(stream, |core, ticket, told| core.drop_receiver(ticket, told));
+        } else if stream.is_some() {
+            self.step_of(stream, |core, ticket, _told| core.cancel_stream(ticket));
         }
     }
 }

@@ -9,8 +9,8 @@ use std::sync::{Mutex, MutexGuard, PoisonError};
 
 /// A value that one thread at a time can reach.
 ///
-/// A panic under the lock leaves it usable: no code of a caller runs there but the copying of a
-/// waker, which the value hasn't been changed for yet.
+/// No code of a caller runs under the lock, so none panics there. A lock that says otherwise is
+/// taken none the less.
 pub(crate) struct Lock<V>(Mutex<V>);
 
 impl<V> Lock<V> {

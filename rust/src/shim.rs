@@ -4,11 +4,6 @@
 //! Memory isn't refused here. Where there is none the program ends, as with every collection of
 //! `std`, so that an answer which tells of a refusal can't be made.
 
-use std::collections;
-use std::convert::Infallible;
-use std::marker::PhantomData;
-use std::ops::{Deref, DerefMut};
-
 /// Where memory comes from: the one allocator of a program.
 #[derive(Clone, Copy)]
 pub struct Global;
@@ -16,46 +11,44 @@ pub struct Global;
 /// A value for which there was no memory.
 pub struct Refused<T> {
     pub value: T,
-    _never: Infallible,
+    _never: std::convert::Infallible,
 }
 
-/// A ledger counts for the prover alone, so these count nothing and take no bytes.
+/// A ledger counts for the prover alone. So its book, a share of it and the blank that opens it are
+/// one type, which counts nothing and takes no bytes.
 pub trait Ledger {}
 pub struct Brand;
 impl Ledger for Brand {}
-pub struct Blank;
-pub struct Book<L>(PhantomData<L>);
-pub type Share<L> = Book<L>;
+pub struct Book<L = Brand>(std::marker::PhantomData<L>);
+pub use self::{Book as Blank, Book as Share};
 
-impl Blank {
-    pub fn new(_parts: u64) -> Self {
-        Blank
-    }
-    pub fn open<L: Ledger>(self) -> (Book<L>, Share<L>) {
-        (Book(PhantomData), Book(PhantomData))
-    }
-}
 impl<L> Book<L> {
+    pub fn new(_parts: u64) -> Self {
+        Book(Default::default())
+    }
+    pub fn open<M: Ledger>(self) -> (Book<M>, Share<M>) {
+        (Book(Default::default()), Book(Default::default()))
+    }
     pub fn add(&mut self, _share: &mut Share<L>, _amount: u64) {}
 }
 
 /// A collection, and what is kept beside it. It has all calls of the collection; those below are
 /// made or answered otherwise.
 pub struct Over<C, K = Global>(C, K);
-pub type BTreeMap<K, V> = Over<collections::BTreeMap<K, V>>;
+pub type BTreeMap<K, V> = Over<std::collections::BTreeMap<K, V>>;
 pub type Slab<V> = Over<slab::Slab<V>>;
 pub type Vec<T> = Over<std::vec::Vec<T>>;
-pub type VecDeque<T, A> = Over<collections::VecDeque<T>, A>;
+pub type VecDeque<T, A> = Over<std::collections::VecDeque<T>, A>;
 /// A queue that never holds more than the number beside it, for which it has room from the start.
-pub type HeapCircularBuffer<T> = Over<collections::VecDeque<T>, usize>;
+pub type HeapCircularBuffer<T> = VecDeque<T, usize>;
 
-impl<C, K> Deref for Over<C, K> {
+impl<C, K> std::ops::Deref for Over<C, K> {
     type Target = C;
     fn deref(&self) -> &C {
         &self.0
     }
 }
-impl<C, K> DerefMut for Over<C, K> {
+impl<C, K> std::ops::DerefMut for Over<C, K> {
     fn deref_mut(&mut self) -> &mut C {
         &mut self.0
     }
@@ -78,8 +71,8 @@ impl<K: Ord, V> BTreeMap<K, V> {
     }
 }
 impl<V> Slab<V> {
-    pub fn reserve(&mut self, more: usize) -> Result<(), Infallible> {
-        self.0.reserve(more);
+    /// An insertion takes the room that it needs, so none is made before.
+    pub fn reserve(&mut self, _more: usize) -> Result<(), Refused<()>> {
         Ok(())
     }
     pub fn insert_reserved(&mut self, value: V) -> usize {
@@ -87,7 +80,7 @@ impl<V> Slab<V> {
     }
 }
 impl<T> Vec<T> {
-    pub fn with_capacity(alloc: Global, capacity: usize) -> Result<Self, Infallible> {
+    pub fn with_capacity(alloc: Global, capacity: usize) -> Result<Self, Refused<()>> {
         Ok(Over(std::vec::Vec::with_capacity(capacity), alloc))
     }
     pub fn push(&mut self, value: T) -> Result<(), Refused<T>> {
@@ -102,9 +95,8 @@ impl<T> VecDeque<T, Global> {
     }
 }
 impl<T> HeapCircularBuffer<T> {
-    pub fn with_capacity(_: Global, capacity: usize) -> Result<Self, Infallible> {
-        let items = collections::VecDeque::with_capacity(capacity);
-        Ok(Over(items, capacity))
+    pub fn with_capacity(_: Global, capacity: usize) -> Result<Self, Refused<()>> {
+        Ok(Over(std::collections::VecDeque::with_capacity(capacity), capacity))
     }
     pub fn try_push_back(&mut self, value: T) -> Result<(), T> {
         if self.0.len() == self.1 {
@@ -114,8 +106,7 @@ impl<T> HeapCircularBuffer<T> {
         Ok(())
     }
     pub fn push_back(&mut self, value: T) -> Option<T> {
-        let is_full = self.0.len() == self.1;
-        let oldest = if is_full { self.0.pop_front() } else { None };
+        let oldest = if self.0.len() == self.1 { self.0.pop_front() } else { None };
         self.0.push_back(value);
         oldest
     }

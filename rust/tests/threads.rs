@@ -8,7 +8,7 @@ use std::time::Duration;
 
 use futures_lite::future::{block_on, poll_once};
 use futures_lite::StreamExt;
-use vamorilesh::{bounded, unbounded, Receiver, RecvError, SendError, Sender};
+use vamorilesh::{bounded, unbounded, Receiver, RecvError, SendError, Sender, TryRecvError};
 
 /// Messages that each sending thread sends.
 const EACH: usize = 5_000;
@@ -279,6 +279,27 @@ fn handles_are_made_and_given_up_everywhere() {
         }
     });
     assert_eq!((s.sender_count(), s.receiver_count(), s.is_closed()), (1, 1, false));
+}
+
+#[test]
+fn whoever_sees_no_handle_of_a_side_sees_a_closed_channel() {
+    for _ in 0..200 {
+        let (s, r) = unbounded::<u8>();
+        let weak = s.downgrade();
+        thread::scope(|scope| {
+            scope.spawn(move || drop(s));
+            while r.sender_count() > 0 && weak.upgrade().is_some() {}
+            assert_eq!((r.is_closed(), r.try_recv()), (true, Err(TryRecvError::Closed)));
+        });
+        let (s, r) = unbounded::<u8>();
+        let weak = r.downgrade();
+        thread::scope(|scope| {
+            scope.spawn(move || drop(r));
+            while s.receiver_count() > 0 && weak.upgrade().is_some() {}
+            let closed = block_on(poll_once(s.closed()));
+            assert_eq!((s.is_closed(), s.try_send(1).is_err(), closed), (true, true, Some(())));
+        });
+    }
 }
 
 #[test]

@@ -11,12 +11,15 @@ mod works;
 
 use std::collections::BTreeMap;
 
-/// One piece of work, and each peer that can do it. A run answers nanoseconds for each message.
+/// A peer's name, and its run of a work, which answers nanoseconds for each message.
+type Run = (&'static str, fn() -> f64);
+
+/// One piece of work, and each peer that can do it.
 pub struct Work {
     pub name: &'static str,
     /// The greatest ratio to `async-channel` that the crate aims at.
     pub goal: Option<f64>,
-    pub runs: Vec<(&'static str, fn() -> f64)>,
+    pub runs: Vec<Run>,
 }
 
 const BASE: &str = "async-channel";

@@ -1,0 +1,141 @@
+//! Wakers at their worst: copied with a call of the channel, panicking, or given up by a thread that
+//! ends. The others who wait are none the worse for it.
+
+mod support;
+
+use std::cell::{Cell, RefCell};
+use std::future::Future;
+use std::panic::{catch_unwind, AssertUnwindSafe};
+use std::pin::Pin;
+use std::ptr;
+use std::sync::atomic::{AtomicUsize, Ordering};
+use std::sync::Arc;
+use std::task::{Context, Poll, RawWaker, RawWakerVTable, Wake, Waker};
+use std::thread;
+
+use futures_core::Stream;
+use vamorilesh::{bounded, unbounded, Receiver, Sender};
+
+thread_local! {
+    /// The channel that a [`copied`] waker of this thread calls.
+    static CALLED: RefCell<Option<(Sender<u64>, Receiver<u64>)>> = const { RefCell::new(None) };
+    static COPIES: Cell<usize> = const { Cell::new(0) };
+}
+
+/// A waker that calls the channel whenever it is copied.
+fn copied(_: *const ()) -> RawWaker {
+    COPIES.with(|copies| copies.set(copies.get() + 1));
+    CALLED.with(|called| {
+        if let Some((s, r)) = called.borrow().as_ref() {
+            let _ = (s.len(), r.is_closed(), s.downgrade().upgrade());
+        }
+    });
+    RawWaker::new(ptr::null(), &TABLE)
+}
+
+static TABLE: RawWakerVTable = RawWakerVTable::new(copied, |_| {}, |_| {}, |_| {});
+
+/// Polls a future once, and answers whether it was ready and how often its waker was copied.
+fn poll_copied<F: Future + Unpin>(future: &mut F) -> (bool, usize) {
+    COPIES.with(|copies| copies.set(0));
+    // SAFETY: the functions of the table never look at the data.
+    let waker = unsafe { Waker::from_raw(RawWaker::new(ptr::null(), &TABLE)) };
+    let is_ready = Pin::new(future).poll(&mut Context::from_waker(&waker)).is_ready();
+    (is_ready, COPIES.with(Cell::get))
+}
+
+#[test]
+fn a_waker_may_call_the_channel_when_it_is_copied() {
+    let (s, r) = bounded(1);
+    CALLED.with(|called| called.replace(Some((s.clone(), r.clone()))));
+    let mut receive = r.recv();
+    assert_eq!(poll_copied(&mut receive), (false, 1));
+    assert_eq!((poll_copied(&mut s.send(1)), poll_copied(&mut receive)), ((true, 0), (true, 0)));
+    assert_eq!(s.try_send(2), Ok(()));
+    let mut send = s.send(3);
+    assert_eq!((poll_copied(&mut send), poll_copied(&mut send)), ((false, 1), (false, 1)));
+    assert_eq!((r.try_recv(), poll_copied(&mut send)), (Ok(2), (true, 0)));
+    assert_eq!(poll_copied(&mut s.closed()), (false, 1));
+    CALLED.with(RefCell::take);
+}
+
+/// A waker that panics when it is woken, and when it is dropped if it says so.
+struct Fails {
+    dropped: bool,
+}
+
+impl Wake for Fails {
+    fn wake(self: Arc<Self>) {
+        panic!("woken");
+    }
+}
+
+impl Drop for Fails {
+    fn drop(&mut self) {
+        assert!(!self.dropped, "dropped");
+    }
+}
+
+#[test]
+fn a_waker_that_panics_leaves_nobody_asleep() {
+    let (s, r) = unbounded::<u64>();
+    let (log, fails) = (support::Log::default(), Waker::from(Arc::new(Fails { dropped: false })));
+    let mut receives: Vec<_> = (0..5).map(|_| Box::pin(r.recv())).collect();
+    for (name, receive) in receives.iter_mut().enumerate() {
+        let waker = if name % 3 == 0 { fails.clone() } else { log.waker(name) };
+        assert!(support::poll_with(receive, &waker).is_pending());
+    }
+    assert!(catch_unwind(AssertUnwindSafe(|| s.close())).is_err());
+    assert_eq!((log.take(), s.is_closed()), (vec![1, 2, 4], true));
+}
+
+#[test]
+fn a_receiver_is_given_up_also_where_its_streams_waker_panics() {
+    for others in [0, 1] {
+        let (s, mut r) = unbounded::<u64>();
+        let others: Vec<_> = (0..others).map(|_| r.clone()).collect();
+        let fails = Waker::from(Arc::new(Fails { dropped: true }));
+        let mut context = Context::from_waker(&fails);
+        assert_eq!(Pin::new(&mut r).poll_next(&mut context), Poll::Pending);
+        drop(fails);
+        assert!(catch_unwind(AssertUnwindSafe(|| drop(r))).is_err());
+        assert_eq!((s.receiver_count(), s.is_closed()), (others.len(), others.is_empty()));
+    }
+}
+
+/// A waker that calls the channel when it is dropped.
+struct Caller(Sender<u64>, Arc<AtomicUsize>);
+
+impl Wake for Caller {
+    fn wake(self: Arc<Self>) {}
+}
+
+impl Drop for Caller {
+    fn drop(&mut self) {
+        self.1.fetch_add(1 + self.0.len(), Ordering::SeqCst);
+    }
+}
+
+thread_local! {
+    /// A wait that is given up when its thread ends.
+    static LAST: RefCell<Option<Pin<Box<dyn Future<Output = ()>>>>> = const { RefCell::new(None) };
+}
+
+#[test]
+fn a_wait_may_be_given_up_by_a_thread_that_ends() {
+    let (s, r) = unbounded::<u64>();
+    let calls = Arc::new(AtomicUsize::new(0));
+    let waker = Waker::from(Arc::new(Caller(s.clone(), calls.clone())));
+    let ends = thread::spawn(move || {
+        LAST.with(|last| last.replace(None));
+        let mut wait: Pin<Box<dyn Future<Output = ()>>> =
+            Box::pin(async move { assert!(r.recv().await.is_err()) });
+        // The second poll leaves the first one's waker aside, which the thread needs a place for.
+        for waker in [Waker::from(support::Count::new()), waker] {
+            assert!(wait.as_mut().poll(&mut Context::from_waker(&waker)).is_pending());
+        }
+        LAST.with(|last| last.replace(Some(wait)));
+    });
+    ends.join().unwrap();
+    assert_eq!((calls.load(Ordering::SeqCst), s.is_closed()), (1, true));
+}
