@@ -1,8 +1,12 @@
 //! A channel that threads and tasks share: one lock round the proved core.
 //!
-//! Each call makes one step of the core under the lock. The numbers of handles are kept beside the
-//! lock, so that a copy needs none: to the core there is one sender as long as there is any, and
-//! one receiver likewise. The core is told when the last one goes, and decides what that means.
+//! Each call makes one step of the core under the lock. A poll of an operation that doesn't wait
+//! yet is the call at once, `try_send` or `try_recv`, and waits where that finds no room or no
+//! message.
+//!
+//! The numbers of handles are kept beside the lock, so that a copy needs none: to the core there
+//! is one sender as long as there is any, and one receiver likewise. The core is told when the last
+//! one goes, and decides what that means.
 
 use crate::lock::Lock;
 use crate::marks::{catch, Mark, Told};
@@ -68,18 +72,19 @@ impl<T> Channel<T> {
 
     /// Makes a poll by the owner of a ticket.
     ///
-    /// One that is ready needs no waker. Where it `waits`, the caller's is copied, and the poll is
-    /// made anew: a waker is copied without the lock, and a poll that turns out to be ready then
-    /// leaves the copy here.
+    /// One that is ready needs no waker. Where it `waits`, the caller's is copied without the
+    /// lock, and the poll is made anew. One that `was_tried` waits most likely, so the waker is
+    /// copied at once. A copy that isn't needed after all is left here.
     #[inline]
     fn poll<A>(
         &self,
         ticket: &mut Option<Ticket>,
         context: &Context<'_>,
+        was_tried: bool,
         waits: impl Fn(&Core<T>) -> bool,
         mut poll: impl FnMut(&mut Core<T>, &mut Option<Ticket>, Mark, &mut Told) -> A,
     ) -> A {
-        let mut waker = None;
+        let mut waker = was_tried.then(|| context.waker().clone());
         loop {
             let answer = self.step_of(ticket, |core, ticket, told| {
                 let mark = if waits(core) { Mark(Some(waker.take()?)) } else { Mark(None) };
@@ -117,8 +122,16 @@ impl<T> Channel<T> {
         ticket: &mut Option<Ticket>,
         context: &Context<'_>,
     ) -> Poll<Result<(), SendError<T>>> {
+        let is_new = ticket.is_none();
+        if let Some(sent) = is_new.then(|| message.take()).flatten() {
+            match self.try_send(sent) {
+                Ok(()) => return Poll::Ready(Ok(())),
+                Err(TrySendError::Closed(sent)) => return Poll::Ready(Err(SendError(sent))),
+                Err(TrySendError::Full(sent)) => *message = Some(sent),
+            }
+        }
         let waits = |core: &Core<T>| core.is_full() && !core.is_closed();
-        self.poll(ticket, context, waits, |core, ticket, mark, told| {
+        self.poll(ticket, context, is_new, waits, |core, ticket, mark, told| {
             with_memory(core.poll_send(message, ticket, mark, told))
         })
     }
@@ -129,8 +142,16 @@ impl<T> Channel<T> {
         ticket: &mut Option<Ticket>,
         context: &Context<'_>,
     ) -> Poll<Result<T, RecvError>> {
+        let is_new = ticket.is_none();
+        if is_new {
+            match self.try_recv() {
+                Ok(message) => return Poll::Ready(Ok(message)),
+                Err(TryRecvError::Closed) => return Poll::Ready(Err(RecvError)),
+                Err(TryRecvError::Empty) => {}
+            }
+        }
         let waits = |core: &Core<T>| core.is_empty() && !core.is_closed();
-        self.poll(ticket, context, waits, |core, ticket, mark, told| {
+        self.poll(ticket, context, is_new, waits, |core, ticket, mark, told| {
             with_memory(core.poll_recv(ticket, mark, told))
         })
     }
@@ -141,8 +162,16 @@ impl<T> Channel<T> {
         ticket: &mut Option<Ticket>,
         context: &Context<'_>,
     ) -> Poll<Option<T>> {
+        let is_new = ticket.is_none();
+        if is_new {
+            match self.try_recv() {
+                Ok(message) => return Poll::Ready(Some(message)),
+                Err(TryRecvError::Closed) => return Poll::Ready(None),
+                Err(TryRecvError::Empty) => {}
+            }
+        }
         let waits = |core: &Core<T>| core.is_empty() && !core.is_closed();
-        self.poll(ticket, context, waits, |core, ticket, mark, told| {
+        self.poll(ticket, context, is_new, waits, |core, ticket, mark, told| {
             with_memory(core.poll_next(ticket, mark, told))
         })
     }
@@ -153,7 +182,7 @@ impl<T> Channel<T> {
         context: &Context<'_>,
     ) -> Poll<()> {
         let waits = |core: &Core<T>| core.receiver_count() > 0;
-        self.poll(ticket, context, waits, |core, ticket, mark, _told| {
+        self.poll(ticket, context, false, waits, |core, ticket, mark, _told| {
             with_memory(core.poll_closed(ticket, mark))
         })
     }
@@ -179,14 +208,17 @@ impl<T> Channel<T> {
         }
     }
 
+    #[inline]
     pub(crate) fn is_closed(&self) -> bool {
         self.core.lock().is_closed()
     }
 
+    #[inline]
     pub(crate) fn is_empty(&self) -> bool {
         self.core.lock().is_empty()
     }
 
+    #[inline]
     pub(crate) fn is_full(&self) -> bool {
         self.core.lock().is_full()
     }
@@ -195,10 +227,12 @@ impl<T> Channel<T> {
         self.core.lock().is_terminated()
     }
 
+    #[inline]
     pub(crate) fn len(&self) -> usize {
         self.core.lock().len()
     }
 
+    #[inline]
     pub(crate) fn capacity(&self) -> Option<usize> {
         self.capacity
     }

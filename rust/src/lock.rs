@@ -5,7 +5,11 @@ use std::panic::{RefUnwindSafe, UnwindSafe};
 #[cfg(feature = "parking_lot")]
 use parking_lot::{Mutex, MutexGuard};
 #[cfg(not(feature = "parking_lot"))]
-use std::sync::{Mutex, MutexGuard, PoisonError};
+use std::sync::{Mutex, MutexGuard, PoisonError, TryLockError};
+
+/// How often a thread lets others run before it sleeps until the lock is free.
+#[cfg(not(feature = "parking_lot"))]
+const TURNS: u32 = 8;
 
 /// A value that one thread at a time can reach.
 ///
@@ -27,6 +31,28 @@ impl<V> Lock<V> {
     #[cfg(not(feature = "parking_lot"))]
     #[inline]
     pub(crate) fn lock(&self) -> MutexGuard<'_, V> {
+        self.try_lock().unwrap_or_else(|| self.wait())
+    }
+
+    #[cfg(not(feature = "parking_lot"))]
+    #[inline]
+    fn try_lock(&self) -> Option<MutexGuard<'_, V>> {
+        match self.0.try_lock() {
+            Ok(guard) => Some(guard),
+            Err(TryLockError::Poisoned(poisoned)) => Some(poisoned.into_inner()),
+            Err(TryLockError::WouldBlock) => None,
+        }
+    }
+
+    #[cfg(not(feature = "parking_lot"))]
+    #[cold]
+    fn wait(&self) -> MutexGuard<'_, V> {
+        for _turn in 0..TURNS {
+            std::thread::yield_now();
+            if let Some(guard) = self.try_lock() {
+                return guard;
+            }
+        }
         self.0.lock().unwrap_or_else(PoisonError::into_inner)
     }
 }

@@ -1,9 +1,9 @@
 //! The wakers that waiters leave, on their way into a waiting list and out of it.
 //!
-//! A waker is the caller's: to copy, to wake or to drop it may run any code, even a call of the same
-//! channel, or panic. So none of it happens under the channel's lock. A poll that has to wait lets
-//! the lock go before it copies its waker. Those that a step tells are gathered by its bell and
-//! woken once the lock is let go. One that leaves its list untold is caught, and dropped then.
+//! A waker is the caller's: to copy, to wake or to drop it may run any code, even a call of the
+//! same channel, or panic. So none of it happens under the channel's lock. A poll that has to wait
+//! lets the lock go before it copies its waker. Those that a step tells are gathered by its bell
+//! and woken once the lock is let go. One that leaves its list untold is caught, and dropped then.
 
 use crate::proved::event_list::Bell;
 use std::cell::Cell;

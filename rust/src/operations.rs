@@ -33,6 +33,7 @@ pub struct Send<'a, T> {
 }
 
 impl<'a, T> Send<'a, T> {
+    #[inline]
     pub(crate) fn new(sender: &'a Sender<T>, message: T) -> Self {
         Send { sender, message: Some(message), ticket: None }
     }
@@ -87,6 +88,7 @@ pub struct Recv<'a, T> {
 }
 
 impl<'a, T> Recv<'a, T> {
+    #[inline]
     pub(crate) fn new(receiver: &'a Receiver<T>) -> Self {
         Recv { receiver, ticket: None }
     }
@@ -135,6 +137,7 @@ pub struct Closed<'a, T> {
 }
 
 impl<'a, T> Closed<'a, T> {
+    #[inline]
     pub(crate) fn new(sender: &'a Sender<T>) -> Self {
         Closed { sender, ticket: None }
     }
@@ -143,6 +146,7 @@ impl<'a, T> Closed<'a, T> {
 impl<T> Future for Closed<'_, T> {
     type Output = ();
 
+    #[inline]
     fn poll(self: Pin<&mut Self>, cx: &mut Context<'_>) -> Poll<()> {
         let closed = self.get_mut();
         closed.sender.channel().poll_closed(&mut closed.ticket, cx)
@@ -150,6 +154,7 @@ impl<T> Future for Closed<'_, T> {
 }
 
 impl<T> Drop for Closed<'_, T> {
+    #[inline]
     fn drop(&mut self) {
         self.sender.channel().cancel_closed(&mut self.ticket);
     }

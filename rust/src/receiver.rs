@@ -36,11 +36,13 @@ pub struct Receiver<T> {
 
 impl<T> Receiver<T> {
     /// The handle of a receiver that is counted.
+    #[inline]
     pub(crate) fn new(channel: Arc<Channel<T>>) -> Self {
         Receiver { channel, stream: None }
     }
 
     /// What all handles of the channel share.
+    #[inline]
     pub(crate) fn channel(&self) -> &Channel<T> {
         &self.channel
     }
@@ -78,6 +80,7 @@ impl<T> Receiver<T> {
     /// assert_eq!(r.recv().await, Err(RecvError));
     /// # });
     /// ```
+    #[inline]
     pub fn recv(&self) -> Recv<'_, T> {
         Recv::new(self)
     }
@@ -116,6 +119,7 @@ impl<T> Receiver<T> {
     /// assert!(s.try_send(2).is_err());
     /// assert_eq!(r.try_recv(), Ok(1));
     /// ```
+    #[inline]
     pub fn close(&self) -> bool {
         self.channel.close()
     }
@@ -129,6 +133,7 @@ impl<T> Receiver<T> {
     /// drop(s);
     /// assert!(r.is_closed());
     /// ```
+    #[inline]
     pub fn is_closed(&self) -> bool {
         self.channel.is_closed()
     }
@@ -143,6 +148,7 @@ impl<T> Receiver<T> {
     /// assert!(!r.is_empty());
     /// # drop(r);
     /// ```
+    #[inline]
     pub fn is_empty(&self) -> bool {
         self.channel.is_empty()
     }
@@ -158,6 +164,7 @@ impl<T> Receiver<T> {
     /// assert!(r.is_full());
     /// # drop(r);
     /// ```
+    #[inline]
     pub fn is_full(&self) -> bool {
         self.channel.is_full()
     }
@@ -172,6 +179,7 @@ impl<T> Receiver<T> {
     /// assert_eq!(r.len(), 2);
     /// # drop(r);
     /// ```
+    #[inline]
     pub fn len(&self) -> usize {
         self.channel.len()
     }
@@ -185,6 +193,7 @@ impl<T> Receiver<T> {
     /// let (s, r) = vamorilesh::unbounded::<u64>();
     /// assert_eq!(r.capacity(), None);
     /// ```
+    #[inline]
     pub fn capacity(&self) -> Option<usize> {
         self.channel.capacity()
     }
@@ -225,6 +234,7 @@ impl<T> Receiver<T> {
     /// assert!(s.is_closed());
     /// assert!(weak.upgrade().is_none());
     /// ```
+    #[inline]
     pub fn downgrade(&self) -> WeakReceiver<T> {
         WeakReceiver { channel: self.channel.clone() }
     }
@@ -239,6 +249,7 @@ impl<T> Receiver<T> {
     /// assert!(!r.same_channel(&r2));
     /// # drop((s, s2));
     /// ```
+    #[inline]
     pub fn same_channel(&self, other: &Receiver<T>) -> bool {
         Arc::ptr_eq(&self.channel, &other.channel)
     }
@@ -246,6 +257,7 @@ impl<T> Receiver<T> {
 
 impl<T> Clone for Receiver<T> {
     /// One more receiver. The program ends where there are more than half of what a `usize` counts.
+    #[inline]
     fn clone(&self) -> Receiver<T> {
         self.channel.add_receiver();
         Receiver::new(self.channel.clone())
@@ -254,6 +266,7 @@ impl<T> Clone for Receiver<T> {
 
 impl<T> Drop for Receiver<T> {
     /// The last receiver closes the channel.
+    #[inline]
     fn drop(&mut self) {
         self.channel.drop_receiver(&mut self.stream);
     }
@@ -268,6 +281,7 @@ impl<T> fmt::Debug for Receiver<T> {
 impl<T> Stream for Receiver<T> {
     type Item = T;
 
+    #[inline]
     fn poll_next(self: Pin<&mut Self>, cx: &mut Context<'_>) -> Poll<Option<T>> {
         let receiver = self.get_mut();
         receiver.channel.poll_next(&mut receiver.stream, cx)
@@ -314,6 +328,7 @@ impl<T> WeakReceiver<T> {
 }
 
 impl<T> Clone for WeakReceiver<T> {
+    #[inline]
     fn clone(&self) -> Self {
         WeakReceiver { channel: self.channel.clone() }
     }

@@ -25,11 +25,13 @@ pub struct Sender<T> {
 
 impl<T> Sender<T> {
     /// The handle of a sender that is counted.
+    #[inline]
     pub(crate) fn new(channel: Arc<Channel<T>>) -> Self {
         Sender { channel }
     }
 
     /// What all handles of the channel share.
+    #[inline]
     pub(crate) fn channel(&self) -> &Channel<T> {
         &self.channel
     }
@@ -66,6 +68,7 @@ impl<T> Sender<T> {
     /// assert_eq!(s.send(2).await, Err(SendError(2)));
     /// # });
     /// ```
+    #[inline]
     pub fn send(&self, msg: T) -> Send<'_, T> {
         Send::new(self, msg)
     }
@@ -82,6 +85,7 @@ impl<T> Sender<T> {
     /// s.closed().await;
     /// # });
     /// ```
+    #[inline]
     pub fn closed(&self) -> Closed<'_, T> {
         Closed::new(self)
     }
@@ -137,6 +141,7 @@ impl<T> Sender<T> {
     /// assert!(s.try_send(2).is_err());
     /// assert_eq!(r.try_recv(), Ok(1));
     /// ```
+    #[inline]
     pub fn close(&self) -> bool {
         self.channel.close()
     }
@@ -150,6 +155,7 @@ impl<T> Sender<T> {
     /// drop(r);
     /// assert!(s.is_closed());
     /// ```
+    #[inline]
     pub fn is_closed(&self) -> bool {
         self.channel.is_closed()
     }
@@ -164,6 +170,7 @@ impl<T> Sender<T> {
     /// assert!(!s.is_empty());
     /// # drop(r);
     /// ```
+    #[inline]
     pub fn is_empty(&self) -> bool {
         self.channel.is_empty()
     }
@@ -179,6 +186,7 @@ impl<T> Sender<T> {
     /// assert!(s.is_full());
     /// # drop(r);
     /// ```
+    #[inline]
     pub fn is_full(&self) -> bool {
         self.channel.is_full()
     }
@@ -193,6 +201,7 @@ impl<T> Sender<T> {
     /// assert_eq!(s.len(), 2);
     /// # drop(r);
     /// ```
+    #[inline]
     pub fn len(&self) -> usize {
         self.channel.len()
     }
@@ -206,6 +215,7 @@ impl<T> Sender<T> {
     /// let (s, r) = vamorilesh::unbounded::<u64>();
     /// assert_eq!(s.capacity(), None);
     /// ```
+    #[inline]
     pub fn capacity(&self) -> Option<usize> {
         self.channel.capacity()
     }
@@ -246,6 +256,7 @@ impl<T> Sender<T> {
     /// assert!(r.is_closed());
     /// assert!(weak.upgrade().is_none());
     /// ```
+    #[inline]
     pub fn downgrade(&self) -> WeakSender<T> {
         WeakSender { channel: self.channel.clone() }
     }
@@ -260,6 +271,7 @@ impl<T> Sender<T> {
     /// assert!(!s.same_channel(&s2));
     /// # drop((r, r2));
     /// ```
+    #[inline]
     pub fn same_channel(&self, other: &Sender<T>) -> bool {
         Arc::ptr_eq(&self.channel, &other.channel)
     }
@@ -267,6 +279,7 @@ impl<T> Sender<T> {
 
 impl<T> Clone for Sender<T> {
     /// One more sender. The program ends where there are more than half of what a `usize` counts.
+    #[inline]
     fn clone(&self) -> Sender<T> {
         self.channel.add_sender();
         Sender::new(self.channel.clone())
@@ -275,6 +288,7 @@ impl<T> Clone for Sender<T> {
 
 impl<T> Drop for Sender<T> {
     /// The last sender closes the channel.
+    #[inline]
     fn drop(&mut self) {
         self.channel.drop_sender();
     }
@@ -319,6 +333,7 @@ impl<T> WeakSender<T> {
 }
 
 impl<T> Clone for WeakSender<T> {
+    #[inline]
     fn clone(&self) -> Self {
         WeakSender { channel: self.channel.clone() }
     }

@@ -64,7 +64,16 @@ class Eraser:
         if is_test and word.text != 'mod':
             self.source.refuse('only a module may be for tests', word.start)
         text = take()
-        return None if text is None else f'{attributes}{visibility}{text}'
+        if text is None:
+            return None
+        if word.text == 'fn' and text.endswith('}') and '#[inline' not in attributes:
+            attributes += f'#[inline]\n{self.indent(word.start)}'
+        return f'{attributes}{visibility}{text}'
+
+    def indent(self, at):
+        """The spaces before the line on which a place is."""
+        line = self.source.text[self.source.text.rfind('\n', 0, at) + 1:at]
+        return line[:len(line) - len(line.lstrip(' '))]
 
     def attributes(self):
         """The attributes of an item, and whether it is for tests."""

@@ -21,6 +21,7 @@ pub struct Queue<T> {
 
 impl<T> Queue<T> {
     /// An empty queue that holds at most `cap` messages.
+    #[inline]
     pub fn bounded(alloc: Global, cap: usize) -> Result<Queue<T>, OutOfMemory> {
         match HeapCircularBuffer::with_capacity(alloc, cap) {
             Ok(ring) => Ok(Queue {
@@ -31,6 +32,7 @@ impl<T> Queue<T> {
     }
 
     /// An empty queue without a bound. It takes no memory yet.
+    #[inline]
     pub fn unbounded(alloc: Global) -> Queue<T> {
         Queue {
             store: Store::Deque(VecDeque::new(alloc)),
@@ -38,6 +40,7 @@ impl<T> Queue<T> {
     }
 
     /// Puts a message last. A full queue hands it back.
+    #[inline]
     pub fn push(&mut self, message: T) -> Result<Result<(), T>, NoMemory<T>> {
         match &mut self.store {
             Store::Ring(ring) => Ok(ring.try_push_back(message)),
@@ -49,6 +52,7 @@ impl<T> Queue<T> {
     }
 
     /// Puts a message last, in any case. A full queue gives its oldest message for it.
+    #[inline]
     pub fn force_push(&mut self, message: T) -> Result<Option<T>, NoMemory<T>> {
         match &mut self.store {
             Store::Ring(ring) => Ok(ring.push_back(message)),
@@ -60,6 +64,7 @@ impl<T> Queue<T> {
     }
 
     /// Takes the oldest message.
+    #[inline]
     pub fn pop(&mut self) -> Option<T> {
         match &mut self.store {
             Store::Ring(ring) => ring.pop_front(),
@@ -68,6 +73,7 @@ impl<T> Queue<T> {
     }
 
     /// The number of messages.
+    #[inline]
     pub fn len(&self) -> usize {
         match &self.store {
             Store::Ring(ring) => ring.len(),
@@ -76,6 +82,7 @@ impl<T> Queue<T> {
     }
 
     /// The most messages that there may be, if there is a bound.
+    #[inline]
     pub fn capacity(&self) -> Option<usize> {
         match &self.store {
             Store::Ring(ring) => Some(ring.capacity()),

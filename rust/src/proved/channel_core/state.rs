@@ -64,6 +64,7 @@ pub struct Core<T, W> {
 pub const HANDLE_LIMIT: usize = usize::MAX / 2;
 
 // Closes a channel by its flag and its lists, and answers whether it was open.
+#[inline]
 fn shut<W, B: Bell<W>>(closed: &mut bool, lists: &mut WaitLists<W>, bell: &mut B) -> bool {
     if *closed {
         return false;
@@ -74,6 +75,7 @@ fn shut<W, B: Bell<W>>(closed: &mut bool, lists: &mut WaitLists<W>, bell: &mut B
 }
 
 // Counts one more copy of a handle, where there is one and there may be one more.
+#[inline]
 fn add_handle(count: &mut usize) -> bool {
     if *count == 0 || *count > HANDLE_LIMIT {
         return false;
@@ -83,6 +85,7 @@ fn add_handle(count: &mut usize) -> bool {
 }
 
 // Counts one more handle, made of a weak one.
+#[inline]
 fn upgrade_handle(closed: bool, count: &mut usize) -> Upgrade {
     if closed {
         return Upgrade::Closed;
@@ -96,16 +99,19 @@ fn upgrade_handle(closed: bool, count: &mut usize) -> Upgrade {
 
 impl<T, W> Core<T, W> {
     /// An open and empty channel that holds at most `cap` messages, with one sender and one receiver.
+    #[inline]
     pub fn bounded(alloc: Global, cap: usize) -> Result<Core<T, W>, OutOfMemory> {
         let queue = Queue::bounded(alloc, cap)?;
         Ok(Core::over(alloc, queue))
     }
 
     /// An open and empty channel without a capacity, with one sender and one receiver.
+    #[inline]
     pub fn unbounded(alloc: Global) -> Core<T, W> {
         Core::over(alloc, Queue::unbounded(alloc))
     }
 
+    #[inline]
     fn over(alloc: Global, queue: Queue<T>) -> Core<T, W> {
         Core {
             queue,
@@ -117,6 +123,7 @@ impl<T, W> Core<T, W> {
     }
 
     /// Puts a message last, where the channel is open and not full.
+    #[inline]
     pub fn try_send<B: Bell<W>>(
         &mut self,
         m: T,
@@ -136,6 +143,7 @@ impl<T, W> Core<T, W> {
 
     /// Puts a message last, where the channel is open. A full one gives its oldest message for it, which
     /// tells no send.
+    #[inline]
     pub fn force_send<B: Bell<W>>(
         &mut self,
         m: T,
@@ -150,6 +158,7 @@ impl<T, W> Core<T, W> {
     }
 
     /// Takes the oldest message, and tells a send that there is a place.
+    #[inline]
     pub fn try_recv<B: Bell<W>>(&mut self, bell: &mut B) -> Result<T, TryRecvError> {
         match self.queue.pop() {
             Some(message) => {
@@ -164,21 +173,25 @@ impl<T, W> Core<T, W> {
     /// Closes the channel, and answers whether it was open. The messages stay.
     ///
     /// Closed operations aren't told: they wait until no receiver is left.
+    #[inline]
     pub fn close<B: Bell<W>>(&mut self, bell: &mut B) -> bool {
         shut(&mut self.closed, &mut self.lists, bell)
     }
 
     /// Whether the channel is closed.
+    #[inline]
     pub fn is_closed(&self) -> bool {
         self.closed
     }
 
     /// Whether no message is held.
+    #[inline]
     pub fn is_empty(&self) -> bool {
         self.queue.len() == 0
     }
 
     /// Whether as many messages are held as the capacity allows. Without a capacity it is never so.
+    #[inline]
     pub fn is_full(&self) -> bool {
         match self.queue.capacity() {
             Some(cap) => self.queue.len() >= cap,
@@ -187,51 +200,61 @@ impl<T, W> Core<T, W> {
     }
 
     /// Whether the channel is closed and no message is held, so that none will come.
+    #[inline]
     pub fn is_terminated(&self) -> bool {
         self.closed && self.is_empty()
     }
 
     /// The number of messages.
+    #[inline]
     pub fn len(&self) -> usize {
         self.queue.len()
     }
 
     /// The number of senders.
+    #[inline]
     pub fn sender_count(&self) -> usize {
         self.senders
     }
 
     /// The number of receivers.
+    #[inline]
     pub fn receiver_count(&self) -> usize {
         self.receivers
     }
 
     /// The most messages that there may be, if there is a capacity.
+    #[inline]
     pub fn capacity(&self) -> Option<usize> {
         self.queue.capacity()
     }
 
     /// Counts one more sender, a copy of one that there is. The answer is whether there may be one more.
+    #[inline]
     pub fn add_sender(&mut self) -> bool {
         add_handle(&mut self.senders)
     }
 
     /// Counts one more receiver, a copy of one that there is. The answer is whether there may be one more.
+    #[inline]
     pub fn add_receiver(&mut self) -> bool {
         add_handle(&mut self.receivers)
     }
 
     /// Counts one more sender, made of a weak one, where the channel is open.
+    #[inline]
     pub fn upgrade_sender(&mut self) -> Upgrade {
         upgrade_handle(self.closed, &mut self.senders)
     }
 
     /// Counts one more receiver, made of a weak one, where the channel is open.
+    #[inline]
     pub fn upgrade_receiver(&mut self) -> Upgrade {
         upgrade_handle(self.closed, &mut self.receivers)
     }
 
     /// Gives a sender up. The last one closes the channel; the answer is whether that happened.
+    #[inline]
     pub fn drop_sender<B: Bell<W>>(&mut self, bell: &mut B) -> bool {
         match self.senders {
             0 => false,
@@ -248,6 +271,7 @@ impl<T, W> Core<T, W> {
 
     /// Gives a receiver up, and its stream's wait with it. The last one closes the channel; the answer is
     /// whether that happened. It also tells closed operations, on a channel that was closed before too.
+    #[inline]
     pub fn drop_receiver<B: Bell<W>>(&mut self, stream: &mut Option<Ticket>, bell: &mut B) -> bool {
         leave(&mut self.lists.streams, stream);
         match self.receivers {
@@ -269,6 +293,7 @@ impl<T, W> Core<T, W> {
     ///
     /// A ready poll leaves neither message nor ticket. A pending one leaves the ticket of an untold entry
     /// that holds `w`.
+    #[inline]
     pub fn poll_send<B: Bell<W>>(
         &mut self,
         m: &mut Option<T>,
@@ -304,6 +329,7 @@ impl<T, W> Core<T, W> {
     /// Polls a receive, by its ticket.
     ///
     /// A ready poll leaves no ticket. A pending one leaves the ticket of an untold entry that holds `w`.
+    #[inline]
     pub fn poll_recv<B: Bell<W>>(
         &mut self,
         t: &mut Option<Ticket>,
@@ -326,6 +352,7 @@ impl<T, W> Core<T, W> {
     /// Polls the stream of a receiver, by its ticket.
     ///
     /// A ready poll leaves no ticket. A pending one leaves the ticket of an untold entry that holds `w`.
+    #[inline]
     pub fn poll_next<B: Bell<W>>(
         &mut self,
         t: &mut Option<Ticket>,
@@ -348,6 +375,7 @@ impl<T, W> Core<T, W> {
     /// Polls a closed operation, by its ticket. It is ready exactly where no receiver is left.
     ///
     /// A ready poll leaves no ticket. A pending one leaves the ticket of an untold entry that holds `w`.
+    #[inline]
     pub fn poll_closed(&mut self, t: &mut Option<Ticket>, w: W) -> Result<Poll<()>, OutOfMemory> {
         if self.receivers == 0 {
             leave(&mut self.lists.closeds, t);
@@ -358,42 +386,50 @@ impl<T, W> Core<T, W> {
     }
 
     /// Gives a send's wait up. A notice that it had goes to the next send.
+    #[inline]
     pub fn cancel_send<B: Bell<W>>(&mut self, t: &mut Option<Ticket>, bell: &mut B) {
         hand_on(&mut self.lists.sends, t, bell);
     }
 
     /// Gives a receive's wait up. A notice that it had goes to the next receive.
+    #[inline]
     pub fn cancel_recv<B: Bell<W>>(&mut self, t: &mut Option<Ticket>, bell: &mut B) {
         hand_on(&mut self.lists.receives, t, bell);
     }
 
     /// Gives a stream's wait up. Streams are told together, so that no notice is handed on.
+    #[inline]
     pub fn cancel_stream(&mut self, t: &mut Option<Ticket>) {
         leave(&mut self.lists.streams, t);
     }
 
     /// Gives a closed operation's wait up. Closed operations are told together, so that no notice is
     /// handed on.
+    #[inline]
     pub fn cancel_closed(&mut self, t: &mut Option<Ticket>) {
         leave(&mut self.lists.closeds, t);
     }
 
     /// How many wait in the group, told ones among them.
+    #[inline]
     pub fn waiting(&self, g: Group) -> usize {
         self.lists.of(g).len()
     }
 
     /// How many in the group are told.
+    #[inline]
     pub fn told(&self, g: Group) -> usize {
         self.lists.of(g).told()
     }
 
     /// The key of the first one in the group, where somebody there is told.
+    #[inline]
     pub fn first_told(&self, g: Group) -> Option<usize> {
         self.lists.of(g).first_told()
     }
 
     /// Whether the ticket's entry is told, or nothing where it isn't in the group's list.
+    #[inline]
     pub fn is_told(&self, g: Group, t: &Ticket) -> Option<bool> {
         self.lists.of(g).is_told(t)
     }

@@ -16,6 +16,7 @@ pub(crate) struct WaitLists<W> {
 
 impl<W> WaitLists<W> {
     /// Nobody waits.
+    #[inline]
     pub(crate) fn new(alloc: Global) -> Self {
         WaitLists {
             sends: WaitList::new(alloc),
@@ -26,6 +27,7 @@ impl<W> WaitLists<W> {
     }
 
     /// The list of a group.
+    #[inline]
     pub(crate) fn of(&self, g: Group) -> &WaitList<W> {
         match g {
             Group::Sends => &self.sends,
@@ -36,12 +38,14 @@ impl<W> WaitLists<W> {
     }
 
     /// A message was accepted.
+    #[inline]
     pub(crate) fn tell_accepted<B: Bell<W>>(&mut self, bell: &mut B) {
         self.receives.tell_one(bell);
         self.streams.tell_all(bell);
     }
 
     /// The channel was closed.
+    #[inline]
     pub(crate) fn tell_closed<B: Bell<W>>(&mut self, bell: &mut B) {
         self.sends.tell_all(bell);
         self.receives.tell_all(bell);
@@ -50,6 +54,7 @@ impl<W> WaitLists<W> {
 }
 
 /// The ticket's entry leaves the list, with its notice.
+#[inline]
 pub(crate) fn leave<W>(list: &mut WaitList<W>, ticket: &mut Option<Ticket>) {
     if let Some(ticket) = ticket.take() {
         list.remove(ticket);
@@ -57,6 +62,7 @@ pub(crate) fn leave<W>(list: &mut WaitList<W>, ticket: &mut Option<Ticket>) {
 }
 
 /// The ticket's entry leaves the list, and a notice that it had is handed on.
+#[inline]
 pub(crate) fn hand_on<W, B: Bell<W>>(
     list: &mut WaitList<W>,
     ticket: &mut Option<Ticket>,
@@ -68,6 +74,7 @@ pub(crate) fn hand_on<W, B: Bell<W>>(
 }
 
 /// Who can't go on waits: its entry waits again, or it begins to wait.
+#[inline]
 pub(crate) fn wait<W>(
     list: &mut WaitList<W>,
     ticket: &mut Option<Ticket>,

@@ -61,6 +61,7 @@ pub enum CloneError {
 
 impl<T> SendError<T> {
     /// The message.
+    #[inline]
     pub fn into_inner(self) -> T {
         let SendError(message) = self;
         message
@@ -69,6 +70,7 @@ impl<T> SendError<T> {
 
 impl<T> TrySendError<T> {
     /// The message.
+    #[inline]
     pub fn into_inner(self) -> T {
         match self {
             TrySendError::Full(message) => message,
@@ -77,11 +79,13 @@ impl<T> TrySendError<T> {
     }
 
     /// Whether the channel was full, and open.
+    #[inline]
     pub fn is_full(&self) -> bool {
         matches!(self, TrySendError::Full(_))
     }
 
     /// Whether the channel was closed.
+    #[inline]
     pub fn is_closed(&self) -> bool {
         matches!(self, TrySendError::Closed(_))
     }
@@ -89,23 +93,27 @@ impl<T> TrySendError<T> {
 
 impl TryRecvError {
     /// Whether the channel was empty, and open.
+    #[inline]
     pub fn is_empty(&self) -> bool {
         matches!(self, TryRecvError::Empty)
     }
 
     /// Whether the channel was empty and closed.
+    #[inline]
     pub fn is_closed(&self) -> bool {
         matches!(self, TryRecvError::Closed)
     }
 }
 
 impl<T> fmt::Display for SendError<T> {
+    #[inline]
     fn fmt(&self, f: &mut fmt::Formatter<'_>) -> fmt::Result {
         f.write_str("sending into a closed channel")
     }
 }
 
 impl<T> fmt::Debug for SendError<T> {
+    #[inline]
     fn fmt(&self, f: &mut fmt::Formatter<'_>) -> fmt::Result {
         f.write_str("SendError(..)")
     }
@@ -114,6 +122,7 @@ impl<T> fmt::Debug for SendError<T> {
 impl<T> Error for SendError<T> {}
 
 impl<T> fmt::Display for TrySendError<T> {
+    #[inline]
     fn fmt(&self, f: &mut fmt::Formatter<'_>) -> fmt::Result {
         match self {
             TrySendError::Full(_) => f.write_str("sending into a full channel"),
@@ -123,6 +132,7 @@ impl<T> fmt::Display for TrySendError<T> {
 }
 
 impl<T> fmt::Debug for TrySendError<T> {
+    #[inline]
     fn fmt(&self, f: &mut fmt::Formatter<'_>) -> fmt::Result {
         match self {
             TrySendError::Full(_) => f.write_str("Full(..)"),
@@ -134,12 +144,14 @@ impl<T> fmt::Debug for TrySendError<T> {
 impl<T> Error for TrySendError<T> {}
 
 impl fmt::Display for RecvError {
+    #[inline]
     fn fmt(&self, f: &mut fmt::Formatter<'_>) -> fmt::Result {
         f.write_str("receiving from an empty and closed channel")
     }
 }
 
 impl fmt::Debug for RecvError {
+    #[inline]
     fn fmt(&self, f: &mut fmt::Formatter<'_>) -> fmt::Result {
         f.write_str("RecvError")
     }
@@ -148,6 +160,7 @@ impl fmt::Debug for RecvError {
 impl Error for RecvError {}
 
 impl fmt::Display for TryRecvError {
+    #[inline]
     fn fmt(&self, f: &mut fmt::Formatter<'_>) -> fmt::Result {
         f.write_str(match self {
             TryRecvError::Empty => "receiving from an empty channel",
@@ -157,6 +170,7 @@ impl fmt::Display for TryRecvError {
 }
 
 impl fmt::Debug for TryRecvError {
+    #[inline]
     fn fmt(&self, f: &mut fmt::Formatter<'_>) -> fmt::Result {
         f.write_str(match self {
             TryRecvError::Empty => "Empty",
@@ -168,12 +182,14 @@ impl fmt::Debug for TryRecvError {
 impl Error for TryRecvError {}
 
 impl fmt::Display for OutOfMemory {
+    #[inline]
     fn fmt(&self, f: &mut fmt::Formatter<'_>) -> fmt::Result {
         f.write_str("out of memory")
     }
 }
 
 impl fmt::Debug for OutOfMemory {
+    #[inline]
     fn fmt(&self, f: &mut fmt::Formatter<'_>) -> fmt::Result {
         f.write_str("OutOfMemory")
     }
@@ -182,12 +198,14 @@ impl fmt::Debug for OutOfMemory {
 impl Error for OutOfMemory {}
 
 impl<T> fmt::Display for NoMemory<T> {
+    #[inline]
     fn fmt(&self, f: &mut fmt::Formatter<'_>) -> fmt::Result {
         f.write_str("out of memory")
     }
 }
 
 impl<T> fmt::Debug for NoMemory<T> {
+    #[inline]
     fn fmt(&self, f: &mut fmt::Formatter<'_>) -> fmt::Result {
         f.write_str("NoMemory(..)")
     }
@@ -196,6 +214,7 @@ impl<T> fmt::Debug for NoMemory<T> {
 impl<T> Error for NoMemory<T> {}
 
 impl fmt::Display for MakeError {
+    #[inline]
     fn fmt(&self, f: &mut fmt::Formatter<'_>) -> fmt::Result {
         f.write_str(match self {
             MakeError::OutOfMemory => "out of memory",
@@ -205,6 +224,7 @@ impl fmt::Display for MakeError {
 }
 
 impl fmt::Debug for MakeError {
+    #[inline]
     fn fmt(&self, f: &mut fmt::Formatter<'_>) -> fmt::Result {
         f.write_str(match self {
             MakeError::OutOfMemory => "OutOfMemory",
@@ -216,6 +236,7 @@ impl fmt::Debug for MakeError {
 impl Error for MakeError {}
 
 impl fmt::Display for CloneError {
+    #[inline]
     fn fmt(&self, f: &mut fmt::Formatter<'_>) -> fmt::Result {
         f.write_str(match self {
             CloneError::TooMany => "too many handles",
@@ -225,6 +246,7 @@ impl fmt::Display for CloneError {
 }
 
 impl fmt::Debug for CloneError {
+    #[inline]
     fn fmt(&self, f: &mut fmt::Formatter<'_>) -> fmt::Result {
         f.write_str(match self {
             CloneError::TooMany => "TooMany",

@@ -14,6 +14,7 @@ pub(crate) struct Names {
 
 impl Names {
     /// No name.
+    #[inline]
     pub(crate) fn new(alloc: Global) -> Names {
         Names {
             names: Vec::new(alloc),
@@ -21,16 +22,19 @@ impl Names {
     }
 
     /// How many names are live.
+    #[inline]
     pub(crate) fn len(&self) -> usize {
         self.names.len()
     }
 
     /// Whether a name is live.
+    #[inline]
     pub(crate) fn has(&self, name: u64) -> bool {
         self.names.contains(&name)
     }
 
     /// Makes a name that isn't live.
+    #[inline]
     pub(crate) fn add(&mut self, name: u64) -> Result<(), OutOfMemory> {
         match self.names.push(name) {
             Ok(()) => Ok(()),
@@ -39,12 +43,14 @@ impl Names {
     }
 
     /// Gives a name up.
+    #[inline]
     pub(crate) fn remove(&mut self, name: u64) {
         self.names.retain(|other| *other != name);
     }
 }
 
 /// Puts a value under a name that isn't live, or hands it back.
+#[inline]
 pub(crate) fn put<V>(entries: &mut BTreeMap<u64, V>, name: u64, value: V) -> Result<(), V> {
     match entries.insert(name, value) {
         Ok(_) => Ok(()),
@@ -53,6 +59,7 @@ pub(crate) fn put<V>(entries: &mut BTreeMap<u64, V>, name: u64, value: V) -> Res
 }
 
 /// Takes out what stands under a name.
+#[inline]
 pub(crate) fn take<V>(entries: &mut BTreeMap<u64, V>, name: u64) -> Option<V> {
     // its contract says that the names are different
     let _count = entries.len();

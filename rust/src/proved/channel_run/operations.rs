@@ -28,6 +28,7 @@ pub(crate) enum Operation<T> {
 
 impl<T> Operation<T> {
     /// Whether it borrows this sender.
+    #[inline]
     pub(crate) fn borrows_sender(&self, name: u64) -> bool {
         match self {
             Operation::Send { sender, .. } => *sender == name,
@@ -37,6 +38,7 @@ impl<T> Operation<T> {
     }
 
     /// The message of a send that hasn't finished.
+    #[inline]
     pub(crate) fn into_message(self) -> Option<T> {
         match self {
             Operation::Send { message, .. } => message,
@@ -46,6 +48,7 @@ impl<T> Operation<T> {
     }
 
     /// Whether it borrows this receiver.
+    #[inline]
     pub(crate) fn borrows_receiver(&self, name: u64) -> bool {
         match self {
             Operation::Send { .. } => false,
@@ -55,6 +58,7 @@ impl<T> Operation<T> {
     }
 
     /// Whether it waits in the group, and by a ticket of this key.
+    #[inline]
     pub(crate) fn waits_with(&self, group: Group, key: usize) -> bool {
         match self {
             Operation::Send { ticket, .. } => group == Group::Sends && has_key(ticket, key),
@@ -65,6 +69,7 @@ impl<T> Operation<T> {
 }
 
 /// Whether a live send or closed operation borrows the sender.
+#[inline]
 pub(crate) fn is_sender_borrowed<T>(operations: &BTreeMap<u64, Operation<T>>, name: u64) -> bool {
     operations
         .values()
@@ -72,6 +77,7 @@ pub(crate) fn is_sender_borrowed<T>(operations: &BTreeMap<u64, Operation<T>>, na
 }
 
 /// Whether a live receive borrows the receiver.
+#[inline]
 pub(crate) fn is_receiver_borrowed<T>(operations: &BTreeMap<u64, Operation<T>>, name: u64) -> bool {
     operations
         .values()

@@ -45,6 +45,7 @@ pub struct Run<T> {
 
 impl<T> Run<T> {
     /// A run of a new channel.
+    #[inline]
     pub fn new(alloc: Global, kind: Kind) -> Result<Run<T>, OutOfMemory> {
         let core = match kind {
             Kind::Bounded(capacity) => Core::bounded(alloc, capacity)?,
@@ -68,11 +69,13 @@ impl<T> Run<T> {
     }
 
     /// Makes a step, or refuses it.
+    #[inline]
     pub fn step(&mut self, step: Step<T>) -> Reply<T> {
         self.make(step)
     }
 
     /// Whether somebody waits, and was told. Who has no live name doesn't wait.
+    #[inline]
     pub fn notice_of(&self, who: Who) -> Notice {
         match who {
             Who::Op(op) => match self.operations.get(&op) {
@@ -93,6 +96,7 @@ impl<T> Run<T> {
     }
 
     // The step that was asked for.
+    #[inline]
     fn make(&mut self, step: Step<T>) -> Reply<T> {
         match step {
             Step::TrySend(sender, message) => self.try_send(sender, message),
@@ -128,6 +132,7 @@ impl<T> Run<T> {
         }
     }
 
+    #[inline]
     fn has_handle(&self, side: Side) -> bool {
         match side {
             Side::Sender(name) => self.senders.has(name),
@@ -135,16 +140,19 @@ impl<T> Run<T> {
         }
     }
 
+    #[inline]
     fn has_receiver(&self, name: u64) -> bool {
         self.receivers.contains_key(&name)
     }
 
+    #[inline]
     fn has_operation(&self, op: u64) -> bool {
         self.operations.contains_key(&op)
     }
 }
 
 // Whether the entry of a ticket waits, and was told.
+#[inline]
 fn notice<T>(core: &Core<T, ()>, group: Group, ticket: &Option<Ticket>) -> Notice {
     let Some(ticket) = ticket else {
         return Notice::Absent;
@@ -167,6 +175,7 @@ pub struct End<T> {
 pub struct RunError<T>(pub Vec<Step<T>>);
 
 /// Makes the steps in turn, in a run of a new channel.
+#[inline]
 pub fn run_all<T>(
     alloc: Global,
     kind: Kind,

@@ -24,6 +24,7 @@ impl<T> Run<T> {
     ///
     /// Memory is wanted before the first poll alone, for as many replies as there are waiting
     /// entries.
+    #[inline]
     pub fn settle(&mut self) -> Result<Settled<T>, OutOfMemory> {
         let mut finished = self.room_for_replies()?;
         for polls in 0..u128::MAX {
@@ -42,6 +43,7 @@ impl<T> Run<T> {
 }
 
 // Keeps the reply to a poll, if it was ready.
+#[inline]
 fn keep_ready<T>(finished: &mut Vec<(Who, Reply<T>)>, who: Who, reply: Reply<T>) {
     if is_ready(&reply) {
         match finished.push((who, reply)) {
@@ -52,6 +54,7 @@ fn keep_ready<T>(finished: &mut Vec<(Who, Reply<T>)>, who: Who, reply: Reply<T>)
 }
 
 // Whether a poll was answered ready.
+#[inline]
 fn is_ready<T>(reply: &Reply<T>) -> bool {
     match reply {
         Reply::SendPolled(poll) => poll.is_ready(),

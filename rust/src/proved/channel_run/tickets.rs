@@ -7,6 +7,7 @@ use crate::proved::event_list::Ticket;
 use crate::shim::BTreeMap;
 
 /// Whether there is a ticket, and it has the key.
+#[inline]
 pub(crate) fn has_key(ticket: &Option<Ticket>, key: usize) -> bool {
     match ticket {
         Some(ticket) => ticket.key() == key,
@@ -15,6 +16,7 @@ pub(crate) fn has_key(ticket: &Option<Ticket>, key: usize) -> bool {
 }
 
 /// The name of the operation that waits in the group by a ticket of this key.
+#[inline]
 pub(crate) fn operation_with<T>(
     operations: &BTreeMap<u64, Operation<T>>,
     group: Group,
@@ -27,6 +29,7 @@ pub(crate) fn operation_with<T>(
 }
 
 /// The name of the receiver whose stream waits by a ticket of this key.
+#[inline]
 pub(crate) fn receiver_with(receivers: &BTreeMap<u64, Option<Ticket>>, key: usize) -> Option<u64> {
     let (name, _ticket) = receivers.iter().find(|(_, ticket)| has_key(ticket, key))?;
     Some(*name)

@@ -14,6 +14,7 @@ pub trait Bell<W> {
 pub struct Quiet;
 
 impl<W> Bell<W> for Quiet {
+    #[inline]
     fn ring(&mut self, w: W) {
         let _ = w;
     }

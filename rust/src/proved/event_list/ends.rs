@@ -15,6 +15,7 @@ pub struct Ends {
 
 impl Ends {
     /// The ends, once the entry of a key with these neighbours has left.
+    #[inline]
     fn without(self, key: usize, before: Option<usize>, behind: Option<usize>) -> Ends {
         Ends {
             first: if before.is_some() { self.first } else { behind },
@@ -28,6 +29,7 @@ impl Ends {
     }
 
     /// The ends, once a new untold entry has come last.
+    #[inline]
     fn with(self, key: usize) -> Ends {
         Ends {
             first: self.first.or(Some(key)),
@@ -38,6 +40,7 @@ impl Ends {
 
     /// Takes an entry out, and lets its neighbours name one another. The answer is whether it was
     /// told, if it was there.
+    #[inline]
     pub fn take_out<W, L: Ledger>(
         &mut self,
         entries: &mut Entries<W>,
@@ -52,6 +55,7 @@ impl Ends {
     }
 
     /// Puts a new untold entry behind the last one. The answer is its key.
+    #[inline]
     pub fn put_last<W, L: Ledger>(
         &mut self,
         entries: &mut Entries<W>,

@@ -13,6 +13,7 @@ pub enum Notice<W> {
 }
 
 impl<W> Notice<W> {
+    #[inline]
     pub fn is_told(&self) -> bool {
         match self {
             Notice::Told => true,
@@ -37,6 +38,7 @@ pub struct Entries<W> {
 
 impl<W> Entries<W> {
     /// No entries.
+    #[inline]
     pub fn new(alloc: Global) -> Self {
         Entries {
             slab: Slab::new(alloc),
@@ -44,12 +46,14 @@ impl<W> Entries<W> {
     }
 
     /// Makes room for one more entry. The answer is whether there is room.
+    #[inline]
     pub fn reserve<L: Ledger>(&mut self, lookups: &mut Lookups<L>) -> bool {
         lookups.raise();
         self.slab.reserve(1).is_ok()
     }
 
     /// Makes an entry, under the key that the slab picks.
+    #[inline]
     pub fn insert<L: Ledger>(&mut self, entry: Entry<W>, lookups: &mut Lookups<L>) -> usize {
         lookups.raise();
         let key = self.slab.insert_reserved(entry);
@@ -59,12 +63,14 @@ impl<W> Entries<W> {
     }
 
     /// Takes an entry out, if it is there.
+    #[inline]
     pub fn remove<L: Ledger>(&mut self, key: usize, lookups: &mut Lookups<L>) -> Option<Entry<W>> {
         lookups.raise();
         self.slab.try_remove(key)
     }
 
     /// Gives an entry another neighbour behind, where there is an entry.
+    #[inline]
     pub fn set_behind<L: Ledger>(
         &mut self,
         at: Option<usize>,
@@ -81,6 +87,7 @@ impl<W> Entries<W> {
     }
 
     /// Gives an entry another neighbour before, where there is an entry.
+    #[inline]
     pub fn set_before<L: Ledger>(
         &mut self,
         at: Option<usize>,
@@ -97,6 +104,7 @@ impl<W> Entries<W> {
     }
 
     /// Makes an entry an untold one with this payload.
+    #[inline]
     pub fn set_payload<L: Ledger>(&mut self, key: usize, payload: W, lookups: &mut Lookups<L>) {
         lookups.raise();
         if let Some(entry) = self.slab.get_mut(key) {
@@ -105,6 +113,7 @@ impl<W> Entries<W> {
     }
 
     /// Tells an entry. The answer is its payload, where it was untold, and its neighbour behind.
+    #[inline]
     pub fn tell<L: Ledger>(
         &mut self,
         key: usize,
@@ -119,6 +128,7 @@ impl<W> Entries<W> {
     }
 
     /// Whether an entry is told, if it is there.
+    #[inline]
     pub fn is_told<L: Ledger>(&self, key: usize, lookups: &mut Lookups<L>) -> Option<bool> {
         lookups.raise();
         self.slab.get(key).map(|entry| entry.notice.is_told())

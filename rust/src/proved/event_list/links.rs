@@ -33,6 +33,7 @@ pub(crate) struct Links<W> {
 
 impl<W> Links<W> {
     /// A list where nobody waits. It takes no memory.
+    #[inline]
     pub(crate) fn new(alloc: Global) -> Self {
         Links {
             entries: Entries::new(alloc),
@@ -47,6 +48,7 @@ impl<W> Links<W> {
     }
 
     /// A new entry goes last, untold, under a key that isn't in the list. At most 6 look-ups.
+    #[inline]
     pub(crate) fn listen<L: Ledger>(
         &mut self,
         w: W,
@@ -61,6 +63,7 @@ impl<W> Links<W> {
     }
 
     /// The entry waits again with this payload. At most 6 look-ups.
+    #[inline]
     pub(crate) fn again<L: Ledger>(&mut self, t: &Ticket, w: W, lookups: &mut Lookups<L>) -> bool {
         let Some(was_told) = self.entries.is_told(t.key, lookups) else {
             return false;
@@ -76,6 +79,7 @@ impl<W> Links<W> {
     }
 
     /// Tells the longest waiting untold entry. At most one look-up.
+    #[inline]
     pub(crate) fn tell_one<B: Bell<W>, L: Ledger>(
         &mut self,
         bell: &mut B,
@@ -94,6 +98,7 @@ impl<W> Links<W> {
     }
 
     /// Tells every untold entry. At most one look-up for each.
+    #[inline]
     pub(crate) fn tell_all<B: Bell<W>, L: Ledger>(
         &mut self,
         bell: &mut B,
@@ -107,6 +112,7 @@ impl<W> Links<W> {
     }
 
     /// The entry leaves. At most 6 look-ups.
+    #[inline]
     pub(crate) fn remove<L: Ledger>(&mut self, t: Ticket, lookups: &mut Lookups<L>) -> Option<bool> {
         let was_told = self.ends.take_out(&mut self.entries, t.key, lookups)?;
         self.len -= 1;
@@ -117,6 +123,7 @@ impl<W> Links<W> {
     }
 
     /// The entry leaves, and where it was told, one is told in its place. At most 12 look-ups.
+    #[inline]
     pub(crate) fn cancel<B: Bell<W>, L: Ledger>(
         &mut self,
         t: Ticket,
@@ -129,6 +136,7 @@ impl<W> Links<W> {
     }
 
     /// Whether the ticket's entry is told, or nothing where it isn't in the list. One look-up.
+    #[inline]
     pub(crate) fn is_told<L: Ledger>(&self, t: &Ticket, lookups: &mut Lookups<L>) -> Option<bool> {
         self.entries.is_told(t.key, lookups)
     }
@@ -140,16 +148,19 @@ impl<W> Links<W> {
     }
 
     /// How many wait.
+    #[inline]
     pub(crate) fn len(&self) -> usize {
         self.len
     }
 
     /// How many are told.
+    #[inline]
     pub(crate) fn told(&self) -> usize {
         self.told
     }
 
     /// The key of the first entry, where somebody is told.
+    #[inline]
     pub(crate) fn first_told(&self) -> Option<usize> {
         if self.told == 0 {
             return None;

@@ -40,6 +40,7 @@ pub struct WaitList<W> {
 
 impl<W> WaitList<W> {
     /// A list where nobody waits. It takes no memory.
+    #[inline]
     pub fn new(alloc: Global) -> Self {
         WaitList {
             links: Links::new(alloc),
@@ -47,11 +48,13 @@ impl<W> WaitList<W> {
     }
 
     /// A new entry goes last, untold, under a key that isn't in the list.
+    #[inline]
     pub fn listen(&mut self, w: W) -> Result<Ticket, NoRoom<W>> {
         self.listen_from::<Brand>(w, Blank::new(1))
     }
 
     /// The entry waits again with this payload. The answer is whether it is in the list.
+    #[inline]
     pub fn again(&mut self, t: &Ticket, w: W) -> bool {
         self.again_from::<Brand>(t, w, Blank::new(1))
     }
@@ -75,16 +78,19 @@ impl<W> WaitList<W> {
     }
 
     /// The entry leaves. The answer is whether it was told, or nothing where it isn't in the list.
+    #[inline]
     pub fn remove(&mut self, t: Ticket) -> Option<bool> {
         self.remove_from::<Brand>(t, Blank::new(1))
     }
 
     /// The entry leaves, and where it was told, one is told in its place.
+    #[inline]
     pub fn cancel<B: Bell<W>>(&mut self, t: Ticket, bell: &mut B) {
         self.cancel_from::<B, Brand>(t, bell, Blank::new(1));
     }
 
     /// `listen`, which counts its look-ups: at most 6.
+    #[inline]
     pub fn listen_counted<L: Ledger>(
         &mut self,
         w: W,
@@ -94,11 +100,13 @@ impl<W> WaitList<W> {
     }
 
     /// `again`, which counts its look-ups: at most 6.
+    #[inline]
     pub fn again_counted<L: Ledger>(&mut self, t: &Ticket, w: W, steps: &mut Steps<L>) -> bool {
         self.links.again(t, w, &mut steps.lookups)
     }
 
     /// `tell_one`, which counts its look-ups: one where one is told, and else none.
+    #[inline]
     pub fn tell_one_counted<B: Bell<W>, L: Ledger>(
         &mut self,
         bell: &mut B,
@@ -108,6 +116,7 @@ impl<W> WaitList<W> {
     }
 
     /// `tell_all`, which counts its look-ups: one for each untold entry.
+    #[inline]
     pub fn tell_all_counted<B: Bell<W>, L: Ledger>(
         &mut self,
         bell: &mut B,
@@ -117,11 +126,13 @@ impl<W> WaitList<W> {
     }
 
     /// `remove`, which counts its look-ups: at most 6.
+    #[inline]
     pub fn remove_counted<L: Ledger>(&mut self, t: Ticket, steps: &mut Steps<L>) -> Option<bool> {
         self.links.remove(t, &mut steps.lookups)
     }
 
     /// `cancel`, which counts its look-ups: at most 12.
+    #[inline]
     pub fn cancel_counted<B: Bell<W>, L: Ledger>(
         &mut self,
         t: Ticket,
@@ -132,26 +143,31 @@ impl<W> WaitList<W> {
     }
 
     /// How many wait.
+    #[inline]
     pub fn len(&self) -> usize {
         self.links.len()
     }
 
     /// How many are told.
+    #[inline]
     pub fn told(&self) -> usize {
         self.links.told()
     }
 
     /// Whether the ticket's entry is in the list.
+    #[inline]
     pub fn contains(&self, t: &Ticket) -> bool {
         self.is_told(t).is_some()
     }
 
     /// Whether the ticket's entry is told, or nothing where it isn't in the list.
+    #[inline]
     pub fn is_told(&self, t: &Ticket) -> Option<bool> {
         self.is_told_from::<Brand>(t, Blank::new(1))
     }
 
     /// The key of the first entry, where somebody is told.
+    #[inline]
     pub fn first_told(&self) -> Option<usize> {
         self.links.first_told()
     }
@@ -160,30 +176,37 @@ impl<W> WaitList<W> {
 // What the calls of the plain names run: the counted ones, on the ledger of a blank. They stand apart
 // since a ledger gets its name where a call passes a blank on.
 impl<W> WaitList<W> {
+    #[inline]
     fn listen_from<L: Ledger>(&mut self, w: W, blank: Blank) -> Result<Ticket, NoRoom<W>> {
         self.listen_counted(w, &mut Steps::<L>::of(blank))
     }
 
+    #[inline]
     fn again_from<L: Ledger>(&mut self, t: &Ticket, w: W, blank: Blank) -> bool {
         self.again_counted(t, w, &mut Steps::<L>::of(blank))
     }
 
+    #[inline]
     fn tell_one_from<B: Bell<W>, L: Ledger>(&mut self, bell: &mut B, blank: Blank) -> bool {
         self.tell_one_counted(bell, &mut Steps::<L>::of(blank))
     }
 
+    #[inline]
     fn tell_all_from<B: Bell<W>, L: Ledger>(&mut self, bell: &mut B, blank: Blank) -> usize {
         self.tell_all_counted(bell, &mut Steps::<L>::of(blank))
     }
 
+    #[inline]
     fn remove_from<L: Ledger>(&mut self, t: Ticket, blank: Blank) -> Option<bool> {
         self.remove_counted(t, &mut Steps::<L>::of(blank))
     }
 
+    #[inline]
     fn cancel_from<B: Bell<W>, L: Ledger>(&mut self, t: Ticket, bell: &mut B, blank: Blank) {
         self.cancel_counted(t, bell, &mut Steps::<L>::of(blank));
     }
 
+    #[inline]
     fn is_told_from<L: Ledger>(&self, t: &Ticket, blank: Blank) -> Option<bool> {
         let mut steps = Steps::<L>::of(blank);
         self.links.is_told(t, &mut steps.lookups)

@@ -11,6 +11,7 @@ pub struct Ticket {
 
 impl Ticket {
     /// The key of the entry.
+    #[inline]
     pub fn key(&self) -> usize {
         self.key
     }

@@ -9,6 +9,7 @@ use crate::proved::channel_model::{OutOfMemory, Refusal, Reply};
 use crate::proved::event_list::Quiet;
 
 impl<T> Run<T> {
+    #[inline]
     pub(super) fn clone_sender(&mut self, of: u64, new: u64) -> Reply<T> {
         if !self.senders.has(of) {
             return Reply::Refused(Refusal::Unknown, None);
@@ -26,6 +27,7 @@ impl<T> Run<T> {
         Reply::Done
     }
 
+    #[inline]
     pub(super) fn clone_receiver(&mut self, of: u64, new: u64) -> Reply<T> {
         if !self.has_receiver(of) {
             return Reply::Refused(Refusal::Unknown, None);
@@ -43,6 +45,7 @@ impl<T> Run<T> {
         Reply::Done
     }
 
+    #[inline]
     pub(super) fn clone_weak_sender(&mut self, of: u64, new: u64) -> Reply<T> {
         if !self.weak_senders.has(of) {
             return Reply::Refused(Refusal::Unknown, None);
@@ -50,6 +53,7 @@ impl<T> Run<T> {
         self.add_weak_sender(new)
     }
 
+    #[inline]
     pub(super) fn clone_weak_receiver(&mut self, of: u64, new: u64) -> Reply<T> {
         if !self.weak_receivers.has(of) {
             return Reply::Refused(Refusal::Unknown, None);
@@ -57,6 +61,7 @@ impl<T> Run<T> {
         self.add_weak_receiver(new)
     }
 
+    #[inline]
     pub(super) fn downgrade_sender(&mut self, of: u64, new: u64) -> Reply<T> {
         if !self.senders.has(of) {
             return Reply::Refused(Refusal::Unknown, None);
@@ -64,6 +69,7 @@ impl<T> Run<T> {
         self.add_weak_sender(new)
     }
 
+    #[inline]
     pub(super) fn downgrade_receiver(&mut self, of: u64, new: u64) -> Reply<T> {
         if !self.has_receiver(of) {
             return Reply::Refused(Refusal::Unknown, None);
@@ -71,6 +77,7 @@ impl<T> Run<T> {
         self.add_weak_receiver(new)
     }
 
+    #[inline]
     pub(super) fn upgrade_sender(&mut self, of: u64, new: u64) -> Reply<T> {
         if !self.weak_senders.has(of) {
             return Reply::Refused(Refusal::Unknown, None);
@@ -91,6 +98,7 @@ impl<T> Run<T> {
         Reply::Upgraded(true)
     }
 
+    #[inline]
     pub(super) fn upgrade_receiver(&mut self, of: u64, new: u64) -> Reply<T> {
         if !self.weak_receivers.has(of) {
             return Reply::Refused(Refusal::Unknown, None);
@@ -111,6 +119,7 @@ impl<T> Run<T> {
         Reply::Upgraded(true)
     }
 
+    #[inline]
     pub(super) fn drop_sender(&mut self, name: u64) -> Reply<T> {
         if !self.senders.has(name) {
             return Reply::Refused(Refusal::Unknown, None);
@@ -123,6 +132,7 @@ impl<T> Run<T> {
         Reply::Done
     }
 
+    #[inline]
     pub(super) fn drop_receiver(&mut self, name: u64) -> Reply<T> {
         if !self.has_receiver(name) {
             return Reply::Refused(Refusal::Unknown, None);
@@ -135,6 +145,7 @@ impl<T> Run<T> {
         Reply::Done
     }
 
+    #[inline]
     pub(super) fn drop_weak_sender(&mut self, name: u64) -> Reply<T> {
         if !self.weak_senders.has(name) {
             return Reply::Refused(Refusal::Unknown, None);
@@ -143,6 +154,7 @@ impl<T> Run<T> {
         Reply::Done
     }
 
+    #[inline]
     pub(super) fn drop_weak_receiver(&mut self, name: u64) -> Reply<T> {
         if !self.weak_receivers.has(name) {
             return Reply::Refused(Refusal::Unknown, None);
@@ -152,6 +164,7 @@ impl<T> Run<T> {
     }
 
     // Makes the name of a weak sender.
+    #[inline]
     fn add_weak_sender(&mut self, new: u64) -> Reply<T> {
         if self.weak_senders.has(new) {
             return Reply::Refused(Refusal::Taken, None);
@@ -163,6 +176,7 @@ impl<T> Run<T> {
     }
 
     // Makes the name of a weak receiver.
+    #[inline]
     fn add_weak_receiver(&mut self, new: u64) -> Reply<T> {
         if self.weak_receivers.has(new) {
             return Reply::Refused(Refusal::Taken, None);

@@ -6,6 +6,7 @@ use crate::proved::channel_model::{NoMemory, Refusal, Reply};
 use crate::proved::event_list::Quiet;
 
 impl<T> Run<T> {
+    #[inline]
     pub(super) fn try_send(&mut self, sender: u64, message: T) -> Reply<T> {
         if !self.senders.has(sender) {
             return Reply::Refused(Refusal::Unknown, Some(message));
@@ -16,6 +17,7 @@ impl<T> Run<T> {
         }
     }
 
+    #[inline]
     pub(super) fn force_send(&mut self, sender: u64, message: T) -> Reply<T> {
         if !self.senders.has(sender) {
             return Reply::Refused(Refusal::Unknown, Some(message));
@@ -26,6 +28,7 @@ impl<T> Run<T> {
         }
     }
 
+    #[inline]
     pub(super) fn try_recv(&mut self, receiver: u64) -> Reply<T> {
         if !self.has_receiver(receiver) {
             return Reply::Refused(Refusal::Unknown, None);

@@ -9,6 +9,7 @@ use crate::proved::channel_model::{OutOfMemory, Refusal, Reply};
 use crate::proved::event_list::Quiet;
 
 impl<T> Run<T> {
+    #[inline]
     pub(super) fn start_send(&mut self, op: u64, sender: u64, message: T) -> Reply<T> {
         if !self.senders.has(sender) {
             return Reply::Refused(Refusal::Unknown, Some(message));
@@ -27,6 +28,7 @@ impl<T> Run<T> {
         }
     }
 
+    #[inline]
     pub(super) fn start_recv(&mut self, op: u64, receiver: u64) -> Reply<T> {
         if !self.has_receiver(receiver) {
             return Reply::Refused(Refusal::Unknown, None);
@@ -44,6 +46,7 @@ impl<T> Run<T> {
         }
     }
 
+    #[inline]
     pub(super) fn start_closed(&mut self, op: u64, sender: u64) -> Reply<T> {
         if !self.senders.has(sender) {
             return Reply::Refused(Refusal::Unknown, None);
@@ -61,6 +64,7 @@ impl<T> Run<T> {
         }
     }
 
+    #[inline]
     pub(super) fn poll(&mut self, op: u64) -> Reply<T> {
         let Some(operation) = self.operations.get_mut(&op) else {
             return Reply::Refused(Refusal::Unknown, None);
@@ -89,6 +93,7 @@ impl<T> Run<T> {
         }
     }
 
+    #[inline]
     pub(super) fn poll_next(&mut self, receiver: u64) -> Reply<T> {
         if !self.has_receiver(receiver) {
             return Reply::Refused(Refusal::Unknown, None);
@@ -99,6 +104,7 @@ impl<T> Run<T> {
         self.poll_stream(receiver)
     }
 
+    #[inline]
     pub(super) fn drop_op(&mut self, op: u64) -> Reply<T> {
         let Some(operation) = take(&mut self.operations, op) else {
             return Reply::Refused(Refusal::Unknown, None);
@@ -108,6 +114,7 @@ impl<T> Run<T> {
     }
 
     /// Polls the stream of a receiver that is live.
+    #[inline]
     pub(super) fn poll_stream(&mut self, receiver: u64) -> Reply<T> {
         let Some(ticket) = self.receivers.get_mut(&receiver) else {
             return Reply::Refused(Refusal::Unknown, None);
@@ -120,6 +127,7 @@ impl<T> Run<T> {
 }
 
 // Gives up an operation's wait.
+#[inline]
 fn cancel<T>(core: &mut Core<T, ()>, operation: Operation<T>) {
     match operation {
         Operation::Send {

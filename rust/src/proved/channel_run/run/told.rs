@@ -10,6 +10,7 @@ use crate::proved::channel_model::{OutOfMemory, Reply, Who};
 
 impl<T> Run<T> {
     /// Room for as many replies as there are waiting entries.
+    #[inline]
     pub(crate) fn room_for_replies(&self) -> Result<Vec<(Who, Reply<T>)>, OutOfMemory> {
         match Vec::with_capacity(self.alloc, self.waiting()) {
             Ok(replies) => Ok(replies),
@@ -19,6 +20,7 @@ impl<T> Run<T> {
 
     /// Who is polled next: the first told receive, else the first told stream, else the first told
     /// send, else the first told closed operation.
+    #[inline]
     pub(crate) fn first_told(&self) -> Option<Who> {
         if let Some(op) = self.first_in(Group::Receives) {
             return Some(Who::Op(op));
@@ -34,6 +36,7 @@ impl<T> Run<T> {
     }
 
     /// Polls the one who was told first, also a stream whose receiver a live receive borrows.
+    #[inline]
     pub(crate) fn poll_told(&mut self, who: Who) -> Reply<T> {
         // whoever waits is live, as the run's parts fit together
         let _ = &self.core;
@@ -44,6 +47,7 @@ impl<T> Run<T> {
     }
 
     // How many entries the waiting lists have.
+    #[inline]
     fn waiting(&self) -> usize {
         // no more wait than have names, so the sum fits
         let _operations = self.operations.len();
@@ -55,6 +59,7 @@ impl<T> Run<T> {
     }
 
     // The name of the first who was told in the group.
+    #[inline]
     fn first_in(&self, group: Group) -> Option<u64> {
         let key = self.core.first_told(group)?;
         match group {

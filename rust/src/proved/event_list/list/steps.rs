@@ -18,6 +18,7 @@ pub struct Steps<L: Ledger> {
 
 impl<L: Ledger> Steps<L> {
     /// No steps yet, on the ledger that this blank opens.
+    #[inline]
     pub fn of(blank: Blank) -> Self {
         Steps {
             lookups: Lookups::of(blank),
@@ -33,12 +34,14 @@ pub(crate) struct Lookups<L: Ledger> {
 
 impl<L: Ledger> Lookups<L> {
     // None yet, on the ledger that this blank opens.
+    #[inline]
     fn of(blank: Blank) -> Self {
         let (book, share) = blank.open::<L>();
         Lookups { book, share }
     }
 
     /// One more look-up.
+    #[inline]
     pub(crate) fn raise(&mut self) {
         self.book.add(&mut self.share, 1);
     }
