@@ -20,7 +20,9 @@ try:
 
 test:
 	rt ci
+	tools/examples
 	python3 tools/chanrun_runs.py
+	python3 tools/explorations/check.py
 	python3 tools/refused_requests.py
 	$(MAKE) --no-print-directory rust
 
@@ -32,5 +34,5 @@ check:
 
 bench:
 	cd crates/bench_waiters && rt run -- measure
-	cd crates/bench_channel && rt run -- measure
+	cd crates/perf_rows && rt run -- measure
 	cd crates/bench_map && rt run -- measure

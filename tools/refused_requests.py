@@ -1,15 +1,22 @@
 #!/usr/bin/env python3
-"""Runs the built chanrun on each worked row, and refuses its requests for memory one by one.
+"""Makes each worked row with its requests for memory refused one by one.
 
-Each row is run once with all memory, and must write the replies that stand beside its lines. Then
-it is run again for each request that it made, and that one request is refused. The program may end
-as before, with the same replies; or with a beginning of them, status 1 and the line `out of
-memory`. Anything else is a difference. Of the two longest scripts the first and the last requests
-are refused.
+Two built programs make the rows: chanrun those that are scripts, and refused_rows those of every
+layer below (the waiting list, the queue and the core, runs, handles, operations, the recorder). An
+allocator laid in front of a program counts its requests, and refuses the one that it is told to.
 
-A line is printed for each row: how many requests it made, how many of them were answered by `out
-of memory`, how many changed nothing, and how many replies differed. The status is 0 where none did
-and every row asked for memory.
+Each row is made once with all memory, and must print what it is to print. Then it is made again for
+each request, and that one request is refused. chanrun may end as before, or with a beginning of its
+replies, status 1 and the line `out of memory`. refused_rows must print the same replies as before;
+on standard error stands at most that the call which made this request was refused, and the program
+makes that call again by itself, once it has seen that nothing else changed. Where a recorder's
+`finish` is refused the row begins anew, behind the line `row again`. Anything else is a difference.
+So is a request by a call of which refused_rows says that it makes none.
+
+A line is printed for each row: how many requests it made, how many of them were answered as
+refused, how many changed nothing, and how many came to something else. Of the longest scripts the
+first and the last requests are refused. The status is 0 where nothing differed, every row asked for
+memory, and every call of refused_rows that asked was refused once.
 """
 
 import os
@@ -22,67 +29,33 @@ from concurrent.futures import ThreadPoolExecutor
 
 TOOLS = pathlib.Path(__file__).resolve().parent
 CRATES = TOOLS.parent / "crates"
-PROGRAM = CRATES / "chanrun_program" / "out" / "chanrun_program"
-ROWS = CRATES / "chanrun_tests" / "src" / "rows.rt"
+ROWS = CRATES / "chanrun_tests" / "src"
 CASES = TOOLS / "chanrun_runs"
 # How many requests of a long script are refused, from either end.
 ENDS = 50
 SECONDS = 60
 OUT_OF_MEMORY = (1, b"out of memory\n")
+AGAIN = "row again\n"
+MARK = re.compile(r"^(may|no) request: ", re.MULTILINE)
 
 
-class Row:
-    """A script, and what it writes, ends with and says where memory is there."""
-
-    def __init__(self, name, script, output, status=0, error=b"", is_long=False):
-        self.name, self.script, self.output = name, script, output
-        self.ending = (status, error)
-        self.is_long = is_long
-
-
-def worked_rows():
-    """The rows of the tests of scripts: lines, each with its reply behind ` => `."""
-    text = ROWS.read_text(encoding="utf-8")
-    found = re.findall(r'name: "([^"]+)",\s*lines: "\\\n(.*?)",', text, re.DOTALL)
-    for name, lines in found:
-        script, replies = [], []
-        for line in lines.split("\n"):
-            step, arrow, reply = line.partition("=> ")
-            if step:
-                script.append(step.rstrip())
-            if arrow:
-                replies.append(reply)
-        yield Row(name, as_lines(script), as_lines(replies))
-
-
-def as_lines(lines):
-    return "".join(line + "\n" for line in lines).encode()
-
-
-def faulty_rows():
-    """The stored runs of chanrun on standard input alone, most of which end with a fault."""
-    for case in sorted(CASES.iterdir()):
-        if (case / "args").exists() or (case / "stdout_to").exists():
-            continue
-        script, output, error = ((case / it).read_bytes() for it in ("stdin", "stdout", "stderr"))
-        status = int((case / "status").read_text())
-        yield Row(case.name.replace("_", " "), script, output, status, error)
-
-
-def long_rows():
-    """Scripts at the limit of their length, and past it."""
-    longest = b"bounded 10\n" + b"len s0\n" * 149_795
-    yield Row("the longest script", longest, b"0\n" * 149_795, is_long=True)
-    error = b"input is too long\n"
-    yield Row("one byte more", longest + b"l", b"", status=1, error=error, is_long=True)
+def built(name):
+    """The program as the gate leaves it, or as `rt run` builds it."""
+    crate = CRATES / name
+    program = crate / "out" / name
+    if not program.is_file():
+        with open(crate / "stdin", "rb") as script:
+            subprocess.run(["rt", "run"], cwd=crate, stdin=script, stdout=subprocess.DEVNULL)
+    return program
 
 
 class Sweep:
-    """The program with the allocator laid in front of it."""
+    """Runs of programs with the allocator laid in front of them."""
 
     def __init__(self, folder):
         self.folder = folder
         self.allocator = folder / "refuse.so"
+        self.programs = {name: built(name) for name in ("chanrun_program", "refused_rows")}
         source = TOOLS / "refused_requests" / "refuse.c"
         command = ["cc", "-O2", "-shared", "-fPIC", "-o", self.allocator, source, "-ldl"]
         subprocess.run(command, check=True)
@@ -93,7 +66,7 @@ class Sweep:
         if counted:
             environment["COUNTED"] = str(counted)
         ran = subprocess.run(
-            [PROGRAM],
+            [self.programs[row.program], *row.arguments],
             input=row.script,
             capture_output=True,
             env=environment,
@@ -101,51 +74,211 @@ class Sweep:
         )
         return ran.stdout, (ran.returncode, ran.stderr)
 
-    def requests(self, row):
-        """How many requests the row makes; it must end as it says."""
+    def counts(self, row):
+        """How many requests were made at each line that the row wrote, and at its end."""
         counted = self.folder / "counted"
         output, ending = self.run(row, counted=counted)
-        if (output, ending) != (row.output, row.ending):
-            raise SystemExit(f"refused: {row.name}: with all memory it ends with {ending}")
-        return int(counted.read_text())
+        if not row.is_as_wanted(output) or ending != row.ending:
+            raise SystemExit(f"refused: {row.name}: with all memory: {ending}, {output!r}")
+        return [int(it) for it in counted.read_text().split()]
 
-    def outcome(self, row, number):
-        """What came of one refused request."""
-        output, ending = self.run(row, number)
-        if (output, ending) == (row.output, row.ending):
+
+class Script:
+    """A script for chanrun, and what it writes and ends with where memory is there."""
+
+    program = "chanrun_program"
+    arguments = ()
+
+    def __init__(self, name, script, output, status=0, error=b"", is_long=False):
+        self.name, self.script, self.output = name, script, output
+        self.ending = (status, error)
+        self.is_long = is_long
+
+    def is_as_wanted(self, output):
+        return output == self.output
+
+    def numbers(self, counts):
+        """The requests that are refused in turn."""
+        numbers = range(1, counts[-1] + 1)
+        if self.is_long and len(numbers) > 2 * ENDS:
+            return [*numbers[:ENDS], *numbers[-ENDS:]]
+        return list(numbers)
+
+    def faults(self, _counts):
+        return []
+
+    def outcome(self, _counts, _number, output, ending):
+        if (output, ending) == (self.output, self.ending):
             return "unchanged"
-        if ending == OUT_OF_MEMORY and row.output.startswith(output):
+        if ending == OUT_OF_MEMORY and self.output.startswith(output):
             return "refused"
-        print(f"refused: {row.name}: request {number}: {ending}, {output[-80:]!r}")
         return "different"
 
+    def never_refused(self, _counts, _outcomes):
+        return []
 
-def numbers_of(row, requests):
-    numbers = range(1, requests + 1)
-    if row.is_long and requests > 2 * ENDS:
-        return [*numbers[:ENDS], *numbers[-ENDS:]]
-    return numbers
+
+class Calls:
+    """A row of refused_rows: a line for each call, with its reply behind ` => `."""
+
+    program = "refused_rows"
+    ending = (0, b"")
+
+    def __init__(self, name, arguments, output, script=b"", is_marked=True):
+        self.name, self.arguments, self.output = name, arguments, output
+        self.script, self.is_marked = script, is_marked
+        self.lines = []
+
+    def is_as_wanted(self, output):
+        """Whether the replies are the row's. The first time, with all memory, they are kept."""
+        text = output.decode()
+        self.lines = self.lines or text.splitlines()
+        return (text if self.is_marked else MARK.sub("", text)) == self.output
+
+    def calls(self, counts):
+        """Each line's mark and call, with the requests that were made before it and with it."""
+        for line, before, behind in zip(self.lines, [counts[0], *counts], counts):
+            mark, colon, rest = line.partition(": ")
+            yield mark if colon else "", rest.rpartition(" => ")[0], before, behind
+
+    def numbers(self, counts):
+        """The requests that are refused in turn: those behind the line that begins the row."""
+        return list(range(counts[0] + 1, counts[-1] + 1))
+
+    def faults(self, counts):
+        """What is wrong with the requests as they were counted."""
+        if len(counts) != len(self.lines) + 1:
+            return ["another number of lines"]
+        calls = self.calls(counts)
+        wrong = [call for mark, call, low, high in calls if mark != "may request" and low != high]
+        if counts[-1] != counts[-2]:
+            wrong.append("the end of the row")
+        return [f"a request is made by: {it}" for it in wrong]
+
+    def caller(self, counts, number):
+        """The call that makes this request."""
+        return next(call for _, call, low, high in self.calls(counts) if low < number <= high)
+
+    def outcome(self, counts, number, output, ending):
+        *begun, whole = output.decode().split(AGAIN)
+        wanted = as_lines(self.lines[1:] if begun else self.lines)
+        beginning = as_lines(self.lines)
+        is_begun = len(begun) <= 1 and all(beginning.startswith(it) for it in begun)
+        if whole != wanted or not is_begun or ending[0] != 0:
+            return "different"
+        caller = self.caller(counts, number)
+        refusal = f"refused: {caller}\n".encode()
+        return {b"": "unchanged", refusal: "refused"}.get(ending[1], "different")
+
+    def never_refused(self, counts, outcomes):
+        """The calls that asked for memory, of which no request was answered as refused."""
+        for _, call, low, high in self.calls(counts):
+            mine = [outcomes[number] for number in range(low + 1, high + 1)]
+            if mine and "refused" not in mine:
+                yield call
+
+
+def as_lines(lines):
+    return "".join(line + "\n" for line in lines)
+
+
+def worked_rows():
+    """The rows of the tests of runs: their names, and their lines with the replies."""
+    texts = [path.read_text(encoding="utf-8") for path in sorted(ROWS.glob("*.rt"))]
+    pattern = re.compile(r'name: "([^"]+)",\s*lines: "\\\n(.*?)",', re.DOTALL)
+    found = [row for text in texts for row in pattern.findall(text)]
+    return [(name, lines.split("\n")) for name, lines in found]
+
+
+def parted(lines):
+    """The script of a row, and its replies."""
+    parts = [line.partition("=> ") for line in lines]
+    script = [step.rstrip() for step, _, _ in parts if step]
+    return as_lines(script).encode(), [reply for _, arrow, reply in parts if arrow]
+
+
+def script_rows():
+    for name, lines in worked_rows():
+        script, replies = parted(lines)
+        yield Script(name, script, as_lines(replies).encode())
+
+
+def faulty_rows():
+    """The stored runs of chanrun on standard input alone, most of which end with a fault."""
+    for case in sorted(CASES.iterdir()):
+        if (case / "args").exists() or (case / "stdout_to").exists():
+            continue
+        script, output, error = ((case / it).read_bytes() for it in ("stdin", "stdout", "stderr"))
+        status = int((case / "status").read_text())
+        yield Script(case.name.replace("_", " "), script, output, status, error)
+
+
+def long_rows():
+    """Scripts at the limit of their length, and past it."""
+    longest = b"bounded 10\n" + b"len s0\n" * 149_795
+    yield Script("the longest script", longest, b"0\n" * 149_795, is_long=True)
+    error = b"input is too long\n"
+    yield Script("one byte more", longest + b"l", b"", status=1, error=error, is_long=True)
+
+
+def run_rows():
+    """The rows in script form, step by step and, where they are steps alone, as one list."""
+    for name, lines in worked_rows():
+        script, replies = parted(lines)
+        output = ["row step by step", "new => a run", *lines[1:], "drop of the run => done"]
+        yield Calls(
+            f"{name}, step by step", ["step by step"], as_lines(output), script, is_marked=False
+        )
+        if not re.search(rb"^(notice|settle)\b", script, re.MULTILINE):
+            output = ["row as a list", f"run_all => {len(replies)}"]
+            output += [f"=> {reply}" for reply in replies]
+            yield Calls(f"{name}, as a list", ["as a list"], as_lines(output), script, False)
+
+
+def own_rows():
+    """The rows that refused_rows makes by itself, as its stored run has them."""
+    text = (CRATES / "refused_rows" / "stdout").read_text(encoding="utf-8")
+    for row in re.split(r"^(?=row )", text, flags=re.MULTILINE)[1:]:
+        name = row.splitlines()[0].removeprefix("row ")
+        yield Calls(name, [name], row)
+
+
+def sweep_row(sweep, pool, row):
+    """Refuses each request of the row. It answers how many, and what was wrong."""
+    counts = sweep.counts(row)
+    numbers = row.numbers(counts)
+    ran = pool.map(lambda number: sweep.run(row, number), numbers)
+    outcomes = {number: row.outcome(counts, number, *it) for number, it in zip(numbers, ran)}
+    given = list(outcomes.values())
+    faults = row.faults(counts)
+    faults += [f"never refused: {call}" for call in row.never_refused(counts, outcomes)]
+    faults += [f"request {it} differs" for it, what in outcomes.items() if what == "different"]
+    if not numbers:
+        faults.append("no request is made")
+    print(
+        f"refused: {row.name}: {len(numbers)} requests, {given.count('refused')} refused, "
+        f"{given.count('unchanged')} unchanged, {given.count('different')} different"
+    )
+    for fault in faults:
+        print(f"refused: {row.name}: {fault}")
+    return given, faults
 
 
 def main():
-    rows = [*worked_rows(), *faulty_rows(), *long_rows()]
-    runs = different = silent = 0
+    rows = [*own_rows(), *run_rows(), *script_rows(), *faulty_rows(), *long_rows()]
+    given, faults = [], []
     with tempfile.TemporaryDirectory() as folder, ThreadPoolExecutor(os.cpu_count()) as pool:
         sweep = Sweep(pathlib.Path(folder))
         for row in rows:
-            requests = sweep.requests(row)
-            numbers = numbers_of(row, requests)
-            outcomes = list(pool.map(lambda number: sweep.outcome(row, number), numbers))
-            counts = [outcomes.count(it) for it in ("refused", "unchanged", "different")]
-            print(
-                f"refused: {row.name}: {requests} requests, {counts[0]} out of memory, "
-                f"{counts[1]} unchanged, {counts[2]} different"
-            )
-            runs += len(outcomes)
-            different += counts[2]
-            silent += requests == 0
-    print(f"refused: {len(rows)} rows, {runs} requests refused in turn, {different} different")
-    return 0 if rows and not different and not silent else 1
+            of_row, wrong = sweep_row(sweep, pool, row)
+            given += of_row
+            faults += wrong
+    print(
+        f"refused: {len(rows)} rows, {len(given)} requests refused in turn: "
+        f"{given.count('refused')} refused, {given.count('unchanged')} unchanged, "
+        f"{given.count('different')} different; {len(faults)} faults"
+    )
+    return 0 if rows and not faults else 1
 
 
 if __name__ == "__main__":

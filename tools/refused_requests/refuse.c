@@ -1,10 +1,12 @@
 // Laid in front of a built program: the request for memory with the number REFUSED is answered by
 // nothing, all others by the C library. Where COUNTED names a file, the number of requests that
-// the program made is written there when it ends.
+// the program has made is written there with each line of its standard output, and when it ends.
 #define _GNU_SOURCE
 #include <dlfcn.h>
+#include <fcntl.h>
 #include <stdio.h>
 #include <stdlib.h>
+#include <unistd.h>
 
 static long made = 0;
 
@@ -30,12 +32,24 @@ void *realloc(void *old, size_t size) {
     return is_refused() ? NULL : real(old, size);
 }
 
-__attribute__((destructor)) static void tell(void) {
-    long count = made;
-    const char *path = getenv("COUNTED");
-    FILE *file = path ? fopen(path, "w") : NULL;
-    if (file) {
-        fprintf(file, "%ld\n", count);
-        fclose(file);
-    }
+static ssize_t write_through(int file, const void *bytes, size_t size) {
+    static ssize_t (*real)(int, const void *, size_t);
+    if (!real) real = (ssize_t (*)(int, const void *, size_t))dlsym(RTLD_NEXT, "write");
+    return real(file, bytes, size);
 }
+
+static void tell(void) {
+    static int file = -2;
+    const char *path = getenv("COUNTED");
+    char text[32];
+    int size = snprintf(text, sizeof text, "%ld\n", made);
+    if (file == -2) file = path ? open(path, O_WRONLY | O_CREAT | O_TRUNC, 0600) : -1;
+    if (file >= 0) write_through(file, text, (size_t)size);
+}
+
+ssize_t write(int file, const void *bytes, size_t size) {
+    if (file == STDOUT_FILENO && size > 0 && ((const char *)bytes)[size - 1] == '\n') tell();
+    return write_through(file, bytes, size);
+}
+
+__attribute__((destructor)) static void tell_at_the_end(void) { tell(); }

@@ -1,5 +1,3 @@
 mod Refusals
-mod Kept
-mod Marks
 mod Logging
 mod Ready

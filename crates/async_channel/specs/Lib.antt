@@ -1,7 +1,4 @@
-pub mod Stamps
+pub mod Tags
 pub mod Operations
-pub mod Histories
-pub mod CallSteps
-pub mod Shares
 pub mod Held
 pub mod Rung

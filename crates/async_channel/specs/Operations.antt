@@ -2,7 +2,7 @@
 use Rattle.std.specs.Prelude.{◌≡◌, ⊤, ℕ, Bool, List, Option, Some, None, Result, Ok, Err}
 use Rattle.channel_model.specs.declared.errors.SendError.{SendError}
 use Rattle.channel_model.specs.declared.errors.OutOfMemory.{OutOfMemory}
-use Rattle.async_channel.specs.Stamps.{TagView}
+use Rattle.async_channel.specs.Tags.{TagView}
 
 -- A sender or a weak handle: its tag, and the name of the source that tasks wait for at its
 -- channel.

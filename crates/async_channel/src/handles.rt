@@ -2,17 +2,18 @@
 ghost use Rattle.std.specs.Prelude.{◌≡◌, ◌<◌, ◌↔◌, ◌≢◌, IsTrue, IsSome, IfOk, IfErr, OnErr, Err, Some, None, codes};
 ghost use Rattle.std.specs.Arc.{arc_value};
 ghost use Rattle.channel_model.specs.Errors.{message_of};
-ghost use Rattle.async_channel.specs.Stamps.{next_stamp};
+ghost use Rattle.channel_stamps.specs.Stamps.{next_stamp};
 ghost use Rattle.async_channel.specs.Operations.{AreEndsOf, handle_of};
 
 use crate::mark::{Mark, Marker};
 use crate::shared::{Link, Shared};
-use crate::stamps::{StampMaker, Tag};
+use crate::tag::Tag;
 use crate::weak::{WeakReceiver, WeakSender};
 use channel_core::{
     CloneError, Core, MakeError, NoMemory, OutOfMemory, SendError, Ticket, TryRecvError,
     TrySendError,
 };
+use channel_stamps::StampMaker;
 use std::alloc::Global;
 use std::fmt;
 use std::marker::Model;
@@ -20,11 +21,25 @@ use std::sync::{Arc, Wait};
 
 /// The sending side of a channel.
 ///
-/// Senders can be copied and shared by threads. When all senders of a channel are dropped, the channel
-/// is closed. [`Sender::close`] closes it by hand.
+/// Senders can be copied and shared by threads. When all senders of a channel are dropped, the
+/// channel is closed. [`Sender::close`] closes it by hand.
+///
+/// # Examples
+///
+/// ```
+/// let (s, r) = unbounded(&rt, rt.alloc(), &mut maker)?;
+/// let s2 = s.try_clone()?;
+///
+/// assert_eq!(rt; s.try_send(1)?, Ok(()));
+/// assert_eq!(rt; s2.try_send(2)?, Ok(()));
+/// assert_eq!(rt; s.len(), 2);
+/// assert_eq!(rt; s.receiver_count(), 1);
+/// assert_eq!(rt; r.try_recv(), Ok(1));
+/// ```
 pub struct Sender<T: Drop, R: Wait + Clone + Drop> {
-    /// What the sender knows of its channel without its lock. Another tag that is written here changes the
-    /// answers of `capacity` and `same_channel` alone, for this sender and those made from it.
+    /// What the sender knows of its channel without its lock. Another tag that is written here
+    /// changes the answers of `capacity` and `same_channel` alone, for this sender and those made
+    /// from it.
     pub tag: Tag,
     pub(crate) link: Link<T, R>,
 }
@@ -36,19 +51,36 @@ impl<T: Drop, R: Wait + Clone + Drop> Model for Sender<T, R> {
 
     ghost Value = { HandleView };
 
-    ghost view = { λ handle. record { tag = handle.tag; source = (arc_value handle.link.shared).source.id } };
+    ghost view = { λ handle. record {
+      tag = handle.tag;
+      source = (arc_value handle.link.shared).source.id;
+    } };
 }
 
 /// The receiving side of a channel.
 ///
-/// Receivers can be copied and shared by threads. When all receivers of a channel are dropped, the channel
-/// is closed. [`Receiver::close`] closes it by hand.
+/// Receivers can be copied and shared by threads. When all receivers of a channel are dropped, the
+/// channel is closed. [`Receiver::close`] closes it by hand.
 ///
-/// A receiver is a stream of its messages. An item is `Err` where memory was refused, and the stream may be
-/// polled again.
+/// A receiver is a stream of its messages. An item is `Err` where memory was refused, and the
+/// stream may be polled again.
+///
+/// # Examples
+///
+/// ```
+/// let (s, mut r) = unbounded(&rt, rt.alloc(), &mut maker)?;
+/// let r2 = r.try_clone()?;
+/// assert_eq!(rt; r.receiver_count(), 2);
+///
+/// assert_eq!(rt; s.try_send(1)?, Ok(()));
+/// assert_eq!(rt; s.try_send(2)?, Ok(()));
+/// assert_eq!(rt; r2.try_recv(), Ok(1));
+/// assert_eq!(rt; block_on(&rt, r.next())?, Some(Ok(2)));
+/// ```
 pub struct Receiver<T: Drop, R: Wait + Clone + Drop> {
-    /// What the receiver knows of its channel without its lock. Another tag that is written here changes the
-    /// answers of `capacity` and `same_channel` alone, for this receiver and those made from it.
+    /// What the receiver knows of its channel without its lock. Another tag that is written here
+    /// changes the answers of `capacity` and `same_channel` alone, for this receiver and those made
+    /// from it.
     pub tag: Tag,
     pub(crate) link: Link<T, R>,
     // The stream's wait.
@@ -71,6 +103,9 @@ impl<T: Drop, R: Wait + Clone + Drop> Model for Receiver<T, R> {
 }
 
 /// Creates a bounded channel, which holds at most `cap` messages at a time.
+///
+/// The capacity has to be positive. [`MakeError`] says that memory was refused, or that the maker
+/// has given its last stamp; the maker is then as it was.
 ///
 /// # Examples
 ///
@@ -106,6 +141,9 @@ pub fn bounded<T: Drop, R: Wait + Clone + Drop>(
 
 /// Creates an unbounded channel, which can hold any number of messages.
 ///
+/// [`MakeError`] says that memory was refused, or that the maker has given its last stamp; the
+/// maker is then as it was.
+///
 /// # Examples
 ///
 /// ```
@@ -134,7 +172,7 @@ pub fn unbounded<T: Drop, R: Wait + Clone + Drop>(
     ends(rt, alloc, Core::unbounded(alloc), None, maker)
 }
 
-// Both sides of a channel. The stamp is drawn behind everything that may be refused.
+// Both sides of a channel. The stamp is drawn after everything that may be refused.
 fn ends<T: Drop, R: Wait + Clone + Drop>(
     rt: &R,
     alloc: Global,
@@ -175,8 +213,8 @@ fn links<T: Drop, R: Wait + Clone + Drop>(
 impl<T: Drop, R: Wait + Clone + Drop> Sender<T, R> {
     /// Attempts to send a message into the channel.
     ///
-    /// A full or closed channel is answered by an error, with the message. The outer error, with the
-    /// message, says that memory was refused.
+    /// A full or closed channel is answered by an error, with the message. The outer error, with
+    /// the message, says that memory was refused.
     ///
     /// # Examples
     ///
@@ -199,8 +237,9 @@ impl<T: Drop, R: Wait + Clone + Drop> Sender<T, R> {
 
     /// Sends a message into the channel, whatever it holds.
     ///
-    /// A full channel gives its oldest message for it, as `Ok(Some(oldest))`. A closed one is answered by an
-    /// error, with the message. The outer error, with the message, says that memory was refused.
+    /// A full channel gives its oldest message for it, as `Ok(Some(oldest))`. A closed one is
+    /// answered by an error, with the message. The outer error, with the message, says that memory
+    /// was refused.
     ///
     /// # Examples
     ///
@@ -224,6 +263,17 @@ impl<T: Drop, R: Wait + Clone + Drop> Sender<T, R> {
     /// Closes the channel, and answers whether this call closed it.
     ///
     /// The remaining messages can still be received.
+    ///
+    /// # Examples
+    ///
+    /// ```
+    /// let (s, r) = unbounded(&rt, rt.alloc(), &mut maker)?;
+    /// assert_eq!(rt; s.try_send(1)?, Ok(()));
+    /// assert!(rt; s.close());
+    /// assert!(rt; s.is_closed());
+    /// assert!(rt; !s.close());
+    /// assert_eq!(rt; r.try_recv(), Ok(1));
+    /// ```
     pub fn close(&self) -> bool {
         self.link.lock().close()
     }
@@ -239,6 +289,16 @@ impl<T: Drop, R: Wait + Clone + Drop> Sender<T, R> {
     }
 
     /// Whether the channel holds as many messages as it may. An unbounded channel never does.
+    ///
+    /// # Examples
+    ///
+    /// ```
+    /// let (s, r) = bounded(&rt, rt.alloc(), 1, &mut maker)?;
+    /// assert!(rt; s.is_empty());
+    /// assert_eq!(rt; s.try_send(1)?, Ok(()));
+    /// assert!(rt; s.is_full());
+    /// assert_eq!(rt; r.try_recv(), Ok(1));
+    /// ```
     pub fn is_full(&self) -> bool {
         self.link.lock().is_full()
     }
@@ -258,7 +318,7 @@ impl<T: Drop, R: Wait + Clone + Drop> Sender<T, R> {
         self.link.lock().sender_count()
     }
 
-    /// The channel's capacity, if it is bounded. It takes no lock.
+    /// The channel's capacity, if it is bounded, as the tag has it.
     ///
     /// # Examples
     ///
@@ -272,7 +332,8 @@ impl<T: Drop, R: Wait + Clone + Drop> Sender<T, R> {
         self.tag.capacity()
     }
 
-    /// Whether both senders are of one channel. It takes no lock, and says nothing of channels of two makers.
+    /// Whether both senders are of one channel, as their tags have it. Nothing is said between
+    /// channels of two makers.
     ///
     /// # Examples
     ///
@@ -289,6 +350,18 @@ impl<T: Drop, R: Wait + Clone + Drop> Sender<T, R> {
     /// One more sender of the channel.
     ///
     /// It is refused where there are more than `usize::MAX / 2` of them, or memory was refused.
+    /// Then the channel is as it was.
+    ///
+    /// # Examples
+    ///
+    /// ```
+    /// let (s, r) = unbounded::<u64, _>(&rt, rt.alloc(), &mut maker)?;
+    /// let s2 = s.try_clone()?;
+    /// assert_eq!(rt; s.sender_count(), 2);
+    /// drop(s);
+    /// drop(s2);
+    /// assert!(rt; r.is_closed());
+    /// ```
     pub fn try_clone(&self) -> Result<Sender<T, R>, CloneError>
         ensures { IfOk result (λ sender. sender ≡ self.now) }
     {
@@ -305,6 +378,20 @@ impl<T: Drop, R: Wait + Clone + Drop> Sender<T, R> {
     }
 
     /// A weak handle of the channel, which doesn't keep it open.
+    ///
+    /// The error says that memory was refused.
+    ///
+    /// # Examples
+    ///
+    /// ```
+    /// let (s, r) = unbounded(&rt, rt.alloc(), &mut maker)?;
+    /// let weak = s.downgrade()?;
+    /// assert_eq!(rt; s.sender_count(), 1);
+    ///
+    /// let upgraded = weak.upgrade()?.ok_or("an open channel")?;
+    /// assert_eq!(rt; upgraded.try_send(1)?, Ok(()));
+    /// assert_eq!(rt; r.try_recv(), Ok(1));
+    /// ```
     pub fn downgrade(&self) -> Result<WeakSender<T, R>, OutOfMemory>
         ensures { IfOk result (λ weak. weak ≡ self.now) }
     {
@@ -371,6 +458,17 @@ impl<T: Drop, R: Wait + Clone + Drop> Receiver<T, R> {
     /// Closes the channel, and answers whether this call closed it.
     ///
     /// The remaining messages can still be received.
+    ///
+    /// # Examples
+    ///
+    /// ```
+    /// let (s, r) = unbounded(&rt, rt.alloc(), &mut maker)?;
+    /// assert_eq!(rt; s.try_send(1)?, Ok(()));
+    /// assert!(rt; r.close());
+    /// assert!(rt; r.is_closed());
+    /// assert_eq!(rt; s.try_send(2)?, Err(TrySendError::Closed(2)));
+    /// assert_eq!(rt; r.try_recv(), Ok(1));
+    /// ```
     pub fn close(&self) -> bool {
         self.link.lock().close()
     }
@@ -386,11 +484,32 @@ impl<T: Drop, R: Wait + Clone + Drop> Receiver<T, R> {
     }
 
     /// Whether the channel holds as many messages as it may. An unbounded channel never does.
+    ///
+    /// # Examples
+    ///
+    /// ```
+    /// let (s, r) = bounded(&rt, rt.alloc(), 1, &mut maker)?;
+    /// assert!(rt; r.is_empty());
+    /// assert_eq!(rt; s.try_send(1)?, Ok(()));
+    /// assert!(rt; r.is_full());
+    /// assert_eq!(rt; r.len(), 1);
+    /// ```
     pub fn is_full(&self) -> bool {
         self.link.lock().is_full()
     }
 
     /// Whether the channel is closed and holds no message, so that the stream has ended.
+    ///
+    /// # Examples
+    ///
+    /// ```
+    /// let (s, r) = unbounded(&rt, rt.alloc(), &mut maker)?;
+    /// assert_eq!(rt; s.try_send(1)?, Ok(()));
+    /// drop(s);
+    /// assert!(rt; !r.is_terminated());
+    /// assert_eq!(rt; r.try_recv(), Ok(1));
+    /// assert!(rt; r.is_terminated());
+    /// ```
     pub fn is_terminated(&self) -> bool {
         self.link.lock().is_terminated()
     }
@@ -410,14 +529,24 @@ impl<T: Drop, R: Wait + Clone + Drop> Receiver<T, R> {
         self.link.lock().sender_count()
     }
 
-    /// The channel's capacity, if it is bounded. It takes no lock.
+    /// The channel's capacity, if it is bounded, as the tag has it.
     pub fn capacity(&self) -> Option<usize>
         ensures { result ≡ self.now.tag.capacity }
     {
         self.tag.capacity()
     }
 
-    /// Whether both receivers are of one channel. It takes no lock, and says nothing of channels of two makers.
+    /// Whether both receivers are of one channel, as their tags have it. Nothing is said between
+    /// channels of two makers.
+    ///
+    /// # Examples
+    ///
+    /// ```
+    /// let (_s, r) = bounded::<u64, _>(&rt, rt.alloc(), 5, &mut maker)?;
+    /// let r2 = r.try_clone()?;
+    /// assert!(rt; r.same_channel(&r2));
+    /// assert_eq!(rt; r2.capacity(), Some(5));
+    /// ```
     pub fn same_channel(&self, other: &Receiver<T, R>) -> bool
         ensures { IsTrue result ↔ (self.now.tag.stamp ≡ other.now.tag.stamp) }
     {
@@ -427,6 +556,19 @@ impl<T: Drop, R: Wait + Clone + Drop> Receiver<T, R> {
     /// One more receiver of the channel, whose stream doesn't wait.
     ///
     /// It is refused where there are more than `usize::MAX / 2` of them, or memory was refused.
+    /// Then the channel is as it was.
+    ///
+    /// # Examples
+    ///
+    /// ```
+    /// let (s, r) = unbounded::<u64, _>(&rt, rt.alloc(), &mut maker)?;
+    /// let r2 = r.try_clone()?;
+    /// assert_eq!(rt; r.sender_count(), 1);
+    /// drop(r);
+    /// assert!(rt; !s.is_closed());
+    /// drop(r2);
+    /// assert!(rt; s.is_closed());
+    /// ```
     pub fn try_clone(&self) -> Result<Receiver<T, R>, CloneError>
         ensures { IfOk result (λ receiver. receiver ≡ record self.now { ticket = None }) }
     {
@@ -440,6 +582,19 @@ impl<T: Drop, R: Wait + Clone + Drop> Receiver<T, R> {
     }
 
     /// A weak handle of the channel, which doesn't keep it open.
+    ///
+    /// The error says that memory was refused.
+    ///
+    /// # Examples
+    ///
+    /// ```
+    /// let (s, r) = unbounded(&rt, rt.alloc(), &mut maker)?;
+    /// let weak = r.downgrade()?;
+    /// assert_eq!(rt; s.try_send(1)?, Ok(()));
+    ///
+    /// let upgraded = weak.upgrade()?.ok_or("an open channel")?;
+    /// assert_eq!(rt; upgraded.try_recv(), Ok(1));
+    /// ```
     pub fn downgrade(&self) -> Result<WeakReceiver<T, R>, OutOfMemory>
         ensures { IfOk result (λ weak. weak ≡ handle_of self.now) }
     {

@@ -1,5 +1,5 @@
-//! An async multi-producer multi-consumer channel, where each message can be received by only one of
-//! all existing consumers.
+//! An async multi-producer multi-consumer channel, where each message can be received by only one
+//! of all existing consumers.
 //!
 //! There are two kinds of channels:
 //!
@@ -8,11 +8,15 @@
 //!
 //! A channel has a [`Sender`] and a [`Receiver`] side. Both can be cloned and shared by threads.
 //!
-//! When all senders or all receivers of a channel are dropped, the channel is closed. No message can be
-//! sent into a closed channel, and what it holds can still be received. [`Sender::close`] and
-//! [`Receiver::close`] close it by hand.
+//! When all senders or all receivers of a channel are dropped, the channel is closed. No message
+//! can be sent into a closed channel, and what it holds can still be received. [`Sender::close`]
+//! and [`Receiver::close`] close it by hand.
 //!
 //! # Examples
+//!
+//! In all examples `rt` is the runtime that `main` gets and `maker` a [`StampMaker`]; where nothing
+//! else is said, `s` and `r` are both sides of an unbounded channel, and `task` is a `MockTask` of
+//! `futures`, which polls.
 //!
 //! ```
 //! let mut maker = StampMaker::new();
@@ -25,26 +29,24 @@
 
 mod blocking;
 mod handles;
+pub mod inspect;
 mod locked;
 mod log;
 mod mark;
 mod ops;
 mod polls;
-pub mod record;
 mod ringer;
 mod shared;
-mod stamps;
 mod stream;
-#[cfg(test)]
-mod tests;
+mod tag;
 mod weak;
 
 pub use channel_core::{
     Bell, CloneError, Core, Group, MakeError, NoMemory, OutOfMemory, Queue, Quiet, RecvError,
     SendError, Ticket, TryRecvError, TrySendError, Upgrade,
 };
-pub use channel_model::Kind;
+pub use channel_stamps::{Stamp, StampMaker};
 pub use handles::{Receiver, Sender, bounded, unbounded};
 pub use ops::{Closed, Recv, Send};
-pub use stamps::{Stamp, StampMaker, Tag};
+pub use tag::Tag;
 pub use weak::{WeakReceiver, WeakSender};

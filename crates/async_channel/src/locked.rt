@@ -4,20 +4,22 @@
 //! others. Each call of it is one step of the channel. Where it is dropped, the lock is free
 //! first, and then who was told first is woken.
 ghost use Rattle.std.specs.Prelude.{◌≡◌, ◌==◌, ◌&&◌, length, [], None, IfOk, IfErr, OnOk, OnErr, not};
+ghost use Rattle.event_list.specs.Waiting.{keys, told_count};
 ghost use Rattle.channel_model.specs.Tables.{try_send_answer, force_send_answer, try_recv_answer};
-ghost use Rattle.channel_core.specs.Channel.{is_channel_full, oldest, GrowsWithMessages, sent, force_sent, received, closing, sender_dropped, receiver_dropped_by};
+ghost use Rattle.channel_core.specs.Channel.{is_channel_full, list_of, oldest, GrowsWithMessages, sent, force_sent, received, closing, sender_dropped, receiver_dropped_by};
 ghost use Rattle.channel_core.specs.Counts.{may_add, count_added, upgrade_answer, count_upgraded};
 ghost use Rattle.channel_core.specs.Tickets.{left};
 ghost use Rattle.async_channel.specs.Held.{then, send_cancelled, recv_cancelled};
 
+use crate::inspect::Waiters;
 use crate::mark::Mark;
 use crate::ringer::Ringer;
 use crate::shared::Shared;
-use channel_core::{Core, NoMemory, SendError, Ticket, TryRecvError, TrySendError, Upgrade};
+use channel_core::{Core, Group, NoMemory, SendError, Ticket, TryRecvError, TrySendError, Upgrade};
 use std::marker::Model;
 use std::sync::{MutexGuard, Wait};
 
-/// A channel while its lock is held, and those to be woken behind it.
+/// A channel while its lock is held, and those to be woken after it.
 pub(crate) struct Locked<'a, T: Drop, R: Wait> {
     pub(crate) core: MutexGuard<'a, Core<T, Mark>>,
     pub(crate) bell: Ringer<'a, R>,
@@ -246,13 +248,15 @@ impl<T: Drop, R: Wait> Locked<'_, T, R> {
     {
         self.core.receiver_count()
     }
-}
 
-#[cfg(test)]
-impl<T: Drop, R: Wait> Locked<'_, T, R> {
-    /// The channel itself, for tests that look at its waiting lists.
-    pub(crate) fn core(&self) -> &Core<T, Mark> {
-        &*self.core
+    pub(crate) fn who_waits(&self, group: Group) -> Waiters
+        ensures waiting { result.waiting ≡ length (keys (list_of group self.now.channel)) }
+        ensures told { result.told ≡ told_count (list_of group self.now.channel) }
+    {
+        Waiters {
+            waiting: self.core.waiting(group),
+            told: self.core.told(group),
+        }
     }
 }
 

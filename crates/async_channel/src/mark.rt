@@ -1,7 +1,24 @@
-//! Who waits at a channel, and how it is told.
+//! Who waits at a channel, and how it is woken.
 //!
-//! A task's operation and a blocked call each keep their own end of a mark, and leave the other
-//! end in a waiting list. Either end takes memory only where its owner begins to wait.
+//! Who waits leaves a mark in a waiting list, and whoever tells it wakes the mark. The mark of a
+//! task can't be its waker: a waker of `futures` wakes its task wherever it is dropped, and what
+//! lies in an entry is dropped at each poll that waits again. In a trial of that form two receives
+//! joined in one task made 2,406 polls in 100 ms, in place of 4.
+//!
+//! So the waker lies in a slot, which the operation and its entry share:
+//!
+//! 1. A poll that can't go on makes the slot, if there is none yet, and registers its task's waker
+//!    there. Then it leaves its other end of the slot in the list, as its mark.
+//! 2. To wake the mark is to empty the slot: the waker is dropped.
+//! 3. A mark that is replaced, or leaves the list, lets go of its end of the slot alone, and wakes
+//!    nobody. A poll that is ready leaves no mark, and asks for no slot.
+//!
+//! The locks are taken in one order: the channel's, and under it the slot's. A waker is registered
+//! before its mark lies in a list, so that whoever tells the entry finds it.
+//!
+//! A blocked thread has no waker. It sleeps at a cell of its own, its mark is that cell, and so
+//! just the one that was notified wakes. A slot, like a cell, takes memory only where its owner
+//! begins to wait.
 ghost use Rattle.std.specs.Prelude.{◌≡◌, true, IfOk, OnOk};
 ghost use Rattle.futures.specs.Task.{Covers, Keeps};
 ghost use Rattle.async_channel.specs.Held.{is_of_task, is_of_thread};

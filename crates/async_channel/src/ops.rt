@@ -20,6 +20,20 @@ use std::sync::Wait;
 /// It gives `Ok(Ok(()))` once the message is in the channel, the message in a [`SendError`] where
 /// the channel is closed, and `Err` where memory was refused: it is then as it was, and may be
 /// polled again. A finished one stays pending. Dropping it withdraws it, with its message.
+///
+/// # Examples
+///
+/// ```
+/// let (s, r) = bounded(&rt, rt.alloc(), 1, &mut maker)?;
+/// assert_eq!(rt; s.try_send(1)?, Ok(()));
+///
+/// let mut send = s.send(2);
+/// assert!(rt; task.poll(&mut send).is_pending());
+/// assert_eq!(rt; r.try_recv(), Ok(1));
+/// assert!(rt; task.is_woken());
+/// assert!(rt; task.poll(&mut send).is_ready());
+/// assert!(rt; send.is_terminated());
+/// ```
 pub struct Send<'a, T: Drop, R: Wait + Clone + Drop> {
     sender: &'a Sender<T, R>,
     message: Option<T>,
@@ -32,6 +46,19 @@ pub struct Send<'a, T: Drop, R: Wait + Clone + Drop> {
 /// It gives a message, [`RecvError`] where the channel is closed and empty, and `Err` where
 /// memory was refused: it is then as it was, and may be polled again. A finished one acts as a
 /// new one. Dropping it withdraws it.
+///
+/// # Examples
+///
+/// ```
+/// let (s, r) = unbounded(&rt, rt.alloc(), &mut maker)?;
+/// let mut recv = r.recv();
+/// assert!(rt; task.poll(&mut recv).is_pending());
+///
+/// assert_eq!(rt; s.try_send(1)?, Ok(()));
+/// assert!(rt; task.is_woken());
+/// assert!(rt; task.poll(&mut recv).is_ready());
+/// assert!(rt; recv.is_terminated());
+/// ```
 pub struct Recv<'a, T: Drop, R: Wait + Clone + Drop> {
     receiver: &'a Receiver<T, R>,
     ticket: Option<Ticket>,
@@ -43,6 +70,19 @@ pub struct Recv<'a, T: Drop, R: Wait + Clone + Drop> {
 ///
 /// It completes once no receiver is left, and gives `Err` where memory was refused: it is then as
 /// it was, and may be polled again. A finished one acts as a new one. Dropping it withdraws it.
+///
+/// # Examples
+///
+/// ```
+/// let (s, r) = unbounded::<u64, _>(&rt, rt.alloc(), &mut maker)?;
+/// let mut closed = s.closed();
+/// assert!(rt; task.poll(&mut closed).is_pending());
+///
+/// drop(r);
+/// assert!(rt; task.is_woken());
+/// assert!(rt; task.poll(&mut closed).is_ready());
+/// assert!(rt; closed.is_terminated());
+/// ```
 pub struct Closed<'a, T: Drop, R: Wait + Clone + Drop> {
     sender: &'a Sender<T, R>,
     ticket: Option<Ticket>,

@@ -24,9 +24,11 @@ const YIELDS: u32 = 4;
 /// What all handles of a channel share.
 #[derive(Drop)]
 pub(crate) struct Shared<T> {
+    // Where the memory of its marks comes from.
     pub(crate) alloc: Global,
     // What tasks wait for, by its name.
     pub(crate) source: Source,
+    // The channel itself, on which each call is one step.
     core: Mutex<Core<T, Mark>>,
 }
 

@@ -4,7 +4,7 @@ ghost use Rattle.async_channel.specs.Operations.{receiver_at};
 
 use crate::handles::{Receiver, Sender};
 use crate::shared::Link;
-use crate::stamps::Tag;
+use crate::tag::Tag;
 use channel_core::{CloneError, OutOfMemory, Upgrade};
 use std::fmt;
 use std::marker::Model;
@@ -37,12 +37,25 @@ impl<T, R> Model for WeakSender<T, R> {
 
     ghost Value = { HandleView };
 
-    ghost view = { λ handle. record { tag = handle.tag; source = (arc_value handle.link.shared).source.id } };
+    ghost view = { λ handle. record {
+      tag = handle.tag;
+      source = (arc_value handle.link.shared).source.id;
+    } };
 }
 
 /// A [`Receiver`] that doesn't keep its channel open.
 ///
 /// It is made by [`Receiver::downgrade`]. To receive by it, it has to be upgraded.
+///
+/// # Examples
+///
+/// ```
+/// let weak = r.downgrade()?;
+/// assert!(rt; weak.upgrade()?.is_some());
+///
+/// drop(s);
+/// assert!(rt; weak.upgrade()?.is_none());
+/// ```
 #[derive(Drop)]
 pub struct WeakReceiver<T, R> {
     /// What the handle knows of its channel without its lock.
@@ -57,14 +70,26 @@ impl<T, R> Model for WeakReceiver<T, R> {
 
     ghost Value = { HandleView };
 
-    ghost view = { λ handle. record { tag = handle.tag; source = (arc_value handle.link.shared).source.id } };
+    ghost view = { λ handle. record {
+      tag = handle.tag;
+      source = (arc_value handle.link.shared).source.id;
+    } };
 }
 
 impl<T: Drop, R: Wait + Clone + Drop> WeakSender<T, R> {
     /// One more sender of the channel, or `None` where it is closed.
     ///
-    /// It is refused where memory was refused or, on an open channel, there are more than `usize::MAX / 2`
-    /// senders.
+    /// It is refused where memory was refused or, on an open channel, there are more than
+    /// `usize::MAX / 2` senders. The channel is then as it was.
+    ///
+    /// # Examples
+    ///
+    /// ```
+    /// let weak = s.downgrade()?;
+    /// let upgraded = weak.upgrade()?.ok_or("an open channel")?;
+    /// assert_eq!(rt; s.sender_count(), 2);
+    /// assert!(rt; upgraded.same_channel(&s));
+    /// ```
     pub fn upgrade(&self) -> Result<Option<Sender<T, R>>, CloneError>
         ensures { IfOk result (λ upgraded. IfSome upgraded (λ sender. sender ≡ self.now)) }
     {
@@ -85,6 +110,17 @@ impl<T: Drop, R: Wait + Clone + Drop> WeakSender<T, R> {
 
 impl<T: Drop, R: Clone + Drop> WeakSender<T, R> {
     /// One more weak handle of the channel.
+    ///
+    /// The error says that memory was refused.
+    ///
+    /// # Examples
+    ///
+    /// ```
+    /// let weak = s.downgrade()?;
+    /// let weak2 = weak.try_clone()?;
+    /// drop(weak);
+    /// assert!(rt; weak2.upgrade()?.is_some());
+    /// ```
     pub fn try_clone(&self) -> Result<WeakSender<T, R>, OutOfMemory>
         ensures { IfOk result (λ weak. weak ≡ self.now) }
     {
@@ -107,8 +143,17 @@ impl<T, R> fmt::Debug for WeakSender<T, R> {
 impl<T: Drop, R: Wait + Clone + Drop> WeakReceiver<T, R> {
     /// One more receiver of the channel, whose stream doesn't wait, or `None` where it is closed.
     ///
-    /// It is refused where memory was refused or, on an open channel, there are more than `usize::MAX / 2`
-    /// receivers.
+    /// It is refused where memory was refused or, on an open channel, there are more than
+    /// `usize::MAX / 2` receivers. The channel is then as it was.
+    ///
+    /// # Examples
+    ///
+    /// ```
+    /// let weak = r.downgrade()?;
+    /// let upgraded = weak.upgrade()?.ok_or("an open channel")?;
+    /// assert_eq!(rt; r.receiver_count(), 2);
+    /// assert!(rt; upgraded.same_channel(&r));
+    /// ```
     pub fn upgrade(&self) -> Result<Option<Receiver<T, R>>, CloneError>
         ensures { IfOk result
             (λ upgraded. IfSome upgraded (λ receiver. receiver ≡ receiver_at self.now)) }
@@ -127,6 +172,17 @@ impl<T: Drop, R: Wait + Clone + Drop> WeakReceiver<T, R> {
 
 impl<T: Drop, R: Clone + Drop> WeakReceiver<T, R> {
     /// One more weak handle of the channel.
+    ///
+    /// The error says that memory was refused.
+    ///
+    /// # Examples
+    ///
+    /// ```
+    /// let weak = r.downgrade()?;
+    /// let weak2 = weak.try_clone()?;
+    /// drop(weak);
+    /// assert!(rt; weak2.upgrade()?.is_some());
+    /// ```
     pub fn try_clone(&self) -> Result<WeakReceiver<T, R>, OutOfMemory>
         ensures { IfOk result (λ weak. weak ≡ self.now) }
     {

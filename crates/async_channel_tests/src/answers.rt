@@ -1,5 +1,5 @@
 //! What both sides say of a channel, call by call: rows of calls, with the answers of all questions
-//! behind each.
+//! after each.
 use async_channel::{
     CloneError, Receiver, Sender, StampMaker, WeakReceiver, WeakSender, bounded, unbounded,
 };

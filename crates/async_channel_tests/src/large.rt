@@ -1,7 +1,5 @@
 //! A hundred thousand of each: no limit shows that the contracts don't tell.
 use crate::probe::channel;
-use async_channel::StampMaker;
-use async_channel::record::{Call, Outcome, Recorder};
 use futures::task::Poll;
 use futures::test::MockTask;
 use std::test::Fail;
@@ -51,21 +49,5 @@ fn copies_of_both_handles(rt: HostRuntime) -> Result<(), Fail> {
     assert_eq!(rt; (s.sender_count(), r.receiver_count()), (100_001, 100_001));
     drop(copies);
     assert_eq!(rt; (s.sender_count(), r.receiver_count()), (1, 1));
-    Ok(())
-}
-
-#[test]
-fn recorded_calls(rt: HostRuntime) -> Result<(), Fail> {
-    let mut maker = StampMaker::new();
-    let recorder = Recorder::unbounded(rt.alloc(), &mut maker)?;
-    let mut clerk = recorder.clerk(&rt)?;
-    for m in 0..MANY {
-        if recorder.owns(&clerk) {
-            let sent = recorder.call(&rt, &mut clerk, Call::TrySend(m))?;
-            assert_eq!(rt; sent, Outcome::TrySent(Ok(())));
-        }
-    }
-    let book = recorder.finish(vec![in rt.alloc(); clerk]?)?;
-    assert_eq!(rt; book.history().len() as u64, MANY);
     Ok(())
 }

@@ -14,8 +14,6 @@ mod operations;
 #[cfg(test)]
 mod probe;
 #[cfg(test)]
-mod records;
-#[cfg(test)]
 mod rows;
 #[cfg(test)]
 mod texts;

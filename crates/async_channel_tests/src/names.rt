@@ -1,5 +1,4 @@
 //! Each public item by its path, as a user names it: this file isn't built where one is missing.
-use async_channel::record;
 use futures::Stream;
 use std::fmt;
 use std::sync::Wait;
@@ -133,21 +132,12 @@ fn the_parts_of_a_channel(rt: HostRuntime) -> Result<(), Fail> {
     Ok(())
 }
 
-fn is_exact<X: record::Exact>(_message: &X) -> bool {
-    true
-}
-
 #[test]
-fn recorders(rt: HostRuntime) -> Result<(), Fail> {
-    use record::{Book, Call, Clerk, FinishError, Journal, Outcome, Recorder};
+fn a_look_at_who_waits(rt: HostRuntime) -> Result<(), Fail> {
+    use async_channel::inspect::{Waiters, who_waits};
     let mut maker = async_channel::StampMaker::new();
-    let recorder: Recorder<u64> = Recorder::unbounded(rt.alloc(), &mut maker)?;
-    let clerk: Clerk<u64> = recorder.clerk(&rt)?;
-    let clerks = vec![in rt.alloc(); clerk]?;
-    let book: Result<Book<u64>, FinishError> = recorder.finish(clerks);
-    assert_eq!(rt; book?.clerks(), 1);
-    assert!(rt; is_exact(&1u64));
-    let mut journal: Journal<u64> = Journal::new(rt.alloc(), async_channel::Kind::Unbounded)?;
-    assert_eq!(rt; journal.call(Call::Len)?, (0, Outcome::Count(0)));
+    let (s, _r) = async_channel::unbounded::<u64, _>(&rt, rt.alloc(), &mut maker)?;
+    let seen: Waiters = who_waits(&s.downgrade()?, async_channel::Group::Sends);
+    assert_eq!(rt; (seen.waiting, seen.told), (0, 0));
     Ok(())
 }

@@ -1,6 +1,5 @@
 //! What handles and errors write.
 use crate::probe::channel;
-use async_channel::record::FinishError;
 use async_channel::{
     CloneError, MakeError, NoMemory, OutOfMemory, RecvError, SendError, TryRecvError, TrySendError,
 };
@@ -93,22 +92,4 @@ fn texts_of_handles(rt: HostRuntime) -> Result<(), Fail> {
     shows(&rt, alloc, &r, "Receiver { .. }")?;
     shows(&rt, alloc, &s.downgrade()?, "WeakSender { .. }")?;
     shows(&rt, alloc, &r.downgrade()?, "WeakReceiver { .. }")
-}
-
-#[test]
-fn texts_of_finish_errors(rt: HostRuntime) -> Result<(), Fail> {
-    let rows = [
-        (
-            FinishError::Stranger,
-            "a clerk is of another recorder",
-            "Stranger",
-        ),
-        (FinishError::Missing, "a clerk is missing", "Missing"),
-        (FinishError::Mismatch, "the entries don't agree", "Mismatch"),
-        (FinishError::OutOfMemory, "out of memory", "OutOfMemory"),
-    ];
-    for (error, text, debug) in &rows {
-        reads(&rt, rt.alloc(), error, text, debug)?;
-    }
-    Ok(())
 }

@@ -82,7 +82,7 @@ fn stream_all<R: Wait + Clone + Drop + RandomSource + AllocGlobal>(
     }
 }
 
-/// Takes turns until the receiver sees that the channel holds so many messages.
+/// Takes turns until the receiver sees that the channel holds this many messages.
 fn holds<T: Drop, R: Wait + Clone + Drop>(receiver: &Receiver<T, R>, len: usize) -> bool {
     for _ in 0..TURNS {
         if receiver.len() == len {
@@ -142,7 +142,7 @@ fn send(rt: HostRuntime) -> Result<(), Fail> {
     Ok(())
 }
 
-/// Sends so many messages and receives them, and looks at the length behind each.
+/// Sends messages and receives them, and looks at the length after each.
 fn fills_and_drains<R: Wait + Clone + Drop + RandomSource + AllocGlobal>(
     rt: &R,
     s: &Sender<usize, R>,

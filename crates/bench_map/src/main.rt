@@ -27,7 +27,7 @@ fn is_asked<R: Env + AllocGlobal>(rt: &R) -> Result<bool> {
     Ok(matches!(arguments.next(), Some(word) if word.as_str() == "measure"))
 }
 
-/// So many hundredths of a number, as text with a point.
+/// A number of hundredths, as text with a point.
 fn hundredths<R: AllocGlobal>(rt: &R, nanos: u128, of: u128) -> Result<String> {
     let parts = nanos.saturating_mul(100) / of.max(1);
     Ok(format!(in rt.alloc(); "{}.{:02}", parts / 100, parts % 100)?)
@@ -49,7 +49,7 @@ fn row<R: Print + AllocGlobal>(
     Ok(())
 }
 
-/// Prints the rows of one job over so many inputs.
+/// Prints the rows of one job over a number of inputs.
 fn report<const STEPS: u64, R>(rt: &R, job: &Stir<STEPS>, name: &str, count: u64) -> Result<()>
 where
     R: Threads + Wait + Clone + Drop + AllocGlobal + Clock + Print + Send + Sync,

@@ -1,4 +1,5 @@
-//! How long a waiting list takes to register, to tell and to cancel, among few waiters and among many.
+//! How long a waiting list takes to register, to tell and to cancel, among few waiters and among
+//! many.
 //!
 //! It measures with the argument `measure` alone, and else prints one line that is always the same.
 #![tactic(auto)]
@@ -9,14 +10,14 @@ use std::alloc::Global;
 use std::env;
 use std::time::{Clock, Instant};
 
-// So many calls are timed together.
+// How many calls are timed together.
 const CALLS: usize = 1_000;
 
 // So often they are timed; the best time counts.
 const RUNS: usize = 20;
 
-// A list of waiters of which the first half is told and a little more, and the tickets of those in its
-// middle, so that a notice is handed on where one of them cancels.
+// A list of waiters of which the first half is told and a little more, and the tickets of those in
+// its middle, so that a notice is handed on where one of them cancels.
 #[derive(Drop)]
 struct Crowd {
     list: WaitList<u64>,

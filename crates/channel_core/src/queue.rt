@@ -18,6 +18,15 @@ enum Store<T> {
 ///
 /// A bounded queue has all its memory from the start, so that a push into it never asks for any. An
 /// unbounded one grows as messages come.
+///
+/// # Examples
+///
+/// ```
+/// let mut queue = Queue::bounded(rt.alloc(), 1)?;
+/// assert_eq!(rt; queue.push(1)?, Ok(()));
+/// assert_eq!(rt; queue.push(2)?, Err(2));
+/// assert_eq!(rt; queue.pop(), Some(1));
+/// ```
 #[derive(Drop)]
 pub struct Queue<T> {
     store: Store<T>,
@@ -37,6 +46,14 @@ impl<T> Model for Queue<T> {
 
 impl<T: Drop> Queue<T> {
     /// An empty queue that holds at most `cap` messages.
+    ///
+    /// # Examples
+    ///
+    /// ```
+    /// let queue: Queue<u64> = Queue::bounded(rt.alloc(), 5)?;
+    /// assert_eq!(rt; queue.capacity(), Some(5));
+    /// assert_eq!(rt; queue.len(), 0);
+    /// ```
     pub fn bounded(alloc: Global, cap: usize) -> Result<Queue<T>, OutOfMemory>
         requires { 0 < cap }
         ensures { IfOk result (λ queue. queue ≡ contents (Some cap) []) }
@@ -50,6 +67,14 @@ impl<T: Drop> Queue<T> {
     }
 
     /// An empty queue without a bound. It takes no memory yet.
+    ///
+    /// # Examples
+    ///
+    /// ```
+    /// let mut queue = Queue::unbounded(rt.alloc());
+    /// assert_eq!(rt; queue.push(1)?, Ok(()));
+    /// assert_eq!(rt; queue.capacity(), None);
+    /// ```
     pub fn unbounded(alloc: Global) -> Queue<T>
         ensures { result ≡ contents None [] }
     {
@@ -59,6 +84,18 @@ impl<T: Drop> Queue<T> {
     }
 
     /// Puts a message last. A full queue hands it back.
+    ///
+    /// The outer error, with the message, says that memory was refused. It comes of an unbounded
+    /// queue alone.
+    ///
+    /// # Examples
+    ///
+    /// ```
+    /// let mut queue = Queue::bounded(rt.alloc(), 1)?;
+    /// assert_eq!(rt; queue.push(1)?, Ok(()));
+    /// assert_eq!(rt; queue.push(2)?, Err(2));
+    /// ```
+    #[inline(always)]
     pub fn push(&mut self, message: T) -> Result<Result<(), T>, NoMemory<T>>
         ensures reply { IfOk result (λ reply. reply ≡ push_reply self.old message) }
         ensures after { OnOk result (self.new ≡ pushed self.old message) }
@@ -76,6 +113,18 @@ impl<T: Drop> Queue<T> {
     }
 
     /// Puts a message last, in any case. A full queue gives its oldest message for it.
+    ///
+    /// The error, with the message, says that memory was refused. It comes of an unbounded queue
+    /// alone.
+    ///
+    /// # Examples
+    ///
+    /// ```
+    /// let mut queue = Queue::bounded(rt.alloc(), 1)?;
+    /// assert_eq!(rt; queue.force_push(1)?, None);
+    /// assert_eq!(rt; queue.force_push(2)?, Some(1));
+    /// assert_eq!(rt; queue.len(), 1);
+    /// ```
     pub fn force_push(&mut self, message: T) -> Result<Option<T>, NoMemory<T>>
         ensures reply { IfOk result (λ displaced. displaced ≡ force_push_reply self.old) }
         ensures after { OnOk result (self.new ≡ force_pushed self.old message) }
@@ -94,6 +143,16 @@ impl<T: Drop> Queue<T> {
     }
 
     /// Takes the oldest message.
+    ///
+    /// # Examples
+    ///
+    /// ```
+    /// let mut queue = Queue::unbounded(rt.alloc());
+    /// assert_eq!(rt; queue.push(1)?, Ok(()));
+    /// assert_eq!(rt; queue.pop(), Some(1));
+    /// assert_eq!(rt; queue.pop(), None);
+    /// ```
+    #[inline(always)]
     pub fn pop(&mut self) -> Option<T>
         ensures message { result ≡ slice_get self.old.messages 0 }
         ensures after { self.new ≡ popped self.old }

@@ -11,16 +11,25 @@ use std::alloc::Global;
 /// Who waits for a channel, by what they wait for.
 #[derive(Drop)]
 pub(crate) struct WaitLists<W> {
+    // Sends, for a place or the close.
     pub(crate) sends: WaitList<W>,
+    // Receives, for a message or the close.
     pub(crate) receives: WaitList<W>,
+    // Streams, for a message or the close.
     pub(crate) streams: WaitList<W>,
+    // Closed operations, for the end of the last receiver.
     pub(crate) closeds: WaitList<W>,
 }
 
 impl<W: Drop> WaitLists<W> {
     /// Nobody waits.
     pub(crate) fn new(alloc: Global) -> Self
-        ensures { result ≡ record { sends = nobody; receives = nobody; streams = nobody; closeds = nobody } }
+        ensures { result ≡ record {
+          sends = nobody;
+          receives = nobody;
+          streams = nobody;
+          closeds = nobody;
+        } }
     {
         WaitLists {
             sends: WaitList::new(alloc),
@@ -46,9 +55,14 @@ impl<W: Drop> WaitLists<W> {
     }
 
     /// A message was accepted.
+    #[inline(always)]
     pub(crate) fn tell_accepted<B: Bell<W>>(&mut self, bell: &mut B)
-        ensures after { self.new ≡ record self.old { receives = told_one self.old.receives; streams = told_all self.old.streams } }
-        ensures rung { RingsEach B.rings bell.old (take 1 (payloads self.old.receives) ++ payloads self.old.streams) bell.new }
+        ensures after { self.new ≡ record self.old {
+          receives = told_one self.old.receives;
+          streams = told_all self.old.streams;
+        } }
+        ensures rung { RingsEach B.rings bell.old
+            (take 1 (payloads self.old.receives) ++ payloads self.old.streams) bell.new }
     {
         self.receives.tell_one(bell);
         self.streams.tell_all(bell);
@@ -57,8 +71,14 @@ impl<W: Drop> WaitLists<W> {
     /// The channel was closed.
     #[tactic(auto, using(crate::proofs::Rings::rings_in_turn))]
     pub(crate) fn tell_closed<B: Bell<W>>(&mut self, bell: &mut B)
-        ensures after { self.new ≡ record self.old { sends = told_all self.old.sends; receives = told_all self.old.receives; streams = told_all self.old.streams } }
-        ensures rung { RingsEach B.rings bell.old (payloads self.old.sends ++ payloads self.old.receives ++ payloads self.old.streams) bell.new }
+        ensures after { self.new ≡ record self.old {
+          sends = told_all self.old.sends;
+          receives = told_all self.old.receives;
+          streams = told_all self.old.streams;
+        } }
+        ensures rung { RingsEach B.rings bell.old
+            (payloads self.old.sends ++ payloads self.old.receives ++ payloads self.old.streams)
+            bell.new }
     {
         self.sends.tell_all(bell);
         self.receives.tell_all(bell);

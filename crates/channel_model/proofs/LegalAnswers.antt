@@ -20,7 +20,7 @@ use Rattle.channel_model.specs.Answers.{AreAnswers, IsAnswer, message_in, past_a
 use Rattle.channel_model.specs.Legal.{IsAllowed, IsLegal}
 use Rattle.channel_model.specs.View.{view_of}
 use Rattle.channel_model.proofs.ReplyForms.{force_send_reply, poll_closed_reply, poll_next_reply, poll_recv_reply, poll_send_reply, try_recv_reply, try_send_reply}
-use Rattle.channel_model.proofs.WhoWaits.{allowed}
+use Rattle.channel_model.proofs.AllowedSteps.{allowed}
 
 -- ---- a step that is known stands in the past behind its reply
 

@@ -14,11 +14,16 @@ pub mod RosterLemmas
 pub mod Measure
 pub mod HeldMessages
 pub mod Keeping
-pub mod CoveredSteps
+pub mod Halfway
+pub mod HalfwayRosters
+pub mod HalfwaySteps
+pub mod CoveredPasts
 pub mod Unchanged
 pub mod Settled
 pub mod LookUps
+pub mod AllowedSteps
 pub mod WhoWaits
+pub mod MeasureFalls
 pub mod AnyOrder
 pub mod ClosedStays
 pub mod Upgrades

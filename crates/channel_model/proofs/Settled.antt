@@ -16,7 +16,7 @@ use Rattle.channel_model.specs.Able.{IsSettled, can_receive, can_send}
 use Rattle.channel_model.specs.Polling.{IsQuiet}
 use Rattle.channel_model.specs.Laws.{IsDone}
 use Rattle.channel_model.proofs.Keeping.{HasUntold}
-use Rattle.channel_model.proofs.CoveredSteps.{AreAllTold, Whole}
+use Rattle.channel_model.proofs.Halfway.{AreAllTold, Whole}
 
 -- Nobody waits who could go on, roster by roster.
 pub record IsIdle {T : Type 0} (kind : Kind) (past : Past T) : Type 0 where

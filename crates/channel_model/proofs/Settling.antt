@@ -13,7 +13,8 @@ use Rattle.channel_model.specs.Notices.{rosters}
 use Rattle.channel_model.specs.Legal.{IsLegal}
 use Rattle.channel_model.specs.Polling.{EndsWell, IsQuiet, IsSettling, Settles, finished_polls, most_polls, settling, settling_polls, told_polls, waiting_in}
 use Rattle.channel_model.proofs.Measure.{measure, rosters-AreSound}
-use Rattle.channel_model.proofs.AnyOrder.{PollsTold, polls_told, measure-falls, told-allowed, first-Contains, IsFreePolling-IsSettling, EndsWell-IsFreePolling, told-waiting, within_most}
+use Rattle.channel_model.proofs.MeasureFalls.{PollsTold, polls_told, measure-falls, told-waiting}
+use Rattle.channel_model.proofs.AnyOrder.{told-allowed, first-Contains, IsFreePolling-IsSettling, EndsWell-IsFreePolling, within_most}
 
 -- ---- nobody to poll is nobody told
 

@@ -13,7 +13,7 @@ use Rattle.channel_model.specs.Legal.{IsLegal}
 use Rattle.channel_model.specs.Covered.{IsCovered}
 use Rattle.channel_model.specs.Standing.{standing_of}
 use Rattle.channel_model.specs.Laws.{with_made, UpgradesWhileOpen}
-use Rattle.channel_model.proofs.CoveredSteps.{IsCovered-IsLegal}
+use Rattle.channel_model.proofs.CoveredPasts.{IsCovered-IsLegal}
 
 senders-made : {T : Type 0} (past : Past T) (of new : ℕ) (granted : Bool)
     → live_senders ((UpgradeSender of new, Upgraded granted) ∷ past) ≡ with_made granted new (live_senders past)

@@ -1,169 +1,65 @@
 -- Whoever waits is live, and of the kind of the roster where it waits.
-use Rattle.std.proofs.Common.{◌≡◌, ℕ, ◌⊎◌, inl, inr, List, [], ◌∷◌, Bool, true, false, not, cond, ◌||◌, ◌==◌, Some, None, Option, Result, refl, sym, ◌∙◌, ap, subst}
-use Rattle.std.specs.Prelude.{is_some, if◌then◌else◌}
+use Rattle.std.proofs.Common.{◌≡◌, ℕ, ◌⊎◌, inl, inr, [], ◌∷◌, Bool, true, false, not, cond, ◌==◌, Some, None, Option, Result, refl, sym, ◌∙◌, ap, subst}
 use Rattle.std.proofs.lemmas.Bool.{eqb-true}
 use Rattle.futures.specs.declared.task.Poll.TheVariants.{Ready, Pending}
 use Rattle.channel_model.specs.declared.errors.SendError.{SendError}
 use Rattle.channel_model.specs.declared.step.Kind.{Kind}
-use Rattle.channel_model.specs.declared.step.Refusal.TheVariants.{Unknown, Taken, Borrowed, TooMany}
 use Rattle.channel_model.specs.declared.step.Step.{Step}
 use Rattle.channel_model.specs.declared.step.Step.TheVariants.{CloneReceiver, UpgradeReceiver, DropReceiver, StartSend, StartRecv, StartClosed, Poll, PollNext, DropOp}
 use Rattle.channel_model.specs.declared.step.Reply.{Reply}
 use Rattle.channel_model.specs.declared.step.Reply.TheVariants.{SendPolled, Done, Upgraded}
 use Rattle.event_list.specs.Keys.{is_among}
 use Rattle.channel_model.specs.Past.{Past}
-use Rattle.channel_model.specs.Handles.{live_receivers, without}
+use Rattle.channel_model.specs.Handles.{live_receivers}
 use Rattle.channel_model.specs.Operations.{Operation, awaiting_close, is_awaiting, is_finished_send, is_receive, is_unsent, live_operations, operation_of, receiving, sending}
 use Rattle.channel_model.specs.Messages.{accepted_by, oldest_message, received_by}
 use Rattle.channel_model.specs.Capacity.{is_full}
 use Rattle.channel_model.specs.Closing.{has_no_receiver, is_closed}
 use Rattle.channel_model.specs.Replies.{due_reply, poll_reply}
-use Rattle.channel_model.specs.Refusals.{is_borrowed, is_known, is_one_too_many, is_taken, refusal_of, refusal_in}
+use Rattle.channel_model.specs.Refusals.{refusal_of}
 use Rattle.channel_model.specs.Rosters.{Rosters, wait}
 use Rattle.channel_model.specs.Notices.{after_accepting, after_closing, after_last_receiver, after_own_move, after_receiving, rosters}
 use Rattle.channel_model.specs.Legal.{IsAllowed, IsLegal}
 use Rattle.channel_model.specs.Laws.{AreLive}
-use Rattle.channel_model.specs.View.{View, view_of}
+use Rattle.channel_model.specs.View.{view_of}
 use Rattle.channel_model.proofs.ReplyForms.{poll_closed_reply, poll_next_reply, poll_recv_reply, poll_send_reply}
-use Rattle.channel_model.proofs.LookUps.{look_up, look_up-other, look_up-without, look_up-with_finished, among-leave, among-hand_on, among-wait}
+use Rattle.channel_model.proofs.LookUps.{look_up-without, look_up-with_finished, among-leave, among-hand_on, among-wait}
+use Rattle.channel_model.proofs.AllowedSteps.{allowed, known_if_borrowed, apart_by, same_by, started, or_right, is_among-without_other}
 
-AreLive-accepting : {T : Type 0} (past : Past T) (accepted : Option T) (all : Rosters) → AreLive past all
+pub AreLive-accepting : {T : Type 0} (past : Past T) (accepted : Option T) (all : Rosters) → AreLive past all
     → AreLive past (after_accepting accepted all)
 AreLive-accepting past (Some message) all live =
     record { sends = live.sends; receives = live.receives; closeds = live.closeds; streams = live.streams }
 AreLive-accepting past None all live = live
 
-AreLive-receiving : {T : Type 0} (past : Past T) (received : Option T) (all : Rosters) → AreLive past all
+pub AreLive-receiving : {T : Type 0} (past : Past T) (received : Option T) (all : Rosters) → AreLive past all
     → AreLive past (after_receiving received all)
 AreLive-receiving past (Some message) all live =
     record { sends = live.sends; receives = live.receives; closeds = live.closeds; streams = live.streams }
 AreLive-receiving past None all live = live
 
-AreLive-closing : {T : Type 0} (past : Past T) (before now : Bool) (all : Rosters) → AreLive past all
+pub AreLive-closing : {T : Type 0} (past : Past T) (before now : Bool) (all : Rosters) → AreLive past all
     → AreLive past (after_closing before now all)
 AreLive-closing past false true all live =
     record { sends = live.sends; receives = live.receives; closeds = live.closeds; streams = live.streams }
 AreLive-closing past false false all live = live
 AreLive-closing past true now all live = live
 
-AreLive-last_receiver : {T : Type 0} (past : Past T) (before now : Bool) (all : Rosters) → AreLive past all
+pub AreLive-last_receiver : {T : Type 0} (past : Past T) (before now : Bool) (all : Rosters) → AreLive past all
     → AreLive past (after_last_receiver before now all)
 AreLive-last_receiver past false true all live =
     record { sends = live.sends; receives = live.receives; closeds = live.closeds; streams = live.streams }
 AreLive-last_receiver past false false all live = live
 AreLive-last_receiver past true now all live = live
 
--- ---- what an allowed step knows
-
-cond_none : {A : Type 0} (test : Bool) (some : A) (rest : Option A) → cond test (Some some) rest ≡ None
-    → (test ≡ false) × (rest ≡ None)
-cond_none true some rest e = cc
-cond_none false some rest e = (refl, e)
-
-not_false : (test : Bool) → not test ≡ false → test ≡ true
-not_false true e = refl
-not_false false e = cc
-
-pub record Allowed {T : Type 0} (view : View T) (step : Step T) : Type 0 where
-  pub known : is_known view step ≡ true
-  pub fresh : is_taken view step ≡ false
-
-pub allowed : {T : Type 0} (view : View T) (step : Step T) → refusal_in view step ≡ None → Allowed view step
-allowed view step e =
-    let first = cond_none (not (is_known view step)) Unknown _ e in
-    let second = cond_none (is_taken view step) Taken _ first.1 in
-    record { known = not_false (is_known view step) first.0; fresh = second.0 }
-
-pub known_if_borrowed : {T : Type 0} (view : View T) (step : Step T) → refusal_in view step ≡ Some Borrowed
-    → is_known view step ≡ true
-known_if_borrowed view step e = go (is_known view step) refl e
-  where
-    go : (known : Bool) → is_known view step ≡ known
-        → (if not known then Some Unknown else if is_taken view step then Some Taken else if is_borrowed view step
-        then Some Borrowed else if is_one_too_many view step then Some TooMany else None) ≡ Some Borrowed
-        → is_known view step ≡ true
-    go true k e = k
-    go false k e = cc
-
--- ---- names that differ
-
--- two operations of different kinds have different names
-apart_by : {T : Type 0} (past : Past T) (test : Option (Operation T) → Bool) (op name : ℕ)
-    → test (operation_of past name) ≡ true → test (operation_of past op) ≡ false → (op == name) ≡ false
-apart_by {T} past test op name is isnt = go (op == name) refl
-  where
-    go : (same : Bool) → (op == name) ≡ same → (op == name) ≡ false
-    go true e = let equal : test (operation_of past op) ≡ test (operation_of past name) =
-        ap (λ (n : ℕ). test (operation_of past n)) (eqb-true op name e) in cc
-    go false e = e
-
-same_by : {T : Type 0} (past : Past T) (test : Option (Operation T) → Bool) (op name : ℕ) → (op == name) ≡ true
-    → test (operation_of past op) ≡ true → test (operation_of past name) ≡ true
-same_by {T} past test op name same is = ap (λ (n : ℕ). test (operation_of past n)) (sym (eqb-true op name same)) ∙ is
-
--- none of the tests holds of no operation
-none_live : {T : Type 0} (operation : Option (Operation T)) → is_some operation ≡ false
-    → (is_unsent operation ≡ false) × (is_receive operation ≡ false) × (is_awaiting operation ≡ false)
-none_live (Some operation) e = cc
-none_live None e = (refl, refl, refl)
-
--- a step that starts an operation of a new name
-started : {T : Type 0} (past : Past T) (all : Rosters) (op : ℕ) (operation : Operation T)
-    → is_some (operation_of past op) ≡ false → AreLive past all
-    → ((name : ℕ) → is_among name all.sends.names ≡ true
-    → is_unsent (look_up name ((op, operation) ∷ live_operations past)) ≡ true)
-    × ((name : ℕ) → is_among name all.receives.names ≡ true
-    → is_receive (look_up name ((op, operation) ∷ live_operations past)) ≡ true)
-    × ((name : ℕ) → is_among name all.closeds.names ≡ true
-    → is_awaiting (look_up name ((op, operation) ∷ live_operations past)) ≡ true)
-started {T} past all op operation fresh live =
-    let none = none_live (operation_of past op) fresh in (
-      λ name among. ap (λ (found : Option (Operation T)). is_unsent found)
-          (look_up-other name (op, operation) (live_operations past)
-          (apart_by past is_unsent op name (live.sends name among) none.0)) ∙ live.sends name among,
-      λ name among. ap (λ (found : Option (Operation T)). is_receive found)
-          (look_up-other name (op, operation) (live_operations past)
-          (apart_by past is_receive op name (live.receives name among) none.1)) ∙ live.receives name among,
-      λ name among. ap (λ (found : Option (Operation T)). is_awaiting found)
-          (look_up-other name (op, operation) (live_operations past)
-          (apart_by past is_awaiting op name (live.closeds name among) none.2)) ∙ live.closeds name among,
-    )
-
-pub or_right : (a b : Bool) → b ≡ true → (a || b) ≡ true
-or_right true b e = refl
-or_right false b e = e
-
--- a name that isn't the one that leaves stays
-pub is_among-without_other : (left name : ℕ) (names : List ℕ) → (left == name) ≡ false → is_among name names ≡ true
-    → is_among name (without left names) ≡ true
-is_among-without_other left name [] apart among = among
-is_among-without_other left name (first ∷ names) apart among =
-    go (first == left) refl (λ rest. is_among-without_other left name names apart rest)
-  where
-    skip : (same : Bool) → same ≡ false → (same || is_among name names) ≡ true → is_among name names ≡ true
-    skip true e a = cc
-    skip false e a = a
-
-    keep : (same : Bool) → (same || is_among name names) ≡ true
-        → (is_among name names ≡ true → is_among name (without left names) ≡ true)
-        → (same || is_among name (without left names)) ≡ true
-    keep true a rest = refl
-    keep false a rest = rest a
-
-    go : (same : Bool) → (first == left) ≡ same
-        → (is_among name names ≡ true → is_among name (without left names) ≡ true)
-        → is_among name (cond (not same) (first ∷ without left names) (without left names)) ≡ true
-    go true e rest = rest (skip (first == name) (rw (eqb-true first left e) apart) among)
-    go false e rest = keep (first == name) among rest
-
 -- ---- step by step: whoever waits behind the own move
 
-OwnMoveIsLive : {T : Type 0} → Past T → Step T → Reply T → Type 0
+pub OwnMoveIsLive : {T : Type 0} → Past T → Step T → Reply T → Type 0
 OwnMoveIsLive past step reply = AreLive past (rosters past)
     → AreLive ((step, reply) ∷ past) (after_own_move (live_operations past) step reply (rosters past))
 
 -- the send was ready: it left, and is finished
-ready_send : {T : Type 0} (past : Past T) (op sender : ℕ) (message : Option T)
+pub ready_send : {T : Type 0} (past : Past T) (op sender : ℕ) (message : Option T)
     (result : Result (Unit {0}) (SendError T)) → operation_of past op ≡ Some (sending sender message)
     → OwnMoveIsLive past (Poll op) (SendPolled (Ready result))
 unfolding OwnMoveIsLive
@@ -186,7 +82,7 @@ ready_send {T} past op sender message result o live =
       streams = live.streams;
     }
 
-poll_send-live : {T : Type 0} (past : Past T) (op sender : ℕ) (message : Option T) (closed full : Bool)
+pub poll_send-live : {T : Type 0} (past : Past T) (op sender : ℕ) (message : Option T) (closed full : Bool)
     → operation_of past op ≡ Some (sending sender message)
     → OwnMoveIsLive past (Poll op) (poll_send_reply message closed full)
 unfolding OwnMoveIsLive
@@ -229,7 +125,7 @@ poll_send-live past op sender (Some message) false true o live =
       streams = live.streams;
     }
 
-poll_recv-live : {T : Type 0} (past : Past T) (op receiver : ℕ) (oldest : Option T) (closed : Bool)
+pub poll_recv-live : {T : Type 0} (past : Past T) (op receiver : ℕ) (oldest : Option T) (closed : Bool)
     → operation_of past op ≡ Some (receiving receiver) → OwnMoveIsLive past (Poll op) (poll_recv_reply oldest closed)
 unfolding OwnMoveIsLive
 poll_recv-live past op receiver (Some message) closed o live =
@@ -262,7 +158,7 @@ poll_recv-live past op receiver None false o live =
     either_way name (inl same) = same_by past is_receive op name same (ap is_receive o)
     either_way name (inr was) = live.receives name was
 
-poll_closed-live : {T : Type 0} (past : Past T) (op sender : ℕ) (no_receiver : Bool)
+pub poll_closed-live : {T : Type 0} (past : Past T) (op sender : ℕ) (no_receiver : Bool)
     → operation_of past op ≡ Some (awaiting_close sender) → OwnMoveIsLive past (Poll op) (poll_closed_reply no_receiver)
 unfolding OwnMoveIsLive
 poll_closed-live past op sender true o live =
@@ -285,7 +181,7 @@ poll_closed-live past op sender false o live =
     either_way name (inl same) = same_by past is_awaiting op name same (ap is_awaiting o)
     either_way name (inr was) = live.closeds name was
 
-poll-live : {T : Type 0} (past : Past T) (op : ℕ) (operation : Option (Operation T)) (closed no_receiver full : Bool)
+pub poll-live : {T : Type 0} (past : Past T) (op : ℕ) (operation : Option (Operation T)) (closed no_receiver full : Bool)
     (oldest : Option T) → operation_of past op ≡ operation
     → OwnMoveIsLive past (Poll op) (poll_reply operation closed no_receiver full oldest)
 unfolding OwnMoveIsLive
@@ -298,7 +194,7 @@ poll-live past op (Some (awaiting_close sender)) closed no_receiver full oldest 
 poll-live past op None closed no_receiver full oldest o live =
     record { sends = live.sends; receives = live.receives; closeds = live.closeds; streams = live.streams }
 
-poll_next-live : {T : Type 0} (past : Past T) (receiver : ℕ) (oldest : Option T) (closed : Bool)
+pub poll_next-live : {T : Type 0} (past : Past T) (receiver : ℕ) (oldest : Option T) (closed : Bool)
     → is_among receiver (live_receivers past) ≡ true
     → OwnMoveIsLive past (PollNext receiver) (poll_next_reply oldest closed)
 unfolding OwnMoveIsLive
@@ -329,7 +225,7 @@ poll_next-live past receiver None false known live =
     either_way name (inl same) = rw (← eqb-true receiver name same) known
     either_way name (inr was) = live.streams name was
 
-drop_op-live : {T : Type 0} (past : Past T) (op : ℕ) → OwnMoveIsLive past (DropOp op) Done
+pub drop_op-live : {T : Type 0} (past : Past T) (op : ℕ) → OwnMoveIsLive past (DropOp op) Done
 unfolding OwnMoveIsLive
 drop_op-live {T} past op live =
     record {
@@ -348,7 +244,7 @@ drop_op-live {T} past op live =
       streams = live.streams;
     }
 
-drop_receiver-live : {T : Type 0} (past : Past T) (receiver : ℕ) → OwnMoveIsLive past (DropReceiver receiver) Done
+pub drop_receiver-live : {T : Type 0} (past : Past T) (receiver : ℕ) → OwnMoveIsLive past (DropReceiver receiver) Done
 unfolding OwnMoveIsLive
 drop_receiver-live past receiver live =
     record {
@@ -360,7 +256,7 @@ drop_receiver-live past receiver live =
           is_among-without_other receiver name (live_receivers past) stayed.apart (live.streams name stayed.before);
     }
 
-upgrade_receiver-live : {T : Type 0} (past : Past T) (of new : ℕ) (granted : Bool)
+pub upgrade_receiver-live : {T : Type 0} (past : Past T) (of new : ℕ) (granted : Bool)
     → OwnMoveIsLive past (UpgradeReceiver of new) (Upgraded granted)
 unfolding OwnMoveIsLive
 upgrade_receiver-live past of new true live =
@@ -373,7 +269,7 @@ upgrade_receiver-live past of new true live =
 upgrade_receiver-live past of new false live =
     record { sends = live.sends; receives = live.receives; closeds = live.closeds; streams = live.streams }
 
-due-live : {T : Type 0} (kind : Kind) (past : Past T) (step : Step T) → IsAllowed step (refusal_of kind past step)
+pub due-live : {T : Type 0} (kind : Kind) (past : Past T) (step : Step T) → IsAllowed step (refusal_of kind past step)
     → OwnMoveIsLive past step (due_reply kind past step)
 unfolding OwnMoveIsLive
 due-live kind past (Poll op) may live = poll-live past op (operation_of past op) (is_closed past) (has_no_receiver past)

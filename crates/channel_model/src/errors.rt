@@ -1,7 +1,7 @@
 //! What a call answers where it doesn't do what was asked.
 //!
-//! Nothing has changed behind any of these, and a message that was handed in comes back. No text and no
-//! `Debug` asks anything of the message's type.
+//! Nothing has changed after any of these, and a message that was handed in comes back. No text and
+//! no `Debug` asks anything of the message's type.
 ghost use Rattle.std.specs.Prelude.{◌≡◌, Some, codes};
 ghost use Rattle.channel_model.specs.Errors.{message_of, was_full, was_closed, try_send_text, try_send_debug, was_empty, was_ended, try_recv_text, try_recv_debug, make_text, make_debug, clone_text, clone_debug};
 
@@ -9,10 +9,28 @@ use std::error::Error;
 use std::fmt;
 
 /// The channel is closed. The message comes back.
+///
+/// # Examples
+///
+/// ```
+/// let error = SendError(7);
+/// let text = format!(in rt.alloc(); "{error}")?;
+/// assert_eq!(rt; text.as_str(), "sending into a closed channel");
+/// assert_eq!(rt; error.into_inner(), 7);
+/// ```
 #[derive(Clone, Copy, Drop, PartialEq, Eq)]
 pub struct SendError<T>(pub T);
 
 /// The message can't be sent now. It comes back.
+///
+/// # Examples
+///
+/// ```
+/// let error = TrySendError::Full(7);
+/// assert!(rt; error.is_full());
+/// assert!(rt; !error.is_closed());
+/// assert_eq!(rt; error.into_inner(), 7);
+/// ```
 #[derive(Clone, Copy, Drop, PartialEq, Eq)]
 pub enum TrySendError<T> {
     /// The channel is full, and open.
@@ -22,10 +40,24 @@ pub enum TrySendError<T> {
 }
 
 /// The channel is empty and closed, so that no message will come.
+///
+/// # Examples
+///
+/// ```
+/// let text = format!(in rt.alloc(); "{RecvError}")?;
+/// assert_eq!(rt; text.as_str(), "receiving from an empty and closed channel");
+/// ```
 #[derive(Clone, Copy, PartialEq, Eq)]
 pub struct RecvError;
 
 /// No message can be received now.
+///
+/// # Examples
+///
+/// ```
+/// assert!(rt; TryRecvError::Empty.is_empty());
+/// assert!(rt; TryRecvError::Closed.is_closed());
+/// ```
 #[derive(Clone, Copy, PartialEq, Eq)]
 pub enum TryRecvError {
     /// The channel is empty, and open.
@@ -35,14 +67,36 @@ pub enum TryRecvError {
 }
 
 /// Memory was refused.
+///
+/// # Examples
+///
+/// ```
+/// let text = format!(in rt.alloc(); "{OutOfMemory}")?;
+/// assert_eq!(rt; text.as_str(), "out of memory");
+/// ```
 #[derive(Clone, Copy, PartialEq, Eq)]
 pub struct OutOfMemory;
 
 /// Memory was refused. The message comes back.
+///
+/// # Examples
+///
+/// ```
+/// let NoMemory(message) = NoMemory(7);
+/// assert_eq!(rt; message, 7);
+/// ```
 #[derive(Clone, Copy, Drop, PartialEq, Eq)]
 pub struct NoMemory<T>(pub T);
 
 /// A channel was not made.
+///
+/// # Examples
+///
+/// ```
+/// let error = MakeError::NoStamps;
+/// let text = format!(in rt.alloc(); "{error}")?;
+/// assert_eq!(rt; text.as_str(), "no stamp is left");
+/// ```
 #[derive(Clone, Copy, PartialEq, Eq)]
 pub enum MakeError {
     /// Memory was refused.
@@ -52,6 +106,14 @@ pub enum MakeError {
 }
 
 /// A handle was not copied or upgraded.
+///
+/// # Examples
+///
+/// ```
+/// let error = CloneError::TooMany;
+/// let text = format!(in rt.alloc(); "{error}")?;
+/// assert_eq!(rt; text.as_str(), "too many handles");
+/// ```
 #[derive(Clone, Copy, PartialEq, Eq)]
 pub enum CloneError {
     /// There are more handles of its kind than half of what a `usize` can count.

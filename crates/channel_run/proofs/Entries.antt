@@ -1,9 +1,10 @@
 -- The entries of a map by name, against the model's names and operations.
-use Rattle.std.proofs.Common.{◌≡◌, ℕ, List, [], ◌∷◌, Bool, true, false, ◌||◌, ◌==◌, cond, Some, None, Option, refl, sym, ◌∙◌, ap, map, ltb, eqb, arith}
+use Rattle.std.proofs.Common.{◌≡◌, ℕ, List, [], ◌∷◌, Bool, true, false, not, ◌||◌, ◌==◌, cond, Some, None, Option, refl, sym, ◌∙◌, ap, map, ltb, eqb, arith}
 use Rattle.std.specs.Prelude.{is_some, option_map}
 use Rattle.std.specs.List.{AllByRecursion, list_any}
 use Rattle.std.specs.List.Sorted.{IsStrictlySortedBy}
-use Rattle.std.specs.Map.{keys_of}
+use Rattle.std.specs.Map.{keys_of, remove_entry}
+use Rattle.std.specs.BTreeMap.{is_at}
 use Rattle.std.specs.Ordering.{nat_cmp, is_eq}
 use Rattle.std.specs.declared.cmp.Ordering.TheVariants.{Less, Equal, Greater}
 use Rattle.std.proofs.lemmas.Bool.{eqb-true, eq-eqb}
@@ -11,7 +12,8 @@ use Rattle.event_list.specs.Keys.{AreDifferent, is_among}
 use Rattle.channel_run.specs.declared.operations.Operation.{Operation as Started}
 use Rattle.channel_model.specs.Operations.{Operation, operation_in}
 use Rattle.channel_run.specs.RunShown.{entry_at, operation_shown}
-use Rattle.channel_model.proofs.NameLists.{both_false}
+use Rattle.channel_model.specs.Handles.{without}
+use Rattle.channel_model.proofs.NameLists.{both_false, without-absent}
 use Rattle.channel_model.proofs.LookUps.{look_up-cons}
 
 -- one comparison, two spellings
@@ -86,3 +88,21 @@ AreDifferent-sorted (key ∷ keys) sorted = (absent keys sorted.0, AreDifferent-
     absent [] all = refl
     absent (other ∷ others) all = both_false (other == key) (is_among key others)
         (sym (is_eq-nat_cmp key other) ∙ ap is_eq all.0) (absent others all.1)
+
+-- an entry that is taken out leaves the other names
+pub keys_of-removed : {X : Type 0} (name : ℕ) (entries : List (ℕ × X)) → AreDifferent (keys_of entries)
+    → keys_of (remove_entry (is_at (nat_cmp name)) entries) ≡ without name (keys_of entries)
+keys_of-removed name [] once = refl
+keys_of-removed {X} name (entry ∷ entries) once =
+    go (entry.0 == name) (is_eq (nat_cmp name entry.0)) refl (is_eq-nat_cmp name entry.0)
+    (keys_of-removed name entries once.1)
+  where
+    go : (here at : Bool) → (entry.0 == name) ≡ here → at ≡ here
+        → keys_of (remove_entry (is_at (nat_cmp name)) entries) ≡ without name (keys_of entries)
+        → keys_of (cond at entries (entry ∷ remove_entry (is_at (nat_cmp name)) entries))
+        ≡ cond (not here) (entry.0 ∷ without name (keys_of entries)) (without name (keys_of entries))
+    go true true e f rest = sym (without-absent name (keys_of entries)
+        (ap (λ n. is_among n (keys_of entries)) (sym (eqb-true entry.0 name e)) ∙ once.0))
+    go false false e f rest = ap (λ names. entry.0 ∷ names) rest
+    go true false e f rest = cc
+    go false true e f rest = cc

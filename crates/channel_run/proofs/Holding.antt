@@ -14,7 +14,7 @@ use Rattle.channel_model.specs.Rosters.{Roster, arrive, hand_on, is_told, leave,
 use Rattle.channel_core.specs.Tickets.{Waits, handed_on, left, waits}
 use Rattle.channel_run.specs.RunShown.{AreHeld, has_key, name_of, roster_of}
 use Rattle.channel_model.proofs.NameLists.{AreDifferent-without, is_among-without_same, length-without}
-use Rattle.channel_model.proofs.WhoWaits.{is_among-without_other}
+use Rattle.channel_model.proofs.AllowedSteps.{is_among-without_other}
 use Rattle.channel_run.proofs.KeyedRosters.{AreKeyed, IsKeyed, is_among-no_key, is_told-keyed, leave-keyed, wait-keyed, tell_one-keyed, tell_all-keyed, AreKeyed-other, arrive-keyed}
 use Rattle.channel_run.proofs.GivingUp.{leave-absent, hand_on-absent, wait-when_absent}
 

@@ -14,6 +14,7 @@ pub mod KeyedRosters
 pub mod Entries
 pub mod Holding
 pub mod RunChanges
+pub mod Borrowing
 pub mod RunTables
 pub mod RunPolls
 pub mod RunStreams

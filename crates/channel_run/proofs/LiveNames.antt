@@ -14,8 +14,8 @@ use Rattle.channel_model.specs.Legal.{IsLegal}
 use Rattle.channel_model.proofs.NameLists.{AreDifferent-without}
 use Rattle.channel_model.proofs.LookUps.{look_up, look_up-cons}
 use Rattle.channel_model.specs.View.{view_of}
-use Rattle.channel_model.proofs.WhoWaits.{allowed}
-use Rattle.channel_model.proofs.CoveredSteps.{IsCovered-IsLegal}
+use Rattle.channel_model.proofs.AllowedSteps.{allowed}
+use Rattle.channel_model.proofs.CoveredPasts.{IsCovered-IsLegal}
 
 -- each sender's name stands once
 pub live_senders-AreDifferent : {T : Type 0} (kind : Kind) (past : Past T) → IsLegal kind past

@@ -24,7 +24,7 @@ use Rattle.channel_run.specs.StandsFor.{StandsFor}
 use Rattle.channel_run.specs.RunSteps.{notice_of_operation, notice_shown}
 use Rattle.channel_model.proofs.NameLists.{is_among-take, length-without}
 use Rattle.channel_model.proofs.LookUps.{look_up}
-use Rattle.channel_model.proofs.CoveredSteps.{IsCovered-IsLegal}
+use Rattle.channel_model.proofs.CoveredPasts.{IsCovered-IsLegal}
 use Rattle.channel_model.proofs.WhoWaits.{AreLive-IsLegal}
 use Rattle.channel_run.proofs.AlikeViews.{standing_in-AreAlike}
 use Rattle.channel_run.proofs.LiveNames.{live_senders-AreDifferent, live_receivers-AreDifferent, some_sender, some_receiver, is_some-look_up, names_of-without_operation}

@@ -11,7 +11,7 @@ use Rattle.channel_core.specs.Channel.{new_channel}
 use Rattle.channel_model.specs.Rosters as rosters
 use Rattle.channel_run.specs.StandsFor.{StandsFor}
 use Rattle.channel_run.specs.RunShown.{AreHeld, Changed, IsWhole, roster_of, rosters_shown, shown, stream_ticket, ticket_at, recv_ticket, closed_ticket}
-use Rattle.channel_model.specs.View.{view_of}
+use Rattle.channel_model.specs.View.{AreSameNames, view_of}
 use Rattle.channel_run.proofs.RunTables.{names-inserted}
 use Rattle.channel_run.proofs.SameNames.{AreSameNames-refl}
 use Rattle.channel_run.proofs.SameOperations.{AreSameOperations-refl}
@@ -32,7 +32,7 @@ no_roster : (W : Type 0) (ticket_of : ℕ → Option ℕ) (names : List ℕ)
 unfolding roster_of
 no_roster W ticket_of names = refl
 
-module _ (T W : Type 0) (kind : Kind) (receivers : List (ℕ × Option ℕ)) (change : Changed 0 [] receivers (Some None)) (one : length receivers ≡ 1) where
+module _ (T W : Type 0) (kind : Kind) (senders : List ℕ) (same : AreSameNames senders (0 ∷ [])) (receivers : List (ℕ × Option ℕ)) (change : Changed 0 [] receivers (Some None)) (one : length receivers ≡ 1) where
   no_ticket : (name : ℕ) → ticket_at stream_ticket receivers name ≡ None
   no_ticket name = go (0 == name) refl
     where
@@ -41,9 +41,9 @@ module _ (T W : Type 0) (kind : Kind) (receivers : List (ℕ × Option ℕ)) (ch
           ∙ ap (λ (found : Option (Option ℕ)). option_and_then stream_ticket found) change.here
       go false e = ap (λ (found : Option (Option ℕ)). option_and_then stream_ticket found) (change.elsewhere name e)
 
-  pub whole-new : (capacity : Option ℕ) → IsWhole {T = T} {W = W} (new_channel capacity) (0 ∷ []) receivers []
+  pub whole-new : (capacity : Option ℕ) → IsWhole {T = T} {W = W} (new_channel capacity) senders receivers []
   whole-new capacity = record {
-    count_senders = refl;
+    count_senders = sym same.count;
     count_receivers = sym one;
     each_send = nothing_held _ _ (λ name. refl);
     each_receive = nothing_held _ _ (λ name. refl);
@@ -52,14 +52,14 @@ module _ (T W : Type 0) (kind : Kind) (receivers : List (ℕ × Option ℕ)) (ch
   }
 
   pub stands-new : HasPositiveCapacity kind
-      → StandsFor {T = T} kind [] (shown {T = T} {W = W} (new_channel (capacity_of kind)) (0 ∷ []) receivers [] [] [])
+      → StandsFor {T = T} kind [] (shown {T = T} {W = W} (new_channel (capacity_of kind)) senders receivers [] [] [])
   stands-new positive = StandsFor-AreAlike kind [] (view_of kind [])
-      (shown {T = T} {W = W} (new_channel (capacity_of kind)) (0 ∷ []) receivers [] [] [])
+      (shown {T = T} {W = W} (new_channel (capacity_of kind)) senders receivers [] [] [])
       (StandsFor-new T kind positive) (record {
         capacity = refl;
         messages = refl;
         closed = refl;
-        senders = AreSameNames-refl (0 ∷ []);
+        senders = same;
         receivers = names-inserted 0 [] receivers None change one;
         weak_senders = AreSameNames-refl [];
         weak_receivers = AreSameNames-refl [];

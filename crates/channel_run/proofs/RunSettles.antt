@@ -14,7 +14,8 @@ use Rattle.channel_model.specs.View.{View}
 use Rattle.channel_run.specs.StandsFor.{StandsFor}
 use Rattle.channel_run.specs.RunSteps.{after_step}
 use Rattle.channel_model.proofs.Measure.{measure}
-use Rattle.channel_model.proofs.AnyOrder.{PollsTold, polls_told, measure-falls, told-allowed, first-Contains, IsFreePolling-IsSettling, EndsWell-IsFreePolling}
+use Rattle.channel_model.proofs.MeasureFalls.{PollsTold, polls_told, measure-falls}
+use Rattle.channel_model.proofs.AnyOrder.{told-allowed, first-Contains, IsFreePolling-IsSettling, EndsWell-IsFreePolling}
 use Rattle.channel_run.proofs.AlikeViews.{reply_in-StandsFor}
 use Rattle.channel_run.proofs.Stepping.{StandsFor-step}
 

@@ -17,7 +17,7 @@ use Rattle.channel_core.specs.Tickets.{handed_on, left}
 use Rattle.channel_model.specs.Closing.{has_none}
 use Rattle.event_list.specs.Waiting.{told_all}
 use Rattle.channel_model.specs.declared.step.Step.TheVariants.{DropOp, DropReceiver}
-use Rattle.channel_run.proofs.SameNames.{has_none-length, has_none-same}
+use Rattle.channel_run.proofs.SameNames.{AreSameNames-pushed, AreSameNames-trans, has_none-length, has_none-same}
 use Rattle.channel_run.proofs.MadeSteps.{closed_told, ended_told, own_left, made-drop_last_receiver, made-drop_last_receiver_closed, made-drop_op, made-drop_receiver}
 use Rattle.channel_model.specs.Handles.{without}
 use Rattle.channel_model.specs.Operations.{Operation, finished, names_of, operation_in, with_finished, without_operation}
@@ -107,6 +107,14 @@ names-inserted name entries entries' value change more =
     go other true e = ap (λ n. is_among n (keys_of entries')) (sym (eqb-true name other e))
         ∙ names-here name entries entries' (Some value) change
     go other false e = names-elsewhere name entries entries' (Some value) change other e
+
+-- a new name stands first among the same ones
+pub names-added : {X : Type 0} (name : ℕ) (entries entries' : List (ℕ × X)) (value : X)
+    → Changed name entries entries' (Some value) → length entries' ≡ length entries + 1
+    → AreSameNames (keys_of entries') (name ∷ keys_of entries)
+names-added name entries entries' value change more =
+    AreSameNames-trans (keys_of entries') (keys_of entries ++ name ∷ []) (name ∷ keys_of entries)
+    (names-inserted name entries entries' value change more) (AreSameNames-pushed (keys_of entries) name)
 
 pub names-removed : {X : Type 0} (name : ℕ) (entries entries' : List (ℕ × X)) → AreDifferent (keys_of entries)
     → is_among name (keys_of entries) ≡ true → Changed name entries entries' None → length entries' + 1 ≡ length entries

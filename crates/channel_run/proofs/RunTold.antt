@@ -35,7 +35,8 @@ use Rattle.channel_model.specs.Memory.{may_want_memory_in}
 use Rattle.channel_model.specs.Refusals.{refusal_in}
 use Rattle.channel_run.specs.RunShown.{AreHeld, IsWhole, closed_ticket, entry_at, operation_shown, recv_ticket, roster_of, rosters_shown, send_ticket, shown, stream_ticket, ticket_at}
 use Rattle.channel_run.specs.RunSteps.{IsMade, IsRefused, PollsTo, StepsAsAllowed, StepsTo, is_ready, poll_of, rosters_after}
-use Rattle.channel_model.proofs.AnyOrder.{PollsTold, a_closed, a_receive, a_send, a_stream, first-Contains, leave-told, polls_told, told_among, waiting-accepting, waiting-receiving}
+use Rattle.channel_model.proofs.MeasureFalls.{PollsTold, a_closed, a_receive, a_send, a_stream, leave-told, polls_told, told_among, waiting-accepting, waiting-receiving}
+use Rattle.channel_model.proofs.AnyOrder.{first-Contains}
 use Rattle.channel_run.proofs.Entries.{operation_in-entry_at}
 use Rattle.channel_run.proofs.Holding.{holds-refl, key_roster, keyed}
 use Rattle.channel_run.proofs.KeyedRosters.{AreKeyed, IsKeyed, is_among-keyed, is_among-no_key}

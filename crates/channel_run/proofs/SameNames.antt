@@ -8,7 +8,7 @@ use Rattle.channel_model.specs.Handles.{without}
 use Rattle.channel_model.specs.Closing.{has_none}
 use Rattle.channel_model.specs.View.{AreSameNames}
 use Rattle.channel_model.proofs.NameLists.{is_among-without_same, without-absent, is_among-without, AreDifferent-without, length-without}
-use Rattle.channel_model.proofs.WhoWaits.{is_among-without_other}
+use Rattle.channel_model.proofs.AllowedSteps.{is_among-without_other}
 
 -- ---- who is among the rest
 

@@ -31,8 +31,9 @@ use Rattle.channel_model.specs.View.{View, view_of}
 use Rattle.channel_run.specs.Runs.{SettlesTo}
 use Rattle.channel_run.specs.StandsFor.{StandsFor}
 use Rattle.channel_run.specs.RunSteps.{IsMade, IsRefused, PollsTo, StepsAsAllowed, StepsTo, after_step, is_ready, poll_of}
-use Rattle.channel_model.proofs.AnyOrder.{EndsWell-IsFreePolling, IsFreePolling-IsSettling, PollsTold, a_closed, a_receive, a_send, a_stream, first-Contains, known_if, polls_told, told-allowed, told_among}
-use Rattle.channel_model.proofs.CoveredSteps.{IsCovered-IsLegal}
+use Rattle.channel_model.proofs.AnyOrder.{EndsWell-IsFreePolling, IsFreePolling-IsSettling, first-Contains, known_if, told-allowed}
+use Rattle.channel_model.proofs.MeasureFalls.{PollsTold, a_closed, a_receive, a_send, a_stream, polls_told, told_among}
+use Rattle.channel_model.proofs.CoveredPasts.{IsCovered-IsLegal}
 use Rattle.channel_run.proofs.AlikeViews.{may_want_memory_in-StandsFor, refusal_in-StandsFor, reply_in-StandsFor}
 use Rattle.channel_run.proofs.RunSettles.{PollsOn, polls_on, Settles-IsQuiet}
 use Rattle.channel_run.proofs.WholeSteps.{StandsFor-AreAlike}

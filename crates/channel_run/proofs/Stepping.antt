@@ -25,9 +25,9 @@ use Rattle.channel_run.specs.StandsFor.{StandsFor}
 use Rattle.channel_run.specs.RunSteps.{after_step, closed_after, closing_in, messages_after, rosters_after, without_first}
 use Rattle.channel_model.proofs.Conserved.{count_of}
 use Rattle.channel_model.proofs.HeldMessages.{held_messages-after}
-use Rattle.channel_model.proofs.CoveredSteps.{IsCovered-IsLegal}
+use Rattle.channel_model.proofs.CoveredPasts.{IsCovered-IsLegal}
 use Rattle.channel_model.proofs.Unchanged.{is_closed-kept, after_closing-kept, after_last_receiver-kept}
-use Rattle.channel_model.proofs.WhoWaits.{Allowed, allowed, known_if_borrowed}
+use Rattle.channel_model.proofs.AllowedSteps.{Allowed, allowed, known_if_borrowed}
 use Rattle.channel_run.proofs.LiveNames.{live_senders-AreDifferent, live_receivers-AreDifferent, live_weak_senders-AreDifferent, live_weak_receivers-AreDifferent, live_operations-AreDifferent}
 use Rattle.channel_run.proofs.SameNames.{AreSameNames-first, AreSameNames-without, has_none-same}
 use Rattle.channel_run.proofs.SameOperations.{AreSameOperations-first, AreSameOperations-finished, AreSameOperations-without}

@@ -1,5 +1,5 @@
 -- What a run shows of itself, by what it keeps: a channel whose waiting lists hold keys, and tickets by name.
-use Rattle.std.specs.Prelude.{◌≡◌, ◌≢◌, ℕ, ◌==◌, List, MatchOption, map, find, length, Option, Some, None, Bool, false, true, option_and_then, unwrap_or}
+use Rattle.std.specs.Prelude.{◌≡◌, ◌≢◌, ℕ, ◌==◌, List, MatchOption, if◌then◌else◌, filter, map, find, length, Option, Some, None, Bool, false, true, option_and_then, unwrap_or}
 use Rattle.std.specs.Map.{lookup, keys_of}
 use Rattle.std.specs.BTreeMap.{is_at}
 use Rattle.std.specs.Ordering.{nat_cmp}
@@ -12,7 +12,7 @@ use Rattle.channel_core.specs.declared.state.Group.TheVariants.{Sends, Receives,
 use Rattle.channel_model.specs.declared.step.Notice.{Notice}
 use Rattle.channel_model.specs.declared.step.Notice.TheVariants.{Absent, Told, Untold}
 use Rattle.channel_core.specs.Channel.{Channel}
-use Rattle.channel_model.specs.Operations.{Operation, awaiting_close, receiving, sending}
+use Rattle.channel_model.specs.Operations.{Operation, awaiting_close, borrows_receiver, borrows_sender, receiving, sending}
 use Rattle.channel_core.specs.Tickets.{handed_on, left}
 use Rattle.channel_model.specs.Rosters.{Roster, Rosters}
 use Rattle.channel_model.specs.View.{View}
@@ -87,6 +87,19 @@ pub record Changed {X : Type 0} (name : ℕ) (entries entries' : List (ℕ × X)
   pub here : entry_at entries' name ≡ now
   pub elsewhere : (other : ℕ) → (name == other) ≡ false → entry_at entries' other ≡ entry_at entries other
 
+-- the number under a name, 0 where none stands there
+abbrev pub number_at : List (ℕ × ℕ) → ℕ → ℕ
+number_at numbers name = unwrap_or (entry_at numbers name) 0
+
+-- one where it is so, and none where it isn't
+abbrev pub one_if : Bool → ℕ
+one_if b = if b then 1 else 0
+
+-- Under this name stands the number now, and under every other name what stood there.
+abbrev pub IsSetAt : (name number : ℕ) → (numbers numbers' : List (ℕ × ℕ)) → Type 0
+IsSetAt name number numbers numbers' =
+    (other : ℕ) → number_at numbers' other ≡ (if name == other then number else number_at numbers other)
+
 -- the ticket under a name, in the group that is read
 abbrev pub ticket_at : {X : Type 0} → (X → Option ℕ) → List (ℕ × X) → ℕ → Option ℕ
 ticket_at ticket entries name = option_and_then ticket (entry_at entries name)
@@ -107,6 +120,16 @@ dropped core found = record core {
   receives = handed_on (option_and_then recv_ticket found) core.receives;
   closeds = left (option_and_then closed_ticket found) core.closeds;
 }
+
+module _ {T : Type 0} where
+  -- how many of these operations pass a test
+  abbrev pub count_of : (Operation T → Bool) → List (ℕ × Started T) → ℕ
+  count_of test operations = length (filter (λ entry. test (operation_shown entry.1)) operations)
+
+  -- Under the name of each handle stands how many of these operations borrow it.
+  pub record AreCounted (by_sender by_receiver : List (ℕ × ℕ)) (operations : List (ℕ × Started T)) : Type 0 where
+    pub each_sender : (name : ℕ) → number_at by_sender name ≡ count_of (borrows_sender name) operations
+    pub each_receiver : (name : ℕ) → number_at by_receiver name ≡ count_of (borrows_receiver name) operations
 
 -- whether the entry of a ticket waits, and was told
 abbrev pub notice_by_mark : Option Bool → Notice

@@ -8,6 +8,7 @@ mod names;
 mod operations;
 mod run;
 mod settle;
+mod tally;
 mod tickets;
 
 pub use channel_model::{

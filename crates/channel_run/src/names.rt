@@ -1,8 +1,9 @@
 //! Names of one space that are live, and what stands under them.
-ghost use Rattle.std.specs.Prelude.{◌≡◌, ◌++◌, ◌∷◌, [], length, false, true, suc, None, Some, is_some, ◌+◌, OnOk, OnErr, IfErr, IfNone};
+ghost use Rattle.std.specs.Prelude.{◌≡◌, ◌∷◌, [], length, false, true, suc, None, Some, is_some, ◌+◌, OnOk, OnErr, IfErr, IfNone};
 ghost use Rattle.std.specs.Map.{keys_of};
 ghost use Rattle.event_list.specs.Keys.{AreDifferent, is_among};
 ghost use Rattle.channel_model.specs.Handles.{without};
+ghost use Rattle.channel_model.specs.View.{AreSameNames};
 ghost use Rattle.channel_run.specs.RunShown.{entry_at, Changed};
 
 use channel_model::OutOfMemory;
@@ -10,21 +11,23 @@ use std::alloc::Global;
 use std::collections::BTreeMap;
 use std::marker::Model;
 
-/// Live names, each once, in the order in which they were made.
+/// Live names, each once, in ascending order. Each is found in the time of a map's look-up.
 #[derive(Drop)]
 pub(crate) struct Names {
-    names: Vec<u64>,
+    // a name is a key, with nothing under it
+    names: BTreeMap<u64, ()>,
 }
 
 impl Model for Names {
     ghost use Rattle.std.specs.Prelude.{ℕ, List};
+    ghost use Rattle.std.specs.Map.{keys_of};
     ghost use Rattle.event_list.specs.Keys.{AreDifferent};
 
     ghost Value = { List ℕ };
 
-    ghost view = { λ all. all.names.items };
+    ghost view = { λ all. keys_of all.names.entries };
 
-    ghost invariant = { λ all. AreDifferent all.names.items };
+    ghost invariant = { λ all. AreDifferent (keys_of all.names.entries) };
 }
 
 impl Names {
@@ -33,7 +36,7 @@ impl Names {
         ensures { result ≡ [] }
     {
         Names {
-            names: Vec::new(alloc),
+            names: BTreeMap::new(alloc),
         }
     }
 
@@ -49,18 +52,18 @@ impl Names {
     pub(crate) fn has(&self, name: u64) -> bool
         ensures { result ≡ is_among name self.now }
     {
-        self.names.contains(&name)
+        self.names.contains_key(&name)
     }
 
     /// Makes a name that isn't live.
     pub(crate) fn add(&mut self, name: u64) -> Result<(), OutOfMemory>
         requires { is_among name self.old ≡ false }
-        ensures added { OnOk result (self.new ≡ self.old ++ name ∷ []) }
+        ensures added { OnOk result (AreSameNames self.new (name ∷ self.old)) }
         ensures unchanged { OnErr result (self.new ≡ self.old) }
     {
-        match self.names.push(name) {
+        match put(&mut self.names, name, ()) {
             Ok(()) => Ok(()),
-            Err(_) => Err(OutOfMemory),
+            Err(()) => Err(OutOfMemory),
         }
     }
 
@@ -69,7 +72,7 @@ impl Names {
         ensures left { self.new ≡ without name self.old }
         ensures fewer { is_among name self.old ≡ true → length self.old ≡ suc (length self.new) }
     {
-        self.names.retain(|other| *other != name);
+        self.names.remove(&name);
     }
 }
 
@@ -81,6 +84,7 @@ pub(crate) fn put<V: Drop>(entries: &mut BTreeMap<u64, V>, name: u64, value: V) 
     ensures more { OnOk result (length entries.new.entries ≡ length entries.old.entries + 1) }
     ensures handed_back { IfErr result (λ back. back ≡ value) }
     ensures unchanged { OnErr result (entries.new.entries ≡ entries.old.entries) }
+    ensures different { AreDifferent (keys_of entries.new.entries) }
 {
     match entries.insert(name, value) {
         Ok(_) => Ok(()),

@@ -1,10 +1,20 @@
 //! A channel with named handles and operations, and lists of steps by any parties.
 //!
-//! [`Run::step`] finds the method of its step. Those methods stand by topic in the modules below:
-//! `messages`, `questions`, `handles` and `operations`; `told` has what settling needs. Each method
-//! first refuses what it must: a name that isn't live, one that is taken, a handle that is
-//! borrowed, a handle too many. Then it makes the step on the core, and in the names and
-//! operations.
+//! A run is a core, and beside it what the core doesn't know: which names are live, which operation
+//! borrows which handle, and by which ticket it waits. [`Run::step`] finds the method of its step.
+//! Those methods stand by topic in the modules below: `messages`, `questions`, `handles` and
+//! `operations`; `told` has what settling needs. Each goes like this:
+//!
+//! 1. It refuses what it must, and the first that applies is the answer: a name that isn't live,
+//!    one that is taken, a handle that is borrowed, a handle too many. A message comes back.
+//! 2. It takes room for a name that it makes. Where memory is refused the core hasn't been touched,
+//!    so that nothing has to be undone.
+//! 3. It makes the step on the core. Nobody sleeps here, so its bell does nothing.
+//! 4. It writes down what became of the names, the operation and its ticket.
+//!
+//! Who waits is known to the core by a key, and to the run by a name; the ticket joins the two. To
+//! ask whether a name was told is to look its ticket up in the list of its kind. To find whom to
+//! poll next is to take the first told key of a list, and to look for the ticket that has it.
 ghost use Rattle.std.specs.Prelude.{◌≡◌, [], length, IfOk, IfErr};
 ghost use Rattle.event_list.specs.Keys.{is_among};
 ghost use Rattle.channel_model.specs.declared.step.Kind.{Kind};
@@ -26,7 +36,7 @@ mod questions;
 mod told;
 
 use crate::names::{Names, put};
-use crate::operations::Operation;
+use crate::operations::{Operation, Operations};
 use channel_core::{Core, Group};
 use channel_model::{Kind, Notice, OutOfMemory, Reply, Side, Step, Who};
 use event_list::Ticket;
@@ -39,6 +49,17 @@ use std::marker::Model;
 /// A step by any party is made whole, while nobody else makes one. So what a list of steps does to
 /// a run is what the parties' calls do to a channel, in any way in which they may follow one
 /// another.
+///
+/// # Examples
+///
+/// ```
+/// let mut run = Run::new(rt.alloc(), Kind::Unbounded)?;
+/// run.step(Step::StartRecv { op: 0, receiver: 0 });
+/// assert_eq!(rt; run.step(Step::Poll(0)), Reply::RecvPolled(Poll::Pending));
+/// assert_eq!(rt; run.step(Step::TrySend(0, 7)), Reply::TrySent(Ok(())));
+/// let reply = run.step(Step::Poll(0));
+/// assert_eq!(rt; reply, Reply::RecvPolled(Poll::Ready(Ok(7))));
+/// ```
 #[derive(Drop)]
 pub struct Run<T> {
     // where the memory of names and operations comes from
@@ -51,25 +72,37 @@ pub struct Run<T> {
     receivers: BTreeMap<u64, Option<Ticket>>,
     weak_senders: Names,
     weak_receivers: Names,
-    // the live operations by name, each with the ticket of its wait
-    operations: BTreeMap<u64, Operation<T>>,
+    // the live operations, and who is borrowed by them
+    operations: Operations<T>,
 }
 
 impl<T> Model for Run<T> {
     ghost use Rattle.channel_model.specs.View.{View};
-    ghost use Rattle.channel_run.specs.RunShown.{shown, IsWhole};
+    ghost use Rattle.channel_run.specs.RunShown.{shown, AreCounted, IsWhole};
 
     ghost Value = { View T };
 
     ghost view = { λ run. shown run.core run.senders run.receivers.entries run.weak_senders
-        run.weak_receivers run.operations.entries };
+        run.weak_receivers run.operations.by_name.entries };
 
     ghost invariant = { λ run. IsWhole run.core run.senders run.receivers.entries
-        run.operations.entries };
+        run.operations.by_name.entries
+        × AreCounted run.operations.by_sender run.operations.by_receiver
+        run.operations.by_name.entries };
 }
 
 impl<T: Drop> Run<T> {
     /// A run of a new channel.
+    ///
+    /// A bounded channel's capacity has to be positive. Where memory is refused there is no run.
+    ///
+    /// # Examples
+    ///
+    /// ```
+    /// let mut run: Run<u64> = Run::new(rt.alloc(), Kind::Bounded(1))?;
+    /// let senders = run.step(Step::SenderCount(Side::Receiver(0)));
+    /// assert_eq!(rt; senders, Reply::Count(1));
+    /// ```
     pub fn new(alloc: Global, kind: Kind) -> Result<Run<T>, OutOfMemory>
         requires { HasPositiveCapacity kind }
         ensures { IfOk result (λ run. StandsFor kind [] run) }
@@ -91,11 +124,22 @@ impl<T: Drop> Run<T> {
             receivers,
             weak_senders: Names::new(alloc),
             weak_receivers: Names::new(alloc),
-            operations: BTreeMap::new(alloc),
+            operations: Operations::new(alloc),
         })
     }
 
     /// Makes a step, or refuses it.
+    ///
+    /// A refused step changes nothing, and hands the message back that it brought.
+    ///
+    /// # Examples
+    ///
+    /// ```
+    /// let mut run = Run::new(rt.alloc(), Kind::Unbounded)?;
+    /// assert_eq!(rt; run.step(Step::TrySend(0, 7)), Reply::TrySent(Ok(())));
+    /// let reply = run.step(Step::TrySend(1, 8));
+    /// assert_eq!(rt; reply, Reply::Refused(Refusal::Unknown, Some(8)));
+    /// ```
     pub fn step(&mut self, step: Step<T>) -> Reply<T>
         ensures answer { (kind : Kind) (past : Past T) → StandsFor kind past self.old
             → IsAnswer kind past step result }
@@ -106,12 +150,21 @@ impl<T: Drop> Run<T> {
     }
 
     /// Whether somebody waits, and was told. Who has no live name doesn't wait.
+    ///
+    /// # Examples
+    ///
+    /// ```
+    /// let mut run: Run<u64> = Run::new(rt.alloc(), Kind::Unbounded)?;
+    /// run.step(Step::PollNext(0));
+    /// assert_eq!(rt; run.notice_of(Who::Receiver(0)), Notice::Untold);
+    /// assert_eq!(rt; run.notice_of(Who::Op(0)), Notice::Absent);
+    /// ```
     pub fn notice_of(&self, who: Who) -> Notice
         ensures { (kind : Kind) (past : Past T) → StandsFor kind past self.now
             → result ≡ notice_of past who }
     {
         match who {
-            Who::Op(op) => match self.operations.get(&op) {
+            Who::Op(op) => match self.operations.by_name.get(&op) {
                 Some(Operation::Send { ticket, .. }) => notice(&self.core, Group::Sends, ticket),
                 Some(Operation::Recv { ticket, .. }) => notice(&self.core, Group::Receives, ticket),
                 Some(Operation::Closed { ticket, .. }) => notice(
@@ -184,7 +237,7 @@ impl<T: Drop> Run<T> {
     fn has_operation(&self, op: u64) -> bool
         ensures { result ≡ is_operation self.now op }
     {
-        self.operations.contains_key(&op)
+        self.operations.by_name.contains_key(&op)
     }
 }
 
@@ -202,19 +255,48 @@ fn notice<T: Drop>(core: &Core<T, ()>, group: Group, ticket: &Option<Ticket>) ->
 }
 
 /// What a list of steps came to.
+///
+/// # Examples
+///
+/// ```
+/// let steps = vec![in rt.alloc(); Step::TrySend(0, 7)]?;
+/// let mut end = run_all(rt.alloc(), Kind::Unbounded, steps).map_err(|_| "no room")?;
+/// assert_eq!(rt; end.replies.as_slice(), [Reply::TrySent(Ok(()))].as_slice());
+/// assert_eq!(rt; end.run.step(Step::TryRecv(0)), Reply::Received(Ok(7)));
+/// ```
 #[derive(Drop)]
 pub struct End<T> {
     /// One reply a step, in order.
     pub replies: Vec<Reply<T>>,
-    /// The run behind the last step.
+    /// The run after the last step.
     pub run: Run<T>,
 }
 
 /// Memory was refused before the first step. The steps come back.
+///
+/// # Examples
+///
+/// ```
+/// let steps = vec![in rt.alloc(); Step::TrySend(0, 7)]?;
+/// let RunError(steps) = RunError(steps);
+/// assert_eq!(rt; steps.len(), 1);
+/// ```
 #[derive(Drop)]
 pub struct RunError<T>(pub Vec<Step<T>>);
 
 /// Makes the steps in turn, in a run of a new channel.
+///
+/// A bounded channel's capacity has to be positive. Room for the replies is taken first.
+///
+/// # Examples
+///
+/// ```
+/// let steps = vec![in rt.alloc(); Step::TrySend(0, 7), Step::TrySend(0, 8)]?;
+/// let end = run_all(rt.alloc(), Kind::Bounded(1), steps).map_err(|_| "no room")?;
+/// let full = Err(TrySendError::Full(8));
+/// let replies = [Reply::TrySent(Ok(())), Reply::TrySent(full)];
+/// assert_eq!(rt; end.replies.as_slice(), replies.as_slice());
+/// ```
 pub fn run_all<T: Drop>(
     alloc: Global,
     kind: Kind,

@@ -11,6 +11,15 @@ use crate::run::Run;
 use channel_model::{OutOfMemory, Reply, Who};
 
 /// What settling a run came to.
+///
+/// # Examples
+///
+/// ```
+/// let mut run: Run<u64> = Run::new(rt.alloc(), Kind::Unbounded)?;
+/// let settled = run.settle()?;
+/// assert_eq!(rt; settled.polls, 0);
+/// assert!(rt; settled.finished.is_empty());
+/// ```
 #[derive(Drop)]
 pub struct Settled<T> {
     /// How many polls were made.
@@ -29,6 +38,20 @@ impl<T: Drop> Run<T> {
     ///
     /// Memory is wanted before the first poll alone, for as many replies as there are waiting
     /// entries.
+    ///
+    /// # Examples
+    ///
+    /// ```
+    /// let mut run = Run::new(rt.alloc(), Kind::Unbounded)?;
+    /// run.step(Step::StartRecv { op: 0, receiver: 0 });
+    /// run.step(Step::Poll(0));
+    /// run.step(Step::TrySend(0, 7));
+    ///
+    /// let settled = run.settle()?;
+    /// let received = (Who::Op(0), Reply::RecvPolled(Poll::Ready(Ok(7))));
+    /// assert_eq!(rt; settled.polls, 1);
+    /// assert_eq!(rt; settled.finished.as_slice(), [received].as_slice());
+    /// ```
     pub fn settle(&mut self) -> Result<Settled<T>, OutOfMemory>
         ensures settled { IfOk result (λ settled. (kind : Kind) (past : Past T)
             → StandsFor kind past self.old
@@ -43,7 +66,7 @@ impl<T: Drop> Run<T> {
             let reply = self.poll_told(who);
             keep_ready(&mut finished, who, reply);
         }
-        // never reached: so many polls are more than the bound
+        // never reached: these would be more polls than the bound
         Ok(Settled {
             polls: u128::MAX,
             finished,

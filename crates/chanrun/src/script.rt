@@ -1,4 +1,17 @@
 //! A whole script: it is read to its end, and then its lines are done in order.
+//!
+//! 1. `read_script` reads block by block, up to one byte more than a script may have. So a read
+//!    that fails, and a script that is too long, are found before anything is written.
+//! 2. `answer` splits the first line off, and makes a run of the channel that it asks for.
+//! 3. `answer_lines` splits the others off one by one and numbers them. Of each, `answer_line`
+//!    finds the command or the fault, `answer_command` makes the step on the run and the text of
+//!    its reply, and `write_text` writes it before the next line is looked at.
+//! 4. The first fault ends the script, and so do a write that fails and memory that is refused.
+//!    What was written until then is the replies to the lines before, or a beginning of them.
+//!
+//! Of the lines that are done nothing is kept but the run. All that the proofs say of it is that
+//! the past of those lines stands for it, so that the text of each reply is the one that the past
+//! decides.
 ghost use Rattle.std.specs.Prelude.{◌≡◌, ℕ, ◌+◌, ◌<◌, ◌≤◌, ◌∷◌, [], ◌++◌, ◌⊎◌, List, Option, length, string_bytes, IfOk, IfErr, OnOk, IfSome, IsErrOf, true};
 ghost use Rattle.std.specs.Io.KnownBytes.{Consumes, IsAtEnd, Appends};
 ghost use Rattle.channel_model.specs.declared.step.Kind.{Kind};
@@ -80,8 +93,8 @@ impl fmt::Display for ScriptError {
 
 impl Error for ScriptError {}
 
-// Reads to the end, unless a read fails or the bytes are too many.
-fn read_script<R: Source>(alloc: Global, reader: &mut R) -> Result<Vec<u8>, ScriptError>
+/// Reads to the end, unless a read fails or the bytes are too many.
+pub fn read_script<R: Source>(alloc: Global, reader: &mut R) -> Result<Vec<u8>, ScriptError>
     ensures ok { IfOk result (λ input. HasRead (R.left reader.old) (R.left reader.new)
         (R.ended reader.new) input.items × (R.failures reader.new ≡ R.failures reader.old)) }
     ensures err { IfErr result (λ e. IsUnread e (R.left reader.old) (R.left reader.new)
@@ -102,8 +115,8 @@ fn read_script<R: Source>(alloc: Global, reader: &mut R) -> Result<Vec<u8>, Scri
     Err(ScriptError::TooLong)
 }
 
-// Writes all of a text, unless a write fails.
-pub(crate) fn write_text<W: Sink>(writer: &mut W, text: &[u8]) -> Result<(), ScriptError>
+/// Writes all of a text, unless a write fails.
+pub fn write_text<W: Sink>(writer: &mut W, text: &[u8]) -> Result<(), ScriptError>
     ensures ok { OnOk result (Appends (W.written writer.old) (W.written writer.new) text.now
         × (W.failures writer.new ≡ W.failures writer.old)) }
     ensures err { IfErr result (λ e. (e ≡ ScriptError.Write)
@@ -156,7 +169,7 @@ fn wants_memory(reply: &Reply<u64>) -> bool
     matches!(reply, Reply::Refused(Refusal::OutOfMemory, _))
 }
 
-// Does a command, behind any past that stands for the run. The text is what answers it.
+// Does a command, after any past that stands for the run. The text is what answers it.
 fn answer_command(
     alloc: Global,
     run: &mut Run<u64>,
@@ -183,7 +196,7 @@ fn answer_command(
     }
 }
 
-// Does one line behind the first one, and writes what answers it.
+// Does one line after the first one, and writes what answers it.
 fn answer_line<W: Sink>(
     alloc: Global,
     run: &mut Run<u64>,
@@ -215,7 +228,7 @@ fn answer_line<W: Sink>(
     write_text(writer, text.as_bytes())
 }
 
-// Does the lines behind the first one in order, up to the first faulty one.
+// Does the lines after the first one in order, up to the first faulty one.
 fn answer_lines<W: Sink>(
     alloc: Global,
     kind: Kind,

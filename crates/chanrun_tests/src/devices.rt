@@ -46,7 +46,7 @@ pub enum Refusing {
     TakesNone,
 }
 
-/// A writer that takes so many bytes and then no more.
+/// A writer that takes a number of bytes and then no more.
 #[derive(Drop)]
 pub struct Narrow {
     pub written: Vec<u8>,

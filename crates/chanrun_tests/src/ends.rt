@@ -6,7 +6,7 @@ use std::alloc::Global;
 use std::process::Abort;
 use std::test::Fail;
 
-/// Runs the program with a writer and an error device that take so many bytes.
+/// Runs the program with a writer and an error device that take a number of bytes each.
 fn ends<R: Source>(
     rt: &impl Abort,
     alloc: Global,

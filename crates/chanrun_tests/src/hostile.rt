@@ -17,8 +17,8 @@ fn at(line: u64, fault: Fault) -> Result<(), ScriptError> {
     Err(ScriptError::Fault { line, fault })
 }
 
-/// What is written for the script's first bytes, as many as this, and how they end. A line is done where all its
-/// bytes but its end are there.
+/// What is written for the script's first bytes, as many as this, and how they end. A line is done
+/// where all its bytes but its end are there.
 fn beginning(count: usize) -> (usize, Result<(), ScriptError>) {
     use Fault::*;
     match count {

@@ -1,7 +1,6 @@
 //! Four clerks on four threads record their calls; the history is then made again as a script. Each
 //! line of what the script gives is the text of the recorded outcome.
-use async_channel::StampMaker;
-use async_channel::record::{Call, Clerk, Outcome, Recorder};
+use channel_record::{Call, Clerk, Outcome, Recorder, StampMaker};
 use channel_run::Reply;
 use chanrun::device::FromStd;
 use chanrun::reply_text::ReplyText;

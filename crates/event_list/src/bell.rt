@@ -5,6 +5,25 @@ ghost use Rattle.std.specs.Prelude.{◌≡◌};
 ///
 /// Each bell says by `rings` how one ring may change it, so that a caller knows from a list's
 /// contracts which payloads it was rung with, in which order.
+///
+/// # Examples
+///
+/// ```
+/// #[derive(Drop)]
+/// struct Last(Option<u64>);
+///
+/// impl Bell<u64> for Last {
+///     ghost rings = { λ _ payload after. after.0 ≡ Some payload };
+///
+///     fn ring(&mut self, w: u64) {
+///         self.0 = Some(w);
+///     }
+/// }
+///
+/// let mut bell = Last(None);
+/// bell.ring(10);
+/// assert_eq!(rt; bell.0, Some(10));
+/// ```
 pub trait Bell<W> {
     /// How one ring with a payload may change the bell.
     ghost rings: { Self → W → Self → Type 0 };
@@ -15,6 +34,15 @@ pub trait Bell<W> {
 }
 
 /// A bell that does nothing, for a list whose waiters are looked after by its owner.
+///
+/// # Examples
+///
+/// ```
+/// let mut list = WaitList::new(rt.alloc());
+/// let ticket = list.listen(()).map_err(|_| "no room")?;
+/// assert!(rt; list.tell_one(&mut Quiet));
+/// assert_eq!(rt; list.is_told(&ticket), Some(true));
+/// ```
 #[derive(Drop)]
 pub struct Quiet;
 

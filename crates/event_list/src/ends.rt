@@ -10,11 +10,14 @@ use crate::entries::{Entries, Entry, Notice};
 use crate::list::steps::Lookups;
 use std::sync::ledger::Ledger;
 
-/// The keys of the first entry, of the last, and of the first untold one.
+/// The keys of the first entry, of the last, and of the first unnotified one.
 #[derive(Clone, Copy)]
 pub struct Ends {
+    /// The key of the entry that has waited longest.
     pub first: Option<usize>,
+    /// The key of the entry that came last.
     pub last: Option<usize>,
+    /// The key of the first entry that isn't told: all in front of it are, and none behind it is.
     pub cursor: Option<usize>,
 }
 
@@ -34,7 +37,7 @@ impl Ends {
         }
     }
 
-    /// The ends, once a new untold entry has come last.
+    /// The ends, once a new unnotified entry has come last.
     fn with(self, key: usize) -> Ends
         ensures { result ≡ ends_with self key }
     {
@@ -53,8 +56,10 @@ impl Ends {
         key: usize,
         lookups: &mut Lookups<L>,
     ) -> Option<bool>
-        ensures leaves { (list : Waiting W) → IsLinked entries.old self.old list → IsLinked entries.new self.new (without list key) }
-        ensures was_told { (list : Waiting W) → IsLinked entries.old self.old list → result ≡ mark list key }
+        ensures leaves { (list : Waiting W) → IsLinked entries.old self.old list
+            → IsLinked entries.new self.new (without list key) }
+        ensures was_told { (list : Waiting W) → IsLinked entries.old self.old list
+            → result ≡ mark list key }
         ensures absent { IfNone result (entries.new ≡ entries.old) }
         ensures held { OnSome result (slab_len entries.new + 1 ≡ slab_len entries.old) }
         ensures next { OnSome result (entries.new.vacant_key ≡ key) }
@@ -69,7 +74,7 @@ impl Ends {
         Some(entry.notice.is_told())
     }
 
-    /// Puts a new untold entry behind the last one. The answer is its key.
+    /// Puts a new unnotified entry behind the last one. The answer is its key.
     pub fn put_last<W: Drop, L: Ledger>(
         &mut self,
         entries: &mut Entries<W>,
@@ -78,8 +83,10 @@ impl Ends {
     ) -> usize
         requires { HasRoomFor entries.old 1 }
         ensures key { result ≡ entries.old.vacant_key }
-        ensures fresh { (list : Waiting W) → IsLinked entries.old self.old list → is_among result (keys list) ≡ false }
-        ensures joins { (list : Waiting W) → IsLinked entries.old self.old list → IsLinked entries.new self.new (joined list result payload) }
+        ensures fresh { (list : Waiting W) → IsLinked entries.old self.old list
+            → is_among result (keys list) ≡ false }
+        ensures joins { (list : Waiting W) → IsLinked entries.old self.old list
+            → IsLinked entries.new self.new (joined list result payload) }
         ensures held { slab_len entries.new ≡ slab_len entries.old + 1 }
         ensures fits { slab_len entries.new < 2 ^ 64 }
         ensures counted { lookups.new ≤ lookups.old + 2 }

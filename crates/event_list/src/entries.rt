@@ -144,9 +144,10 @@ impl<W: Drop> Entries<W> {
         }
     }
 
-    /// Makes an entry an untold one with this payload.
+    /// Makes an entry an unnotified one with this payload.
     pub fn set_payload<L: Ledger>(&mut self, key: usize, payload: W, lookups: &mut Lookups<L>)
-        ensures rewrites { Rewrites self.old self.new key (option_map (with_notice (Notice.Untold payload)) (get self.old key)) }
+        ensures rewrites { Rewrites self.old self.new key
+            (option_map (with_notice (Notice.Untold payload)) (get self.old key)) }
         ensures counted { lookups.new ≡ lookups.old + 1 }
     {
         lookups.raise();
@@ -155,14 +156,16 @@ impl<W: Drop> Entries<W> {
         }
     }
 
-    /// Tells an entry. The answer is its payload, where it was untold, and its neighbour behind.
+    /// Tells an entry. The answer is its payload, where it was unnotified, and its neighbour
+    /// behind.
     pub fn tell<L: Ledger>(
         &mut self,
         key: usize,
         lookups: &mut Lookups<L>,
     ) -> Option<(W, Option<usize>)>
         ensures answer { result ≡ option_and_then payload_at (get self.old key) }
-        ensures rewrites { Rewrites self.old self.new key (option_map (with_notice Notice.Told) (get self.old key)) }
+        ensures rewrites { Rewrites self.old self.new key
+            (option_map (with_notice Notice.Told) (get self.old key)) }
         ensures counted { lookups.new ≡ lookups.old + 1 }
     {
         lookups.raise();

@@ -1,10 +1,10 @@
 //! The entries of a waiting list with what is kept beside them, and all work on them.
 //!
-//! A new entry goes behind the last one, untold. Those told are the front of the list, and `cursor` is
-//! the first behind them: to tell one is to tell the entry at the cursor and to move the cursor to its
-//! neighbour behind. An entry leaves by letting its neighbours name one another, and an end or the
-//! cursor that named it names its neighbour. Who waits again leaves and comes last where it was told,
-//! and stays where it is otherwise. So no call walks along the list.
+//! A new entry goes behind the last one, unnotified. Those told are the front of the list, and
+//! `cursor` is the first behind them: to tell one is to tell the entry at the cursor and to move
+//! the cursor to its neighbour behind. An entry leaves by letting its neighbours name one another,
+//! and an end or the cursor that named it names its neighbour. Who waits again leaves and comes
+//! last where it was told, and stays where it is otherwise. So no call walks along the list.
 //!
 //! Each look-up is counted on the ledger that a call is handed. No other can be opened here, and no
 //! entry is reached without one: see `steps`.
@@ -28,7 +28,7 @@ use std::sync::ledger::Ledger;
 pub(crate) struct Links<W> {
     // Each with the keys of its neighbours.
     entries: Entries<W>,
-    // The keys of the first one, of the last, and of the first untold one.
+    // The keys of the first one, of the last, and of the first unnotified one.
     ends: Ends,
     // How many entries there are.
     len: usize,
@@ -65,7 +65,7 @@ impl<W: Drop> Links<W> {
         }
     }
 
-    /// A new entry goes last, untold, under a key that isn't in the list. At most 6 look-ups.
+    /// A new entry goes last, unnotified, under a key that isn't in the list. At most 6 look-ups.
     pub(crate) fn listen<L: Ledger>(
         &mut self,
         w: W,
@@ -112,7 +112,7 @@ impl<W: Drop> Links<W> {
         true
     }
 
-    /// Tells the longest waiting untold entry. At most one look-up.
+    /// Tells the longest waiting unnotified entry. At most one look-up.
     pub(crate) fn tell_one<B: Bell<W>, L: Ledger>(
         &mut self,
         bell: &mut B,
@@ -136,7 +136,7 @@ impl<W: Drop> Links<W> {
         true
     }
 
-    /// Tells every untold entry. At most one look-up for each.
+    /// Tells every unnotified entry. At most one look-up for each.
     pub(crate) fn tell_all<B: Bell<W>, L: Ledger>(
         &mut self,
         bell: &mut B,
@@ -200,7 +200,7 @@ impl<W: Drop> Links<W> {
         self.entries.is_told(t.key, lookups)
     }
 
-    /// Whether somebody is untold.
+    /// Whether somebody is unnotified.
     #[inline(always)]
     pub(crate) fn has_untold(&self) -> bool
         ensures answer { IsTrue result ↔ (0 < length (payloads self.now)) }

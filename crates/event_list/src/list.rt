@@ -1,7 +1,23 @@
 //! The waiting list: its public calls.
 //!
-//! A counted call hands the ledger that it is given to the call of the same name of `links`, where the
-//! work is done. A call of the plain name opens a ledger and runs the counted one on it.
+//! Entries stand in order of arrival, and those that were told are always the front of the list. So
+//! three keys serve every call: the first entry's, the last one's, and the cursor, which is the key
+//! of the first entry that isn't told.
+//!
+//! ```text
+//! told  <->  told  <->  unnotified  <->  unnotified
+//! first                 cursor           last
+//! ```
+//!
+//! To tell one is to mark the entry at the cursor, to ring with its payload, and to move the cursor
+//! to its neighbour behind; to tell all is to do this until the cursor is past the last one. Who is
+//! new goes behind the last one. Who leaves lets its neighbours name one another, and a key that
+//! named it names a neighbour. Who waits again after a notice leaves and goes last, under its old
+//! key; who waits again unnotified keeps its place, with a new payload. So no call walks along the
+//! list, and the told front stays in one piece.
+//!
+//! A counted call hands the ledger that it is given to the call of the same name of `links`, where
+//! the work is done. A call of the plain name opens a ledger and runs the counted one on it.
 ghost use Rattle.std.specs.Prelude.{◌≡◌, ◌+◌, ◌<◌, ◌≤◌, ◌↔◌, length, take, is_some, IsTrue, IfNone, IfOk, IfErr, OnErr, slice_get, false};
 ghost use Rattle.std.specs.Bool.{OnTrue, OnFalse};
 ghost use Rattle.event_list.specs.Keys.{is_among, AreDifferent};
@@ -19,24 +35,38 @@ use std::sync::ledger::{Blank, Ledger};
 use steps::Steps;
 
 /// There was no memory for another entry. It hands the payload back.
+///
+/// # Examples
+///
+/// ```
+/// let NoRoom(payload) = NoRoom(10);
+/// assert_eq!(rt; payload, 10);
+/// ```
 #[derive(Drop)]
 pub struct NoRoom<W>(pub W);
 
 /// Those who wait, in order of arrival; the first of them are told.
 ///
-/// The entries lie in a slab, each with the keys of the one before and the one behind it. So each call
-/// looks up a fixed number of them, however many wait; `tell_all` looks up one for each that it tells.
-/// The counted calls say how many: they have the contracts of the calls of the plain names, which run
-/// them on a ledger of their own. Each counts on the ledger that it is handed, at most so many and at
-/// least one where it reaches an entry.
+/// The entries lie in a slab, each with the keys of the one before and the one behind it. So each
+/// call looks up a fixed number of them, however many wait; `tell_all` looks up one for each that
+/// it tells. The counted calls say how many: they have the contracts of the calls of the plain
+/// names, which run them on a ledger of their own. Each counts on the ledger that it is handed, at
+/// most that number and at least one where it reaches an entry.
+///
+/// # Examples
 ///
 /// ```
 /// let mut list = WaitList::new(rt.alloc());
-/// let first = list.listen(10)?;
-/// let second = list.listen(11)?;
-/// list.tell_one(&mut bell);          // the bell gets 10
-/// list.cancel(first, &mut bell);     // the notice goes on: the bell gets 11
-/// list.is_told(&second)              // Some(true)
+/// let mut bell = Last(None);
+/// let first = list.listen(10).map_err(|_| "no room")?;
+/// let second = list.listen(11).map_err(|_| "no room")?;
+/// list.tell_one(&mut bell);
+/// assert_eq!(rt; bell.0, Some(10));
+///
+/// // The notice goes on.
+/// list.cancel(first, &mut bell);
+/// assert_eq!(rt; bell.0, Some(11));
+/// assert_eq!(rt; list.is_told(&second), Some(true));
 /// ```
 #[derive(Drop)]
 pub struct WaitList<W> {
@@ -54,6 +84,14 @@ impl<W> Model for WaitList<W> {
 
 impl<W: Drop> WaitList<W> {
     /// A list where nobody waits. It takes no memory.
+    ///
+    /// # Examples
+    ///
+    /// ```
+    /// let list: WaitList<u64> = WaitList::new(rt.alloc());
+    /// assert_eq!(rt; list.len(), 0);
+    /// assert_eq!(rt; list.told(), 0);
+    /// ```
     pub fn new(alloc: Global) -> Self
         ensures { result ≡ nobody }
     {
@@ -62,7 +100,16 @@ impl<W: Drop> WaitList<W> {
         }
     }
 
-    /// A new entry goes last, untold, under a key that isn't in the list.
+    /// A new entry goes last, unnotified, under a key that isn't in the list.
+    ///
+    /// # Examples
+    ///
+    /// ```
+    /// let mut list = WaitList::new(rt.alloc());
+    /// let ticket = list.listen(10).map_err(|_| "no room")?;
+    /// assert!(rt; list.contains(&ticket));
+    /// assert_eq!(rt; list.is_told(&ticket), Some(false));
+    /// ```
     pub fn listen(&mut self, w: W) -> Result<Ticket, NoRoom<W>>
         ensures fresh { IfOk result (λ ticket. is_among ticket (keys self.old) ≡ false) }
         ensures after { IfOk result (λ ticket. self.new ≡ joined self.old ticket w) }
@@ -75,6 +122,22 @@ impl<W: Drop> WaitList<W> {
     }
 
     /// The entry waits again with this payload. The answer is whether it is in the list.
+    ///
+    /// # Examples
+    ///
+    /// ```
+    /// let mut list = WaitList::new(rt.alloc());
+    /// let mut bell = Last(None);
+    /// let first = list.listen(10).map_err(|_| "no room")?;
+    /// let second = list.listen(11).map_err(|_| "no room")?;
+    /// list.tell_one(&mut bell);
+    ///
+    /// // It was told, so it goes behind the second one.
+    /// assert!(rt; list.again(&first, 12));
+    /// list.tell_one(&mut bell);
+    /// assert_eq!(rt; bell.0, Some(11));
+    /// assert_eq!(rt; list.is_told(&second), Some(true));
+    /// ```
     pub fn again(&mut self, t: &Ticket, w: W) -> bool
         ensures found { result ≡ is_some (mark self.old t.now) }
         ensures after { self.new ≡ renewed self.old t.now w }
@@ -86,7 +149,20 @@ impl<W: Drop> WaitList<W> {
         self.again_from::<Brand>(t, w, Blank::new(1))
     }
 
-    /// Tells the longest waiting untold entry. The answer is whether there was one.
+    /// Tells the longest waiting unnotified entry. The answer is whether there was one.
+    ///
+    /// # Examples
+    ///
+    /// ```
+    /// let mut list = WaitList::new(rt.alloc());
+    /// let mut bell = Last(None);
+    /// assert!(rt; !list.tell_one(&mut bell));
+    ///
+    /// let first = list.listen(10).map_err(|_| "no room")?;
+    /// assert!(rt; list.tell_one(&mut bell));
+    /// assert_eq!(rt; bell.0, Some(10));
+    /// assert_eq!(rt; list.first_told(), Some(first.key()));
+    /// ```
     #[inline(always)]
     pub fn tell_one<B: Bell<W>>(&mut self, bell: &mut B) -> bool
         ensures told { IsTrue result ↔ (0 < length (payloads self.old)) }
@@ -100,7 +176,20 @@ impl<W: Drop> WaitList<W> {
         self.tell_one_from::<B, Brand>(bell, Blank::new(1))
     }
 
-    /// Tells every untold entry, and answers how many there were.
+    /// Tells every unnotified entry, and answers how many there were.
+    ///
+    /// # Examples
+    ///
+    /// ```
+    /// let mut list = WaitList::new(rt.alloc());
+    /// let mut bell = Last(None);
+    /// for payload in [10, 11] {
+    ///     list.listen(payload).map_err(|_| "no room")?;
+    /// }
+    /// assert_eq!(rt; list.tell_all(&mut bell), 2);
+    /// assert_eq!(rt; bell.0, Some(11));
+    /// assert_eq!(rt; list.told(), 2);
+    /// ```
     #[inline(always)]
     pub fn tell_all<B: Bell<W>>(&mut self, bell: &mut B) -> usize
         ensures told { result ≡ length (payloads self.old) }
@@ -115,6 +204,16 @@ impl<W: Drop> WaitList<W> {
     }
 
     /// The entry leaves. The answer is whether it was told, or nothing where it isn't in the list.
+    ///
+    /// # Examples
+    ///
+    /// ```
+    /// let mut list = WaitList::new(rt.alloc());
+    /// let ticket = list.listen(10).map_err(|_| "no room")?;
+    /// list.tell_one(&mut Quiet);
+    /// assert_eq!(rt; list.remove(ticket), Some(true));
+    /// assert_eq!(rt; list.len(), 0);
+    /// ```
     pub fn remove(&mut self, t: Ticket) -> Option<bool>
         ensures was_told { result ≡ mark self.old t }
         ensures after { self.new ≡ without self.old t }
@@ -126,6 +225,18 @@ impl<W: Drop> WaitList<W> {
     }
 
     /// The entry leaves, and where it was told, one is told in its place.
+    ///
+    /// # Examples
+    ///
+    /// ```
+    /// let mut list = WaitList::new(rt.alloc());
+    /// let mut bell = Last(None);
+    /// let first = list.listen(10).map_err(|_| "no room")?;
+    /// list.listen(11).map_err(|_| "no room")?;
+    /// list.tell_one(&mut bell);
+    /// list.cancel(first, &mut bell);
+    /// assert_eq!(rt; bell.0, Some(11));
+    /// ```
     pub fn cancel<B: Bell<W>>(&mut self, t: Ticket, bell: &mut B)
         ensures after { self.new ≡ cancelled self.old t }
         ensures rung { RingsEach B.rings bell.old (rung_by_cancelling self.old t) bell.new }
@@ -136,6 +247,21 @@ impl<W: Drop> WaitList<W> {
     }
 
     /// `listen`, which counts its look-ups: at most 6.
+    ///
+    /// # Examples
+    ///
+    /// ```
+    /// fn is_told_at_last<L: Ledger>(alloc: Global, steps: &mut Steps<L>) -> Option<bool> {
+    ///     let mut list = WaitList::new(alloc);
+    ///     let first = list.listen_counted(10, steps).ok()?;
+    ///     let second = list.listen_counted(11, steps).ok()?;
+    ///     list.tell_one_counted(&mut Quiet, steps);
+    ///     list.again_counted(&first, 12, steps);
+    ///     list.tell_all_counted(&mut Quiet, steps);
+    ///     list.cancel_counted(second, &mut Quiet, steps);
+    ///     list.remove_counted(first, steps)
+    /// }
+    /// ```
     pub fn listen_counted<L: Ledger>(
         &mut self,
         w: W,
@@ -182,7 +308,7 @@ impl<W: Drop> WaitList<W> {
         self.links.tell_one(bell, &mut steps.lookups)
     }
 
-    /// `tell_all`, which counts its look-ups: one for each untold entry.
+    /// `tell_all`, which counts its look-ups: one for each unnotified entry.
     pub fn tell_all_counted<B: Bell<W>, L: Ledger>(
         &mut self,
         bell: &mut B,
@@ -264,8 +390,8 @@ impl<W: Drop> WaitList<W> {
     }
 }
 
-// What the calls of the plain names run: the counted ones, on the ledger of a blank. They stand apart
-// since a ledger gets its name where a call passes a blank on.
+// What the calls of the plain names run: the counted ones, on the ledger of a blank. They stand
+// apart since a ledger gets its name where a call passes a blank on.
 impl<W: Drop> WaitList<W> {
     fn listen_from<L: Ledger>(&mut self, w: W, blank: Blank) -> Result<Ticket, NoRoom<W>>
         requires { Opens blank.name blank.parts L.name L.parts }

@@ -25,7 +25,8 @@ impl<const N: usize> Model for Log<N> {
 }
 
 impl<const N: usize> Bell<u64> for Log<N> {
-    ghost rings = { λ before payload after. after ≡ (if nat_lt (length before) N then before ++ payload ∷ [] else before) };
+    ghost rings = { λ before payload after. after ≡
+        (if nat_lt (length before) N then before ++ payload ∷ [] else before) };
 
     fn ring(&mut self, w: u64) {
         if self.len < N {

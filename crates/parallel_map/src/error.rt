@@ -11,7 +11,8 @@ use std::fmt;
 ///
 /// ```
 /// let pieces = vec![in rt.alloc(); Piece::make(&Square, 2, &7)]?;
-/// assert!(rt; matches!(gather(rt.alloc(), &[5, 6, 7], pieces), Err(MapError::Missing(0))));
+/// let gathered = gather(rt.alloc(), &[5, 6, 7], pieces);
+/// assert!(rt; matches!(&gathered, Err(MapError::Missing(0))));
 /// ```
 #[derive(Clone, Copy, Debug, PartialEq, Eq)]
 pub enum MapError {

@@ -11,7 +11,7 @@ ghost use Rattle.parallel_map.specs.Slots.{AreFilled, IsRefused};
 use crate::error::MapError;
 use crate::job::Job;
 use crate::piece::Piece;
-use async_channel::record::Exact;
+use exact::Exact;
 use std::alloc::{AllocError, Global};
 
 // Whether the input stands at the place.
@@ -84,7 +84,7 @@ fn answers_of<A: Exact, B: Drop, J: Job<A, B>>(
     Ok(answers)
 }
 
-// So many slots with nothing in them.
+// As many slots as the count, with nothing in them.
 fn vacant<B: Drop>(alloc: Global, count: usize) -> Result<Vec<Option<B>>, AllocError>
     ensures { IfOk result (λ slots. slots.items ≡ replicate count None) }
 {

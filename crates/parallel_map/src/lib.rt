@@ -23,7 +23,8 @@
 //! }
 //!
 //! let mut maker = StampMaker::new();
-//! let answers = map_all(&rt, rt.alloc(), &Square, &Open, &[1, 2, 3], 2, 64, &mut maker)?;
+//! let inputs = [1, 2, 3];
+//! let answers = map_all(&rt, rt.alloc(), &Square, &Open, &inputs, 2, 64, &mut maker)?;
 //! assert_eq!(rt; answers.as_slice(), [1, 4, 9].as_slice());
 //! ```
 #![tactic(auto)]

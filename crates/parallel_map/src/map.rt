@@ -1,14 +1,14 @@
 //! The map of a list, by many threads.
 ghost use Rattle.std.specs.Prelude.{◌≡◌, ◌≢◌, ◌<◌, [], map, IsOk, IfOk, OnOk, Err, None};
-ghost use Rattle.async_channel.specs.Stamps.{next_stamp};
+ghost use Rattle.channel_stamps.specs.Stamps.{next_stamp};
 ghost use Rattle.parallel_map.specs.Stamps.{behind_two, DrewTwoAtMost};
 
 use crate::error::MapError;
 use crate::gathering::gather;
 use crate::job::{Gate, Job};
 use crate::workers::{self, Ends};
-use async_channel::record::Exact;
 use async_channel::{StampMaker, bounded, unbounded};
+use exact::Exact;
 use std::alloc::Global;
 use std::sync::Wait;
 use std::thread;
@@ -29,7 +29,8 @@ use std::thread::Threads;
 ///
 /// ```
 /// let mut maker = StampMaker::new();
-/// let answers = map_all(&rt, rt.alloc(), &Square, &Open, &[5, 6, 7], 2, 64, &mut maker)?;
+/// let inputs = [5, 6, 7];
+/// let answers = map_all(&rt, rt.alloc(), &Square, &Open, &inputs, 2, 64, &mut maker)?;
 /// assert_eq!(rt; answers.as_slice(), [25, 36, 49].as_slice());
 /// ```
 pub fn map_all<A, B, J, G, R>(

@@ -103,7 +103,7 @@ where
     }
 }
 
-// Starts so many workers, each with ends of its own. Where one isn't started, those before it are.
+// Starts the workers, each with ends of its own. Where one isn't started, those before it are.
 fn start_all<'s, 'a: 's, E, A, B, J, G, R>(
     scope: &'s Scope<'s, E>,
     rt: &'s R,
@@ -153,7 +153,7 @@ fn join_all<R: Threads>(rt: &R, workers: Vec<JoinHandle<bool>>) -> bool {
     all_well
 }
 
-/// Starts so many workers, sends the places of all inputs and waits for the workers.
+/// Starts the workers, sends the places of all inputs and waits for the workers.
 pub fn run<'s, 'a: 's, E, A, B, J, G, R>(
     scope: &'s Scope<'s, E>,
     rt: &'s R,

@@ -5,7 +5,6 @@ ghost use Rattle.channel_model.specs.declared.step.Step.{Step};
 ghost use Rattle.channel_run.specs.RunSteps.{StepsTo};
 
 use crate::names::{put, take};
-use crate::operations::{is_receiver_borrowed, is_sender_borrowed};
 use crate::run::Run;
 use channel_core::HANDLE_LIMIT;
 use channel_model::{OutOfMemory, Refusal, Reply};
@@ -136,7 +135,7 @@ impl<T: Drop> Run<T> {
         if !self.senders.has(name) {
             return Reply::Refused(Refusal::Unknown, None);
         }
-        if is_sender_borrowed(&self.operations, name) {
+        if self.operations.is_sender_borrowed(name) {
             return Reply::Refused(Refusal::Borrowed, None);
         }
         self.senders.remove(name);
@@ -150,7 +149,7 @@ impl<T: Drop> Run<T> {
         if !self.has_receiver(name) {
             return Reply::Refused(Refusal::Unknown, None);
         }
-        if is_receiver_borrowed(&self.operations, name) {
+        if self.operations.is_receiver_borrowed(name) {
             return Reply::Refused(Refusal::Borrowed, None);
         }
         let mut ticket = take(&mut self.receivers, name).flatten();

@@ -5,8 +5,7 @@ ghost use Rattle.channel_model.specs.declared.step.Step.{Step};
 ghost use Rattle.channel_run.specs.RunShown.{dropped};
 ghost use Rattle.channel_run.specs.RunSteps.{StepsAsAllowed, StepsTo};
 
-use crate::names::{put, take};
-use crate::operations::{Operation, is_receiver_borrowed};
+use crate::operations::Operation;
 use crate::run::Run;
 use channel_core::Core;
 use channel_model::{OutOfMemory, Refusal, Reply};
@@ -27,7 +26,7 @@ impl<T: Drop> Run<T> {
             message: Some(message),
             ticket: None,
         };
-        match put(&mut self.operations, op, operation) {
+        match self.operations.put(op, operation) {
             Ok(()) => Reply::Done,
             Err(operation) => Reply::Refused(Refusal::OutOfMemory, operation.into_message()),
         }
@@ -46,7 +45,7 @@ impl<T: Drop> Run<T> {
             receiver,
             ticket: None,
         };
-        match put(&mut self.operations, op, operation) {
+        match self.operations.put(op, operation) {
             Ok(()) => Reply::Done,
             Err(_) => Reply::Refused(Refusal::OutOfMemory, None),
         }
@@ -65,7 +64,7 @@ impl<T: Drop> Run<T> {
             sender,
             ticket: None,
         };
-        match put(&mut self.operations, op, operation) {
+        match self.operations.put(op, operation) {
             Ok(()) => Reply::Done,
             Err(_) => Reply::Refused(Refusal::OutOfMemory, None),
         }
@@ -74,7 +73,7 @@ impl<T: Drop> Run<T> {
     pub(super) fn poll(&mut self, op: u64) -> Reply<T>
         ensures { StepsTo self.old (Step.Poll op) result self.new }
     {
-        let Some(operation) = self.operations.get_mut(&op) else {
+        let Some(operation) = self.operations.by_name.get_mut(&op) else {
             return Reply::Refused(Refusal::Unknown, None);
         };
         match operation {
@@ -107,7 +106,7 @@ impl<T: Drop> Run<T> {
         if !self.has_receiver(receiver) {
             return Reply::Refused(Refusal::Unknown, None);
         }
-        if is_receiver_borrowed(&self.operations, receiver) {
+        if self.operations.is_receiver_borrowed(receiver) {
             return Reply::Refused(Refusal::Borrowed, None);
         }
         self.poll_stream(receiver)
@@ -116,7 +115,7 @@ impl<T: Drop> Run<T> {
     pub(super) fn drop_op(&mut self, op: u64) -> Reply<T>
         ensures { StepsTo self.old (Step.DropOp op) result self.new }
     {
-        let Some(operation) = take(&mut self.operations, op) else {
+        let Some(operation) = self.operations.take(op) else {
             return Reply::Refused(Refusal::Unknown, None);
         };
         cancel(&mut self.core, operation);

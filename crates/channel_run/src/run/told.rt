@@ -61,7 +61,7 @@ impl<T: Drop> Run<T> {
         ensures { result ≡ waiting_in self.now.rosters }
     {
         // no more wait than have names, so the sum fits
-        let _operations = self.operations.len();
+        let _operations = self.operations.by_name.len();
         let _receivers = self.receivers.len();
         self.core.waiting(Group::Sends)
             + self.core.waiting(Group::Receives)
@@ -77,7 +77,7 @@ impl<T: Drop> Run<T> {
         let key = self.core.first_told(group)?;
         match group {
             Group::Streams => receiver_with(&self.receivers, key),
-            _ => operation_with(&self.operations, group, key),
+            _ => operation_with(&self.operations.by_name, group, key),
         }
     }
 }

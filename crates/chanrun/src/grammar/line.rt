@@ -37,7 +37,12 @@ fn line_end(bytes: &[u8]) -> Option<usize>
 }
 
 /// The first line without its end, and what stands behind it.
-pub(crate) fn split_line(bytes: &[u8]) -> (&[u8], &[u8])
+///
+/// ```text
+/// split_line(b"len s0\nlen r0")     (b"len s0", b"len r0")
+/// split_line(b"len r0")             (b"len r0", b"")
+/// ```
+pub fn split_line(bytes: &[u8]) -> (&[u8], &[u8])
     requires { 0 < length bytes.now }
     ensures lines { lines_of bytes.now ≡ result.0.now ∷ lines_of result.1.now }
     ensures shorter { length result.1.now < length bytes.now }

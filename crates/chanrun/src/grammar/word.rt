@@ -89,6 +89,19 @@ pub(super) fn word_of(word: &[u8]) -> Word
     }
 }
 
+/// The operation, or the receiver of a stream, that a word names.
+///
+/// ```text
+/// o3    the operation 3
+/// r1    the stream of the receiver 1
+/// s0    a bad name
+/// ```
+pub fn who_of(word: &[u8]) -> Result<Who, Fault>
+    ensures { result ≡ who_in (word_of word.now) }
+{
+    word_of(word).who()
+}
+
 impl Word {
     pub(super) fn number(self) -> Result<u64, Fault>
         ensures { result ≡ number_in self }

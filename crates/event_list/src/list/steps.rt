@@ -1,9 +1,9 @@
 //! How many entries were looked up.
 //!
 //! A caller holds [`Steps`], and the calls that reach the entries take the [`Lookups`] inside it. A
-//! caller opens `Steps` on any blank. `Lookups` are opened and taken out of `Steps` in `list` and its
-//! modules alone, so that where the entries are worked on every look-up is counted on the ledger that
-//! was handed in: there is no other in reach.
+//! caller opens `Steps` on any blank. `Lookups` are opened and taken out of `Steps` in `list` and
+//! its modules alone, so that where the entries are worked on every look-up is counted on the
+//! ledger that was handed in: there is no other in reach.
 ghost use Rattle.std.specs.Prelude.{◌≡◌, ◌+◌};
 ghost use Rattle.event_list.specs.Opens.{Opens};
 
@@ -13,6 +13,18 @@ use std::sync::ledger::{Blank, Book, Ledger, Share};
 /// How many entries were looked up. A contract sees it as that number.
 ///
 /// It is the book of a ledger and takes no bytes, so counting costs nothing when a program runs.
+///
+/// # Examples
+///
+/// ```
+/// fn counts<L: Ledger>(alloc: Global, blank: Blank) -> Option<bool>
+///     requires { Opens blank.name blank.parts L.name L.parts }
+/// {
+///     is_told_at_last(alloc, &mut Steps::<L>::of(blank))
+/// }
+///
+/// assert_eq!(rt; counts::<Brand>(rt.alloc(), Blank::new(1)), Some(true));
+/// ```
 #[derive(Drop)]
 pub struct Steps<L: Ledger> {
     // What the calls on the entries raise.

@@ -1,4 +1,5 @@
-// The waiting list in its plain form, a vector of entries and a number told: the judge of the linked one.
+// The waiting list in its plain form, a vector of entries and a number told: the judge of the
+// linked one.
 use crate::bell::Bell;
 use std::alloc::{AllocError, Global};
 

@@ -8,9 +8,13 @@ use crate::shim::Global;
 
 /// Who waits for a channel, by what they wait for.
 pub(crate) struct WaitLists<W> {
+    // Sends, for a place or the close.
     pub(crate) sends: WaitList<W>,
+    // Receives, for a message or the close.
     pub(crate) receives: WaitList<W>,
+    // Streams, for a message or the close.
     pub(crate) streams: WaitList<W>,
+    // Closed operations, for the end of the last receiver.
     pub(crate) closeds: WaitList<W>,
 }
 
@@ -38,7 +42,7 @@ impl<W> WaitLists<W> {
     }
 
     /// A message was accepted.
-    #[inline]
+    #[inline(always)]
     pub(crate) fn tell_accepted<B: Bell<W>>(&mut self, bell: &mut B) {
         self.receives.tell_one(bell);
         self.streams.tell_all(bell);

@@ -1,10 +1,12 @@
 // Taken out of crates/channel_model/src/lib.rt by tools/erase. Change that file, not this one.
-//! What the past of a channel decides: its steps and replies, and the laws that hold behind every past.
+//! What the past of a channel decides: its steps and replies, and the laws that hold after every
+//! past.
 //!
-//! A past is the list of the steps that were made on a channel, each with its reply. The definitions say what it
-//! decides: the reply that is due to a step, what is held, who is live, who waits and who was told. They know
-//! nothing of the code that keeps a channel; that code is proved to agree with them in the crates above.
-//! [`laws`] has what holds behind every past that can come about.
+//! A past is the list of the steps that were made on a channel, each with its reply. The
+//! definitions say what it decides: the reply that is due to a step, what is held, who is live, who
+//! waits and who was told. They know nothing of the code that keeps a channel; that code is proved
+//! to agree with them in the crates above. [`laws`] has what holds after every past that can come
+//! about.
 
 mod errors;
 mod step;

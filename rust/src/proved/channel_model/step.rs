@@ -1,22 +1,39 @@
 // Taken out of crates/channel_model/src/step.rt by tools/erase. Change that file, not this one.
 //! Steps by any party on a channel, and their replies.
 //!
-//! One step is one call on the channel's whole state, made while nobody else makes one. So a list of steps is any
-//! way in which the calls of any number of parties follow one another.
+//! One step is one call on the channel's whole state, made while nobody else makes one. So a list
+//! of steps is any way in which the calls of any number of parties follow one another.
 
 use crate::proved::channel_model::errors::{RecvError, SendError, TryRecvError, TrySendError};
 use std::task::Poll;
 
 /// How many messages a channel may hold.
+///
+/// # Examples
+///
+/// ```text
+/// let mut run: Run<u64> = Run::new(rt.alloc(), Kind::Bounded(5))?;
+/// let capacity = run.step(Step::Capacity(Side::Sender(0)));
+/// assert_eq!(rt; capacity, Reply::Capacity(Some(5)));
+/// ```
 #[derive(Clone, Copy, Debug, PartialEq, Eq)]
 pub enum Kind {
-    /// So many at the most. The number is positive.
+    /// This many at the most. The number is positive.
     Bounded(usize),
     /// As many as memory allows.
     Unbounded,
 }
 
 /// The handle by which a channel is closed, or a question is put to it.
+///
+/// # Examples
+///
+/// ```text
+/// let mut run: Run<u64> = Run::new(rt.alloc(), Kind::Unbounded)?;
+/// assert_eq!(rt; run.step(Step::Close(Side::Receiver(0))), Reply::Flag(true));
+/// let reply = run.step(Step::IsClosed(Side::Sender(0)));
+/// assert_eq!(rt; reply, Reply::Flag(true));
+/// ```
 #[derive(Clone, Copy, Debug, PartialEq, Eq)]
 pub enum Side {
     /// The sender of this name.
@@ -26,6 +43,15 @@ pub enum Side {
 }
 
 /// Who may wait on a channel.
+///
+/// # Examples
+///
+/// ```text
+/// let mut run: Run<u64> = Run::new(rt.alloc(), Kind::Unbounded)?;
+/// run.step(Step::PollNext(0));
+/// assert_eq!(rt; run.notice_of(Who::Receiver(0)), Notice::Untold);
+/// assert_eq!(rt; run.notice_of(Who::Op(0)), Notice::Absent);
+/// ```
 #[derive(Clone, Copy, Debug, PartialEq, Eq)]
 pub enum Who {
     /// The operation of this name: a send, a receive or a closed operation.
@@ -35,6 +61,18 @@ pub enum Who {
 }
 
 /// Whether somebody waits, and was told to try again.
+///
+/// # Examples
+///
+/// ```text
+/// let mut run: Run<u64> = Run::new(rt.alloc(), Kind::Unbounded)?;
+/// run.step(Step::StartRecv { op: 0, receiver: 0 });
+/// assert_eq!(rt; run.notice_of(Who::Op(0)), Notice::Absent);
+/// run.step(Step::Poll(0));
+/// assert_eq!(rt; run.notice_of(Who::Op(0)), Notice::Untold);
+/// run.step(Step::TrySend(0, 1));
+/// assert_eq!(rt; run.notice_of(Who::Op(0)), Notice::Told);
+/// ```
 #[derive(Clone, Copy, Debug, PartialEq, Eq)]
 pub enum Notice {
     /// Nobody of this name waits.
@@ -46,14 +84,22 @@ pub enum Notice {
 }
 
 /// Why a step wasn't made. Where several apply, the first of them is answered.
+///
+/// # Examples
+///
+/// ```text
+/// let mut run: Run<u64> = Run::new(rt.alloc(), Kind::Unbounded)?;
+/// let reply = run.step(Step::TrySend(1, 7));
+/// assert_eq!(rt; reply, Reply::Refused(Refusal::Unknown, Some(7)));
+/// ```
 #[derive(Clone, Copy, Debug, PartialEq, Eq)]
 pub enum Refusal {
     /// No handle or operation of this name is live.
     Unknown,
     /// The name that the step was to make is live already.
     Taken,
-    /// A live operation borrows the handle that was to be given up, or a live receive the receiver whose stream
-    /// was to be polled.
+    /// A live operation borrows the handle that was to be given up, or a live receive the receiver
+    /// whose stream was to be polled.
     Borrowed,
     /// There are more handles of this kind than half of the greatest `usize`.
     TooMany,
@@ -61,8 +107,18 @@ pub enum Refusal {
     OutOfMemory,
 }
 
-/// One step by any party. Names lie in five spaces: senders, receivers, weak senders, weak receivers, operations.
-/// A new channel has sender 0 and receiver 0. The name of what was given up may be used again.
+/// One step by any party. Names lie in five spaces: senders, receivers, weak senders, weak
+/// receivers, operations. A new channel has sender 0 and receiver 0. The name of what was given up
+/// may be used again.
+///
+/// # Examples
+///
+/// ```text
+/// let mut run: Run<u64> = Run::new(rt.alloc(), Kind::Bounded(1))?;
+/// assert_eq!(rt; run.step(Step::TrySend(0, 7)), Reply::TrySent(Ok(())));
+/// assert_eq!(rt; run.step(Step::Len(Side::Sender(0))), Reply::Count(1));
+/// assert_eq!(rt; run.step(Step::TryRecv(0)), Reply::Received(Ok(7)));
+/// ```
 #[derive(Debug, PartialEq, Eq)]
 pub enum Step<T> {
     /// A sender sends a message, if the channel is open and not full.
@@ -117,17 +173,27 @@ pub enum Step<T> {
     StartSend { op: u64, sender: u64, msg: T },
     /// A receive begins, which borrows the receiver. It is no poll.
     StartRecv { op: u64, receiver: u64 },
-    /// A closed operation begins, which borrows the sender, and is ready where no receiver is live. It is no poll.
+    /// A closed operation begins, which borrows the sender, and is ready where no receiver is live.
+    /// It is no poll.
     StartClosed { op: u64, sender: u64 },
     /// An operation is polled: it is done, or it waits.
     Poll(u64),
     /// A receiver's stream is polled for its next message.
     PollNext(u64),
-    /// An operation is given up. Where it was a told send or receive, another one is told in its place.
+    /// An operation is given up. Where it was a told send or receive, another one is told in its
+    /// place.
     DropOp(u64),
 }
 
 /// What a step answers.
+///
+/// # Examples
+///
+/// ```text
+/// let mut run: Run<u64> = Run::new(rt.alloc(), Kind::Bounded(1))?;
+/// assert_eq!(rt; run.step(Step::ForceSend(0, 7)), Reply::Forced(Ok(None)));
+/// assert_eq!(rt; run.step(Step::ForceSend(0, 8)), Reply::Forced(Ok(Some(7))));
+/// ```
 #[derive(Debug, PartialEq, Eq)]
 pub enum Reply<T> {
     /// To `TrySend`: the message went in, or comes back.
@@ -154,6 +220,7 @@ pub enum Reply<T> {
     ClosedPolled(Poll<()>),
     /// To `PollNext`: a message, or the stream's end.
     NextPolled(Poll<Option<T>>),
-    /// The step changed nothing. The message of `TrySend`, `ForceSend` or `StartSend` is here again.
+    /// The step changed nothing. The message of `TrySend`, `ForceSend` or `StartSend` is here
+    /// again.
     Refused(Refusal, Option<T>),
 }

@@ -1,15 +1,14 @@
 // Taken out of crates/channel_run/src/names.rt by tools/erase. Change that file, not this one.
 //! Names of one space that are live, and what stands under them.
 
-use crate::shim::Vec;
-
 use crate::proved::channel_model::OutOfMemory;
 use crate::shim::Global;
 use crate::shim::BTreeMap;
 
-/// Live names, each once, in the order in which they were made.
+/// Live names, each once, in ascending order. Each is found in the time of a map's look-up.
 pub(crate) struct Names {
-    names: Vec<u64>,
+    // a name is a key, with nothing under it
+    names: BTreeMap<u64, ()>,
 }
 
 impl Names {
@@ -17,7 +16,7 @@ impl Names {
     #[inline]
     pub(crate) fn new(alloc: Global) -> Names {
         Names {
-            names: Vec::new(alloc),
+            names: BTreeMap::new(alloc),
         }
     }
 
@@ -30,22 +29,22 @@ impl Names {
     /// Whether a name is live.
     #[inline]
     pub(crate) fn has(&self, name: u64) -> bool {
-        self.names.contains(&name)
+        self.names.contains_key(&name)
     }
 
     /// Makes a name that isn't live.
     #[inline]
     pub(crate) fn add(&mut self, name: u64) -> Result<(), OutOfMemory> {
-        match self.names.push(name) {
+        match put(&mut self.names, name, ()) {
             Ok(()) => Ok(()),
-            Err(_) => Err(OutOfMemory),
+            Err(()) => Err(OutOfMemory),
         }
     }
 
     /// Gives a name up.
     #[inline]
     pub(crate) fn remove(&mut self, name: u64) {
-        self.names.retain(|other| *other != name);
+        self.names.remove(&name);
     }
 }
 

@@ -1,9 +1,12 @@
 // Taken out of crates/channel_run/src/operations.rt by tools/erase. Change that file, not this one.
 //! Operations that were started, with the tickets of their waits.
 
+use crate::proved::channel_run::tally::Tally;
 use crate::proved::channel_run::tickets::has_key;
 use crate::proved::channel_core::Group;
+use crate::proved::channel_model::OutOfMemory;
 use crate::proved::event_list::Ticket;
+use crate::shim::Global;
 use crate::shim::BTreeMap;
 
 /// An operation that was started and not given up. It borrows its handle all that time.
@@ -68,18 +71,83 @@ impl<T> Operation<T> {
     }
 }
 
-/// Whether a live send or closed operation borrows the sender.
-#[inline]
-pub(crate) fn is_sender_borrowed<T>(operations: &BTreeMap<u64, Operation<T>>, name: u64) -> bool {
-    operations
-        .values()
-        .any(|operation| operation.borrows_sender(name))
+/// The live operations by name, and how many of them borrow each handle.
+pub(crate) struct Operations<T> {
+    // each with the ticket of its wait; a poll changes an operation, but never what it borrows
+    pub(crate) by_name: BTreeMap<u64, Operation<T>>,
+    // how many borrow each sender, and each receiver
+    by_sender: Tally,
+    by_receiver: Tally,
 }
 
-/// Whether a live receive borrows the receiver.
-#[inline]
-pub(crate) fn is_receiver_borrowed<T>(operations: &BTreeMap<u64, Operation<T>>, name: u64) -> bool {
-    operations
-        .values()
-        .any(|operation| operation.borrows_receiver(name))
+impl<T> Operations<T> {
+    /// None.
+    #[inline]
+    pub(crate) fn new(alloc: Global) -> Operations<T> {
+        Operations {
+            by_name: BTreeMap::new(alloc),
+            by_sender: Tally::new(alloc),
+            by_receiver: Tally::new(alloc),
+        }
+    }
+
+    /// Whether a live send or closed operation borrows the sender.
+    #[inline]
+    pub(crate) fn is_sender_borrowed(&self, name: u64) -> bool {
+        self.by_sender.get(name) > 0
+    }
+
+    /// Whether a live receive borrows the receiver.
+    #[inline]
+    pub(crate) fn is_receiver_borrowed(&self, name: u64) -> bool {
+        self.by_receiver.get(name) > 0
+    }
+
+    /// Puts an operation under a name that isn't live, or hands it back.
+    #[inline]
+    pub(crate) fn put(&mut self, op: u64, operation: Operation<T>) -> Result<(), Operation<T>> {
+        if self.count(&operation).is_err() {
+            return Err(operation);
+        }
+        match self.by_name.insert(op, operation) {
+            Ok(_) => Ok(()),
+            Err(refused) => {
+                let operation = refused.value.1;
+                self.discount(&operation);
+                Err(operation)
+            }
+        }
+    }
+
+    /// Takes out the operation of a name.
+    #[inline]
+    pub(crate) fn take(&mut self, op: u64) -> Option<Operation<T>> {
+        // its contract says that the names are different
+        let _count = self.by_name.len();
+        let operation = self.by_name.remove(&op)?;
+        self.discount(&operation);
+        Some(operation)
+    }
+
+    // Counts what one more operation borrows.
+    #[inline]
+    fn count(&mut self, operation: &Operation<T>) -> Result<(), OutOfMemory> {
+        // no count is above the number of operations, so it can be raised
+        let _count = self.by_name.len();
+        match operation {
+            Operation::Send { sender, .. } => self.by_sender.raise(*sender),
+            Operation::Recv { receiver, .. } => self.by_receiver.raise(*receiver),
+            Operation::Closed { sender, .. } => self.by_sender.raise(*sender),
+        }
+    }
+
+    // Takes back what an operation borrows.
+    #[inline]
+    fn discount(&mut self, operation: &Operation<T>) {
+        match operation {
+            Operation::Send { sender, .. } => self.by_sender.lower(*sender),
+            Operation::Recv { receiver, .. } => self.by_receiver.lower(*receiver),
+            Operation::Closed { sender, .. } => self.by_sender.lower(*sender),
+        }
+    }
 }

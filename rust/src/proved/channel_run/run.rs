@@ -1,11 +1,21 @@
 // Taken out of crates/channel_run/src/run.rt by tools/erase. Change that file, not this one.
 //! A channel with named handles and operations, and lists of steps by any parties.
 //!
-//! [`Run::step`] finds the method of its step. Those methods stand by topic in the modules below:
-//! `messages`, `questions`, `handles` and `operations`; `told` has what settling needs. Each method
-//! first refuses what it must: a name that isn't live, one that is taken, a handle that is
-//! borrowed, a handle too many. Then it makes the step on the core, and in the names and
-//! operations.
+//! A run is a core, and beside it what the core doesn't know: which names are live, which operation
+//! borrows which handle, and by which ticket it waits. [`Run::step`] finds the method of its step.
+//! Those methods stand by topic in the modules below: `messages`, `questions`, `handles` and
+//! `operations`; `told` has what settling needs. Each goes like this:
+//!
+//! 1. It refuses what it must, and the first that applies is the answer: a name that isn't live,
+//!    one that is taken, a handle that is borrowed, a handle too many. A message comes back.
+//! 2. It takes room for a name that it makes. Where memory is refused the core hasn't been touched,
+//!    so that nothing has to be undone.
+//! 3. It makes the step on the core. Nobody sleeps here, so its bell does nothing.
+//! 4. It writes down what became of the names, the operation and its ticket.
+//!
+//! Who waits is known to the core by a key, and to the run by a name; the ticket joins the two. To
+//! ask whether a name was told is to look its ticket up in the list of its kind. To find whom to
+//! poll next is to take the first told key of a list, and to look for the ticket that has it.
 
 use crate::shim::Vec;
 
@@ -16,7 +26,7 @@ mod questions;
 mod told;
 
 use crate::proved::channel_run::names::{Names, put};
-use crate::proved::channel_run::operations::Operation;
+use crate::proved::channel_run::operations::{Operation, Operations};
 use crate::proved::channel_core::{Core, Group};
 use crate::proved::channel_model::{Kind, Notice, OutOfMemory, Reply, Side, Step, Who};
 use crate::proved::event_list::Ticket;
@@ -28,6 +38,17 @@ use crate::shim::BTreeMap;
 /// A step by any party is made whole, while nobody else makes one. So what a list of steps does to
 /// a run is what the parties' calls do to a channel, in any way in which they may follow one
 /// another.
+///
+/// # Examples
+///
+/// ```text
+/// let mut run = Run::new(rt.alloc(), Kind::Unbounded)?;
+/// run.step(Step::StartRecv { op: 0, receiver: 0 });
+/// assert_eq!(rt; run.step(Step::Poll(0)), Reply::RecvPolled(Poll::Pending));
+/// assert_eq!(rt; run.step(Step::TrySend(0, 7)), Reply::TrySent(Ok(())));
+/// let reply = run.step(Step::Poll(0));
+/// assert_eq!(rt; reply, Reply::RecvPolled(Poll::Ready(Ok(7))));
+/// ```
 pub struct Run<T> {
     // where the memory of names and operations comes from
     alloc: Global,
@@ -39,12 +60,22 @@ pub struct Run<T> {
     receivers: BTreeMap<u64, Option<Ticket>>,
     weak_senders: Names,
     weak_receivers: Names,
-    // the live operations by name, each with the ticket of its wait
-    operations: BTreeMap<u64, Operation<T>>,
+    // the live operations, and who is borrowed by them
+    operations: Operations<T>,
 }
 
 impl<T> Run<T> {
     /// A run of a new channel.
+    ///
+    /// A bounded channel's capacity has to be positive. Where memory is refused there is no run.
+    ///
+    /// # Examples
+    ///
+    /// ```text
+    /// let mut run: Run<u64> = Run::new(rt.alloc(), Kind::Bounded(1))?;
+    /// let senders = run.step(Step::SenderCount(Side::Receiver(0)));
+    /// assert_eq!(rt; senders, Reply::Count(1));
+    /// ```
     #[inline]
     pub fn new(alloc: Global, kind: Kind) -> Result<Run<T>, OutOfMemory> {
         let core = match kind {
@@ -64,21 +95,41 @@ impl<T> Run<T> {
             receivers,
             weak_senders: Names::new(alloc),
             weak_receivers: Names::new(alloc),
-            operations: BTreeMap::new(alloc),
+            operations: Operations::new(alloc),
         })
     }
 
     /// Makes a step, or refuses it.
+    ///
+    /// A refused step changes nothing, and hands the message back that it brought.
+    ///
+    /// # Examples
+    ///
+    /// ```text
+    /// let mut run = Run::new(rt.alloc(), Kind::Unbounded)?;
+    /// assert_eq!(rt; run.step(Step::TrySend(0, 7)), Reply::TrySent(Ok(())));
+    /// let reply = run.step(Step::TrySend(1, 8));
+    /// assert_eq!(rt; reply, Reply::Refused(Refusal::Unknown, Some(8)));
+    /// ```
     #[inline]
     pub fn step(&mut self, step: Step<T>) -> Reply<T> {
         self.make(step)
     }
 
     /// Whether somebody waits, and was told. Who has no live name doesn't wait.
+    ///
+    /// # Examples
+    ///
+    /// ```text
+    /// let mut run: Run<u64> = Run::new(rt.alloc(), Kind::Unbounded)?;
+    /// run.step(Step::PollNext(0));
+    /// assert_eq!(rt; run.notice_of(Who::Receiver(0)), Notice::Untold);
+    /// assert_eq!(rt; run.notice_of(Who::Op(0)), Notice::Absent);
+    /// ```
     #[inline]
     pub fn notice_of(&self, who: Who) -> Notice {
         match who {
-            Who::Op(op) => match self.operations.get(&op) {
+            Who::Op(op) => match self.operations.by_name.get(&op) {
                 Some(Operation::Send { ticket, .. }) => notice(&self.core, Group::Sends, ticket),
                 Some(Operation::Recv { ticket, .. }) => notice(&self.core, Group::Receives, ticket),
                 Some(Operation::Closed { ticket, .. }) => notice(
@@ -147,7 +198,7 @@ impl<T> Run<T> {
 
     #[inline]
     fn has_operation(&self, op: u64) -> bool {
-        self.operations.contains_key(&op)
+        self.operations.by_name.contains_key(&op)
     }
 }
 
@@ -164,17 +215,46 @@ fn notice<T>(core: &Core<T, ()>, group: Group, ticket: &Option<Ticket>) -> Notic
 }
 
 /// What a list of steps came to.
+///
+/// # Examples
+///
+/// ```text
+/// let steps = vec![in rt.alloc(); Step::TrySend(0, 7)]?;
+/// let mut end = run_all(rt.alloc(), Kind::Unbounded, steps).map_err(|_| "no room")?;
+/// assert_eq!(rt; end.replies.as_slice(), [Reply::TrySent(Ok(()))].as_slice());
+/// assert_eq!(rt; end.run.step(Step::TryRecv(0)), Reply::Received(Ok(7)));
+/// ```
 pub struct End<T> {
     /// One reply a step, in order.
     pub replies: Vec<Reply<T>>,
-    /// The run behind the last step.
+    /// The run after the last step.
     pub run: Run<T>,
 }
 
 /// Memory was refused before the first step. The steps come back.
+///
+/// # Examples
+///
+/// ```text
+/// let steps = vec![in rt.alloc(); Step::TrySend(0, 7)]?;
+/// let RunError(steps) = RunError(steps);
+/// assert_eq!(rt; steps.len(), 1);
+/// ```
 pub struct RunError<T>(pub Vec<Step<T>>);
 
 /// Makes the steps in turn, in a run of a new channel.
+///
+/// A bounded channel's capacity has to be positive. Room for the replies is taken first.
+///
+/// # Examples
+///
+/// ```text
+/// let steps = vec![in rt.alloc(); Step::TrySend(0, 7), Step::TrySend(0, 8)]?;
+/// let end = run_all(rt.alloc(), Kind::Bounded(1), steps).map_err(|_| "no room")?;
+/// let full = Err(TrySendError::Full(8));
+/// let replies = [Reply::TrySent(Ok(())), Reply::TrySent(full)];
+/// assert_eq!(rt; end.replies.as_slice(), replies.as_slice());
+/// ```
 #[inline]
 pub fn run_all<T>(
     alloc: Global,

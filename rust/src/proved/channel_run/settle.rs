@@ -7,6 +7,15 @@ use crate::proved::channel_run::run::Run;
 use crate::proved::channel_model::{OutOfMemory, Reply, Who};
 
 /// What settling a run came to.
+///
+/// # Examples
+///
+/// ```text
+/// let mut run: Run<u64> = Run::new(rt.alloc(), Kind::Unbounded)?;
+/// let settled = run.settle()?;
+/// assert_eq!(rt; settled.polls, 0);
+/// assert!(rt; settled.finished.is_empty());
+/// ```
 pub struct Settled<T> {
     /// How many polls were made.
     pub polls: u128,
@@ -24,6 +33,20 @@ impl<T> Run<T> {
     ///
     /// Memory is wanted before the first poll alone, for as many replies as there are waiting
     /// entries.
+    ///
+    /// # Examples
+    ///
+    /// ```text
+    /// let mut run = Run::new(rt.alloc(), Kind::Unbounded)?;
+    /// run.step(Step::StartRecv { op: 0, receiver: 0 });
+    /// run.step(Step::Poll(0));
+    /// run.step(Step::TrySend(0, 7));
+    ///
+    /// let settled = run.settle()?;
+    /// let received = (Who::Op(0), Reply::RecvPolled(Poll::Ready(Ok(7))));
+    /// assert_eq!(rt; settled.polls, 1);
+    /// assert_eq!(rt; settled.finished.as_slice(), [received].as_slice());
+    /// ```
     #[inline]
     pub fn settle(&mut self) -> Result<Settled<T>, OutOfMemory> {
         let mut finished = self.room_for_replies()?;
@@ -34,7 +57,7 @@ impl<T> Run<T> {
             let reply = self.poll_told(who);
             keep_ready(&mut finished, who, reply);
         }
-        // never reached: so many polls are more than the bound
+        // never reached: these would be more polls than the bound
         Ok(Settled {
             polls: u128::MAX,
             finished,

@@ -5,11 +5,14 @@ use crate::proved::event_list::entries::{Entries, Entry, Notice};
 use crate::proved::event_list::list::steps::Lookups;
 use crate::shim::Ledger;
 
-/// The keys of the first entry, of the last, and of the first untold one.
+/// The keys of the first entry, of the last, and of the first unnotified one.
 #[derive(Clone, Copy)]
 pub struct Ends {
+    /// The key of the entry that has waited longest.
     pub first: Option<usize>,
+    /// The key of the entry that came last.
     pub last: Option<usize>,
+    /// The key of the first entry that isn't told: all in front of it are, and none behind it is.
     pub cursor: Option<usize>,
 }
 
@@ -28,7 +31,7 @@ impl Ends {
         }
     }
 
-    /// The ends, once a new untold entry has come last.
+    /// The ends, once a new unnotified entry has come last.
     #[inline]
     fn with(self, key: usize) -> Ends {
         Ends {
@@ -54,7 +57,7 @@ impl Ends {
         Some(entry.notice.is_told())
     }
 
-    /// Puts a new untold entry behind the last one. The answer is its key.
+    /// Puts a new unnotified entry behind the last one. The answer is its key.
     #[inline]
     pub fn put_last<W, L: Ledger>(
         &mut self,

@@ -103,7 +103,7 @@ impl<W> Entries<W> {
         }
     }
 
-    /// Makes an entry an untold one with this payload.
+    /// Makes an entry an unnotified one with this payload.
     #[inline]
     pub fn set_payload<L: Ledger>(&mut self, key: usize, payload: W, lookups: &mut Lookups<L>) {
         lookups.raise();
@@ -112,7 +112,8 @@ impl<W> Entries<W> {
         }
     }
 
-    /// Tells an entry. The answer is its payload, where it was untold, and its neighbour behind.
+    /// Tells an entry. The answer is its payload, where it was unnotified, and its neighbour
+    /// behind.
     #[inline]
     pub fn tell<L: Ledger>(
         &mut self,

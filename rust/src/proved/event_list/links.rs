@@ -1,11 +1,11 @@
 // Taken out of crates/event_list/src/links.rt by tools/erase. Change that file, not this one.
 //! The entries of a waiting list with what is kept beside them, and all work on them.
 //!
-//! A new entry goes behind the last one, untold. Those told are the front of the list, and `cursor` is
-//! the first behind them: to tell one is to tell the entry at the cursor and to move the cursor to its
-//! neighbour behind. An entry leaves by letting its neighbours name one another, and an end or the
-//! cursor that named it names its neighbour. Who waits again leaves and comes last where it was told,
-//! and stays where it is otherwise. So no call walks along the list.
+//! A new entry goes behind the last one, unnotified. Those told are the front of the list, and
+//! `cursor` is the first behind them: to tell one is to tell the entry at the cursor and to move
+//! the cursor to its neighbour behind. An entry leaves by letting its neighbours name one another,
+//! and an end or the cursor that named it names its neighbour. Who waits again leaves and comes
+//! last where it was told, and stays where it is otherwise. So no call walks along the list.
 //!
 //! Each look-up is counted on the ledger that a call is handed. No other can be opened here, and no
 //! entry is reached without one: see `steps`.
@@ -23,7 +23,7 @@ use crate::shim::Ledger;
 pub(crate) struct Links<W> {
     // Each with the keys of its neighbours.
     entries: Entries<W>,
-    // The keys of the first one, of the last, and of the first untold one.
+    // The keys of the first one, of the last, and of the first unnotified one.
     ends: Ends,
     // How many entries there are.
     len: usize,
@@ -47,7 +47,7 @@ impl<W> Links<W> {
         }
     }
 
-    /// A new entry goes last, untold, under a key that isn't in the list. At most 6 look-ups.
+    /// A new entry goes last, unnotified, under a key that isn't in the list. At most 6 look-ups.
     #[inline]
     pub(crate) fn listen<L: Ledger>(
         &mut self,
@@ -78,7 +78,7 @@ impl<W> Links<W> {
         true
     }
 
-    /// Tells the longest waiting untold entry. At most one look-up.
+    /// Tells the longest waiting unnotified entry. At most one look-up.
     #[inline]
     pub(crate) fn tell_one<B: Bell<W>, L: Ledger>(
         &mut self,
@@ -97,7 +97,7 @@ impl<W> Links<W> {
         true
     }
 
-    /// Tells every untold entry. At most one look-up for each.
+    /// Tells every unnotified entry. At most one look-up for each.
     #[inline]
     pub(crate) fn tell_all<B: Bell<W>, L: Ledger>(
         &mut self,
@@ -141,7 +141,7 @@ impl<W> Links<W> {
         self.entries.is_told(t.key, lookups)
     }
 
-    /// Whether somebody is untold.
+    /// Whether somebody is unnotified.
     #[inline(always)]
     pub(crate) fn has_untold(&self) -> bool {
         self.ends.cursor.is_some()

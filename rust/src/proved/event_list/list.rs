@@ -1,8 +1,24 @@
 // Taken out of crates/event_list/src/list.rt by tools/erase. Change that file, not this one.
 //! The waiting list: its public calls.
 //!
-//! A counted call hands the ledger that it is given to the call of the same name of `links`, where the
-//! work is done. A call of the plain name opens a ledger and runs the counted one on it.
+//! Entries stand in order of arrival, and those that were told are always the front of the list. So
+//! three keys serve every call: the first entry's, the last one's, and the cursor, which is the key
+//! of the first entry that isn't told.
+//!
+//! ```text
+//! told  <->  told  <->  unnotified  <->  unnotified
+//! first                 cursor           last
+//! ```
+//!
+//! To tell one is to mark the entry at the cursor, to ring with its payload, and to move the cursor
+//! to its neighbour behind; to tell all is to do this until the cursor is past the last one. Who is
+//! new goes behind the last one. Who leaves lets its neighbours name one another, and a key that
+//! named it names a neighbour. Who waits again after a notice leaves and goes last, under its old
+//! key; who waits again unnotified keeps its place, with a new payload. So no call walks along the
+//! list, and the told front stays in one piece.
+//!
+//! A counted call hands the ledger that it is given to the call of the same name of `links`, where
+//! the work is done. A call of the plain name opens a ledger and runs the counted one on it.
 
 pub(crate) mod steps;
 
@@ -15,23 +31,37 @@ use crate::shim::{Blank, Ledger};
 use steps::Steps;
 
 /// There was no memory for another entry. It hands the payload back.
+///
+/// # Examples
+///
+/// ```text
+/// let NoRoom(payload) = NoRoom(10);
+/// assert_eq!(rt; payload, 10);
+/// ```
 pub struct NoRoom<W>(pub W);
 
 /// Those who wait, in order of arrival; the first of them are told.
 ///
-/// The entries lie in a slab, each with the keys of the one before and the one behind it. So each call
-/// looks up a fixed number of them, however many wait; `tell_all` looks up one for each that it tells.
-/// The counted calls say how many: they have the contracts of the calls of the plain names, which run
-/// them on a ledger of their own. Each counts on the ledger that it is handed, at most so many and at
-/// least one where it reaches an entry.
+/// The entries lie in a slab, each with the keys of the one before and the one behind it. So each
+/// call looks up a fixed number of them, however many wait; `tell_all` looks up one for each that
+/// it tells. The counted calls say how many: they have the contracts of the calls of the plain
+/// names, which run them on a ledger of their own. Each counts on the ledger that it is handed, at
+/// most that number and at least one where it reaches an entry.
+///
+/// # Examples
 ///
 /// ```text
 /// let mut list = WaitList::new(rt.alloc());
-/// let first = list.listen(10)?;
-/// let second = list.listen(11)?;
-/// list.tell_one(&mut bell);          // the bell gets 10
-/// list.cancel(first, &mut bell);     // the notice goes on: the bell gets 11
-/// list.is_told(&second)              // Some(true)
+/// let mut bell = Last(None);
+/// let first = list.listen(10).map_err(|_| "no room")?;
+/// let second = list.listen(11).map_err(|_| "no room")?;
+/// list.tell_one(&mut bell);
+/// assert_eq!(rt; bell.0, Some(10));
+///
+/// // The notice goes on.
+/// list.cancel(first, &mut bell);
+/// assert_eq!(rt; bell.0, Some(11));
+/// assert_eq!(rt; list.is_told(&second), Some(true));
 /// ```
 pub struct WaitList<W> {
     // The entries, and all work on them.
@@ -40,6 +70,14 @@ pub struct WaitList<W> {
 
 impl<W> WaitList<W> {
     /// A list where nobody waits. It takes no memory.
+    ///
+    /// # Examples
+    ///
+    /// ```text
+    /// let list: WaitList<u64> = WaitList::new(rt.alloc());
+    /// assert_eq!(rt; list.len(), 0);
+    /// assert_eq!(rt; list.told(), 0);
+    /// ```
     #[inline]
     pub fn new(alloc: Global) -> Self {
         WaitList {
@@ -47,19 +85,57 @@ impl<W> WaitList<W> {
         }
     }
 
-    /// A new entry goes last, untold, under a key that isn't in the list.
+    /// A new entry goes last, unnotified, under a key that isn't in the list.
+    ///
+    /// # Examples
+    ///
+    /// ```text
+    /// let mut list = WaitList::new(rt.alloc());
+    /// let ticket = list.listen(10).map_err(|_| "no room")?;
+    /// assert!(rt; list.contains(&ticket));
+    /// assert_eq!(rt; list.is_told(&ticket), Some(false));
+    /// ```
     #[inline]
     pub fn listen(&mut self, w: W) -> Result<Ticket, NoRoom<W>> {
         self.listen_from::<Brand>(w, Blank::new(1))
     }
 
     /// The entry waits again with this payload. The answer is whether it is in the list.
+    ///
+    /// # Examples
+    ///
+    /// ```text
+    /// let mut list = WaitList::new(rt.alloc());
+    /// let mut bell = Last(None);
+    /// let first = list.listen(10).map_err(|_| "no room")?;
+    /// let second = list.listen(11).map_err(|_| "no room")?;
+    /// list.tell_one(&mut bell);
+    ///
+    /// // It was told, so it goes behind the second one.
+    /// assert!(rt; list.again(&first, 12));
+    /// list.tell_one(&mut bell);
+    /// assert_eq!(rt; bell.0, Some(11));
+    /// assert_eq!(rt; list.is_told(&second), Some(true));
+    /// ```
     #[inline]
     pub fn again(&mut self, t: &Ticket, w: W) -> bool {
         self.again_from::<Brand>(t, w, Blank::new(1))
     }
 
-    /// Tells the longest waiting untold entry. The answer is whether there was one.
+    /// Tells the longest waiting unnotified entry. The answer is whether there was one.
+    ///
+    /// # Examples
+    ///
+    /// ```text
+    /// let mut list = WaitList::new(rt.alloc());
+    /// let mut bell = Last(None);
+    /// assert!(rt; !list.tell_one(&mut bell));
+    ///
+    /// let first = list.listen(10).map_err(|_| "no room")?;
+    /// assert!(rt; list.tell_one(&mut bell));
+    /// assert_eq!(rt; bell.0, Some(10));
+    /// assert_eq!(rt; list.first_told(), Some(first.key()));
+    /// ```
     #[inline(always)]
     pub fn tell_one<B: Bell<W>>(&mut self, bell: &mut B) -> bool {
         if !self.links.has_untold() {
@@ -68,7 +144,20 @@ impl<W> WaitList<W> {
         self.tell_one_from::<B, Brand>(bell, Blank::new(1))
     }
 
-    /// Tells every untold entry, and answers how many there were.
+    /// Tells every unnotified entry, and answers how many there were.
+    ///
+    /// # Examples
+    ///
+    /// ```text
+    /// let mut list = WaitList::new(rt.alloc());
+    /// let mut bell = Last(None);
+    /// for payload in [10, 11] {
+    ///     list.listen(payload).map_err(|_| "no room")?;
+    /// }
+    /// assert_eq!(rt; list.tell_all(&mut bell), 2);
+    /// assert_eq!(rt; bell.0, Some(11));
+    /// assert_eq!(rt; list.told(), 2);
+    /// ```
     #[inline(always)]
     pub fn tell_all<B: Bell<W>>(&mut self, bell: &mut B) -> usize {
         if !self.links.has_untold() {
@@ -78,18 +167,55 @@ impl<W> WaitList<W> {
     }
 
     /// The entry leaves. The answer is whether it was told, or nothing where it isn't in the list.
+    ///
+    /// # Examples
+    ///
+    /// ```text
+    /// let mut list = WaitList::new(rt.alloc());
+    /// let ticket = list.listen(10).map_err(|_| "no room")?;
+    /// list.tell_one(&mut Quiet);
+    /// assert_eq!(rt; list.remove(ticket), Some(true));
+    /// assert_eq!(rt; list.len(), 0);
+    /// ```
     #[inline]
     pub fn remove(&mut self, t: Ticket) -> Option<bool> {
         self.remove_from::<Brand>(t, Blank::new(1))
     }
 
     /// The entry leaves, and where it was told, one is told in its place.
+    ///
+    /// # Examples
+    ///
+    /// ```text
+    /// let mut list = WaitList::new(rt.alloc());
+    /// let mut bell = Last(None);
+    /// let first = list.listen(10).map_err(|_| "no room")?;
+    /// list.listen(11).map_err(|_| "no room")?;
+    /// list.tell_one(&mut bell);
+    /// list.cancel(first, &mut bell);
+    /// assert_eq!(rt; bell.0, Some(11));
+    /// ```
     #[inline]
     pub fn cancel<B: Bell<W>>(&mut self, t: Ticket, bell: &mut B) {
         self.cancel_from::<B, Brand>(t, bell, Blank::new(1));
     }
 
     /// `listen`, which counts its look-ups: at most 6.
+    ///
+    /// # Examples
+    ///
+    /// ```text
+    /// fn is_told_at_last<L: Ledger>(alloc: Global, steps: &mut Steps<L>) -> Option<bool> {
+    ///     let mut list = WaitList::new(alloc);
+    ///     let first = list.listen_counted(10, steps).ok()?;
+    ///     let second = list.listen_counted(11, steps).ok()?;
+    ///     list.tell_one_counted(&mut Quiet, steps);
+    ///     list.again_counted(&first, 12, steps);
+    ///     list.tell_all_counted(&mut Quiet, steps);
+    ///     list.cancel_counted(second, &mut Quiet, steps);
+    ///     list.remove_counted(first, steps)
+    /// }
+    /// ```
     #[inline]
     pub fn listen_counted<L: Ledger>(
         &mut self,
@@ -115,7 +241,7 @@ impl<W> WaitList<W> {
         self.links.tell_one(bell, &mut steps.lookups)
     }
 
-    /// `tell_all`, which counts its look-ups: one for each untold entry.
+    /// `tell_all`, which counts its look-ups: one for each unnotified entry.
     #[inline]
     pub fn tell_all_counted<B: Bell<W>, L: Ledger>(
         &mut self,
@@ -173,8 +299,8 @@ impl<W> WaitList<W> {
     }
 }
 
-// What the calls of the plain names run: the counted ones, on the ledger of a blank. They stand apart
-// since a ledger gets its name where a call passes a blank on.
+// What the calls of the plain names run: the counted ones, on the ledger of a blank. They stand
+// apart since a ledger gets its name where a call passes a blank on.
 impl<W> WaitList<W> {
     #[inline]
     fn listen_from<L: Ledger>(&mut self, w: W, blank: Blank) -> Result<Ticket, NoRoom<W>> {

@@ -1,4 +1,4 @@
-use Rattle.channel_model.proofs.CoveredSteps.{IsCovered-IsLegal}
+use Rattle.channel_model.proofs.CoveredPasts.{IsCovered-IsLegal}
 use Rattle.channel_model.proofs.laws.nobody_waits_in_vain.Goals as goal
 
 pub returns : goal.returns

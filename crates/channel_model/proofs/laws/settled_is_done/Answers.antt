@@ -1,4 +1,4 @@
-use Rattle.channel_model.proofs.CoveredSteps.{HasPositiveCapacity-IsLegal, Whole-IsLegal}
+use Rattle.channel_model.proofs.CoveredPasts.{HasPositiveCapacity-IsLegal, Whole-IsLegal}
 use Rattle.channel_model.proofs.Settled.{IsDone-IsQuiet}
 use Rattle.channel_model.proofs.laws.settled_is_done.Goals as goal
 

@@ -2,7 +2,6 @@
 //! Handles that are copied, downgraded, upgraded and given up, by name.
 
 use crate::proved::channel_run::names::{put, take};
-use crate::proved::channel_run::operations::{is_receiver_borrowed, is_sender_borrowed};
 use crate::proved::channel_run::run::Run;
 use crate::proved::channel_core::HANDLE_LIMIT;
 use crate::proved::channel_model::{OutOfMemory, Refusal, Reply};
@@ -124,7 +123,7 @@ impl<T> Run<T> {
         if !self.senders.has(name) {
             return Reply::Refused(Refusal::Unknown, None);
         }
-        if is_sender_borrowed(&self.operations, name) {
+        if self.operations.is_sender_borrowed(name) {
             return Reply::Refused(Refusal::Borrowed, None);
         }
         self.senders.remove(name);
@@ -137,7 +136,7 @@ impl<T> Run<T> {
         if !self.has_receiver(name) {
             return Reply::Refused(Refusal::Unknown, None);
         }
-        if is_receiver_borrowed(&self.operations, name) {
+        if self.operations.is_receiver_borrowed(name) {
             return Reply::Refused(Refusal::Borrowed, None);
         }
         let mut ticket = take(&mut self.receivers, name).flatten();

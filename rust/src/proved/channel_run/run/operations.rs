@@ -1,8 +1,7 @@
 // Taken out of crates/channel_run/src/run/operations.rt by tools/erase. Change that file, not this one.
 //! Operations that are started, polled and given up, and the polls of streams.
 
-use crate::proved::channel_run::names::{put, take};
-use crate::proved::channel_run::operations::{Operation, is_receiver_borrowed};
+use crate::proved::channel_run::operations::Operation;
 use crate::proved::channel_run::run::Run;
 use crate::proved::channel_core::Core;
 use crate::proved::channel_model::{OutOfMemory, Refusal, Reply};
@@ -22,7 +21,7 @@ impl<T> Run<T> {
             message: Some(message),
             ticket: None,
         };
-        match put(&mut self.operations, op, operation) {
+        match self.operations.put(op, operation) {
             Ok(()) => Reply::Done,
             Err(operation) => Reply::Refused(Refusal::OutOfMemory, operation.into_message()),
         }
@@ -40,7 +39,7 @@ impl<T> Run<T> {
             receiver,
             ticket: None,
         };
-        match put(&mut self.operations, op, operation) {
+        match self.operations.put(op, operation) {
             Ok(()) => Reply::Done,
             Err(_) => Reply::Refused(Refusal::OutOfMemory, None),
         }
@@ -58,7 +57,7 @@ impl<T> Run<T> {
             sender,
             ticket: None,
         };
-        match put(&mut self.operations, op, operation) {
+        match self.operations.put(op, operation) {
             Ok(()) => Reply::Done,
             Err(_) => Reply::Refused(Refusal::OutOfMemory, None),
         }
@@ -66,7 +65,7 @@ impl<T> Run<T> {
 
     #[inline]
     pub(super) fn poll(&mut self, op: u64) -> Reply<T> {
-        let Some(operation) = self.operations.get_mut(&op) else {
+        let Some(operation) = self.operations.by_name.get_mut(&op) else {
             return Reply::Refused(Refusal::Unknown, None);
         };
         match operation {
@@ -98,7 +97,7 @@ impl<T> Run<T> {
         if !self.has_receiver(receiver) {
             return Reply::Refused(Refusal::Unknown, None);
         }
-        if is_receiver_borrowed(&self.operations, receiver) {
+        if self.operations.is_receiver_borrowed(receiver) {
             return Reply::Refused(Refusal::Borrowed, None);
         }
         self.poll_stream(receiver)
@@ -106,7 +105,7 @@ impl<T> Run<T> {
 
     #[inline]
     pub(super) fn drop_op(&mut self, op: u64) -> Reply<T> {
-        let Some(operation) = take(&mut self.operations, op) else {
+        let Some(operation) = self.operations.take(op) else {
             return Reply::Refused(Refusal::Unknown, None);
         };
         cancel(&mut self.core, operation);

@@ -50,7 +50,7 @@ impl<T> Run<T> {
     #[inline]
     fn waiting(&self) -> usize {
         // no more wait than have names, so the sum fits
-        let _operations = self.operations.len();
+        let _operations = self.operations.by_name.len();
         let _receivers = self.receivers.len();
         self.core.waiting(Group::Sends)
             + self.core.waiting(Group::Receives)
@@ -64,7 +64,7 @@ impl<T> Run<T> {
         let key = self.core.first_told(group)?;
         match group {
             Group::Streams => receiver_with(&self.receivers, key),
-            _ => operation_with(&self.operations, group, key),
+            _ => operation_with(&self.operations.by_name, group, key),
         }
     }
 }

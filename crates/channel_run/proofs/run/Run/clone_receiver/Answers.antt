@@ -23,7 +23,7 @@ put-requires g c = nothing_at c.self.inside.receivers.entries c.args.new
 pub invariant_of-self-2 : goal.invariant_of-self-2
 invariant_of-self-2 g c =
     let run = shown c.self.inside.core c.self.inside.senders c.self.inside.receivers.entries c.self.inside.weak_senders
-    c.self.inside.weak_receivers c.self.inside.operations.entries in
+    c.self.inside.weak_receivers c.self.inside.operations.by_name.entries in
     let absent = nothing_at c.self.inside.receivers.entries c.args.new
     (is_among-entry_at c.self.inside.receivers.entries c.args.new
     ∙ ap (λ (r : View g.row.T.Denot). is_among c.args.new r.receivers) c.self.view_is
@@ -33,22 +33,22 @@ invariant_of-self-2 g c =
     let more = when_ok c.put.result (length c.put.new.entries.entries ≡ length c.self.inside.receivers.entries + 1)
     (sym c.is_err.ensures.value ∙ c.if-is_err.false) c.put.ensures.more in
     let is = stepped-receiver c.self.inside.core c.self.inside.senders c.self.inside.receivers.entries
-    c.self.inside.weak_senders c.self.inside.weak_receivers c.self.inside.operations.entries c.self.invariant
+    c.self.inside.weak_senders c.self.inside.weak_receivers c.self.inside.operations.by_name.entries c.self.invariant.0
     (Step.CloneReceiver c.args.of c.args.new) (Reply.Done) c.args.new c.put.new.entries.entries absent change more
     (made-clone_receiver run c.args.of c.args.new) in
     let known = ap (λ (r : View g.row.T.Denot). is_among c.args.of r.receivers) c.self.view_is
     ∙ sym c.has_receiver.ensures ∙ c.if-not-has_receiver.false in
     let may = may_add-one c.args.of c.self.inside.receivers.entries c.self.inside.core.receivers known
-    c.self.invariant.count_receivers (rw (← c.receiver_count.ensures) c.if-receiver_count-gt-HANDLE_LIMIT.false) in
+    c.self.invariant.0.count_receivers (rw (← c.receiver_count.ensures) c.if-receiver_count-gt-HANDLE_LIMIT.false) in
     let after = c.add_receiver.ensures.after
     ∙ ap (λ added. record c.self.inside.core { receivers = count_added added c.self.inside.core.receivers })
     (c.add_receiver.ensures.reply ∙ may) in
-    rw after is.whole
+    rw after (is.whole, c.self.invariant.1)
 
 pub returns : goal.returns
 returns g c =
     let run = shown c.self.inside.core c.self.inside.senders c.self.inside.receivers.entries c.self.inside.weak_senders
-    c.self.inside.weak_receivers c.self.inside.operations.entries in
+    c.self.inside.weak_receivers c.self.inside.operations.by_name.entries in
     let absent = nothing_at c.self.inside.receivers.entries c.args.new
     (is_among-entry_at c.self.inside.receivers.entries c.args.new
     ∙ ap (λ (r : View g.row.T.Denot). is_among c.args.new r.receivers) c.self.view_is
@@ -58,7 +58,7 @@ returns g c =
     let more = when_ok c.put.result (length c.put.new.entries.entries ≡ length c.self.inside.receivers.entries + 1)
     (sym c.is_err.ensures.value ∙ c.if-is_err.false) c.put.ensures.more in
     let is = stepped-receiver c.self.inside.core c.self.inside.senders c.self.inside.receivers.entries
-    c.self.inside.weak_senders c.self.inside.weak_receivers c.self.inside.operations.entries c.self.invariant
+    c.self.inside.weak_senders c.self.inside.weak_receivers c.self.inside.operations.by_name.entries c.self.invariant.0
     (Step.CloneReceiver c.args.of c.args.new) (Reply.Done) c.args.new c.put.new.entries.entries absent change more
     (made-clone_receiver run c.args.of c.args.new) in
     let known = ap (λ (r : View g.row.T.Denot). is_among c.args.of r.receivers) c.self.view_is
@@ -66,10 +66,10 @@ returns g c =
     let fresh = ap (λ (r : View g.row.T.Denot). is_among c.args.new r.receivers) c.self.view_is
     ∙ sym c.has_receiver-2.ensures ∙ c.if-has_receiver.false in
     let may = may_add-one c.args.of c.self.inside.receivers.entries c.self.inside.core.receivers known
-    c.self.invariant.count_receivers (rw (← c.receiver_count.ensures) c.if-receiver_count-gt-HANDLE_LIMIT.false) in
+    c.self.invariant.0.count_receivers (rw (← c.receiver_count.ensures) c.if-receiver_count-gt-HANDLE_LIMIT.false) in
     let few : nat_lt handle_limit (length run.receivers) ≡ false =
     ap (λ count. nat_lt handle_limit count) (length-map c.self.inside.receivers.entries (λ e. e.0)
-    ∙ sym c.self.invariant.count_receivers) ∙ one_more c.self.inside.core.receivers
+    ∙ sym c.self.invariant.0.count_receivers) ∙ one_more c.self.inside.core.receivers
     (rw (← c.receiver_count.ensures) c.if-receiver_count-gt-HANDLE_LIMIT.false) in
     let after = c.add_receiver.ensures.after
     ∙ ap (λ added. record c.self.inside.core { receivers = count_added added c.self.inside.core.receivers })

@@ -10,14 +10,14 @@ use Rattle.channel_run.proofs.WholeSteps.{IsRefused-unchanged, StepsTo-made, Ste
 use Rattle.channel_run.proofs.run.Run.drop_op.Goals as goal
 
 pub invariant_of-self : goal.invariant_of-self
-invariant_of-self g c = rw c.in_default.ensures.unchanged c.self.invariant
+invariant_of-self g c = (rw c.in_default.ensures.unchanged c.self.invariant.0, c.take.ensures.counted)
 
 pub returns-in_default : goal.returns-in_default
 returns-in_default g c =
     let run = shown c.self.inside.core c.self.inside.senders c.self.inside.receivers.entries c.self.inside.weak_senders
-    c.self.inside.weak_receivers c.self.inside.operations.entries in
+    c.self.inside.weak_receivers c.self.inside.operations.by_name.entries in
     let step = Step.DropOp c.args.op in
-    let unknown = is_some-shown c.self.inside.operations.entries c.args.op
+    let unknown = is_some-shown c.self.inside.operations.by_name.entries c.args.op
     ∙ ap (λ (found : Option (Started g.row.T.Denot)). is_some found) (sym c.take.ensures.value ∙ c.in_default.is) in
     rw (← c.self.view_is, c.in_default.ensures.unchanged)
     (StepsTo-refused run run step Refusal.Unknown _ (unknown_name run step unknown)
@@ -28,25 +28,25 @@ invariant_of-self-2 g c =
     let there = ap (λ (found : Option (Started g.row.T.Denot)). is_some found)
     (sym c.take.ensures.value ∙ c.in-Some.is) in
     let is = stepped-drop_op c.self.inside.core c.self.inside.senders c.self.inside.receivers.entries
-    c.self.inside.weak_senders c.self.inside.weak_receivers c.self.inside.operations.entries
-    c.take.new.entries.entries c.self.invariant c.args.op
+    c.self.inside.weak_senders c.self.inside.weak_receivers c.self.inside.operations.by_name.entries
+    c.take.new.self.by_name.entries c.self.invariant.0 c.args.op
     c.take.ensures.different there c.take.ensures.left
     (c.take.ensures.fewer (ap (λ (found : Option (Started g.row.T.Denot)). is_some found) c.take.ensures.value
     ∙ there)) in
     let after = c.cancel.ensures ∙ ap (λ (found : Option (Started g.row.T.Denot)). dropped c.self.inside.core found)
     (sym c.in-Some.is ∙ c.take.ensures.value) in
-    rw after is.whole
+    (rw after is.whole, c.take.ensures.counted)
 
 pub returns : goal.returns
 returns g c =
     let run = shown c.self.inside.core c.self.inside.senders c.self.inside.receivers.entries c.self.inside.weak_senders
-    c.self.inside.weak_receivers c.self.inside.operations.entries in
+    c.self.inside.weak_receivers c.self.inside.operations.by_name.entries in
     let step = Step.DropOp c.args.op in
     let there = ap (λ (found : Option (Started g.row.T.Denot)). is_some found)
     (sym c.take.ensures.value ∙ c.in-Some.is) in
     let is = stepped-drop_op c.self.inside.core c.self.inside.senders c.self.inside.receivers.entries
-    c.self.inside.weak_senders c.self.inside.weak_receivers c.self.inside.operations.entries
-    c.take.new.entries.entries c.self.invariant c.args.op
+    c.self.inside.weak_senders c.self.inside.weak_receivers c.self.inside.operations.by_name.entries
+    c.take.new.self.by_name.entries c.self.invariant.0 c.args.op
     c.take.ensures.different there c.take.ensures.left
     (c.take.ensures.fewer (ap (λ (found : Option (Started g.row.T.Denot)). is_some found) c.take.ensures.value
     ∙ there)) in
@@ -54,4 +54,4 @@ returns g c =
     (sym c.in-Some.is ∙ c.take.ensures.value) in
     rw (← c.self.view_is, after)
     (StepsTo-made run _ step _ (not_refused run step
-    (is_some-shown c.self.inside.operations.entries c.args.op ∙ there) refl refl refl) is.made)
+    (is_some-shown c.self.inside.operations.by_name.entries c.args.op ∙ there) refl refl refl) is.made)

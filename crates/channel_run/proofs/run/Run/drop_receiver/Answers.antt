@@ -16,12 +16,12 @@ use Rattle.channel_run.proofs.run.Run.drop_receiver.Goals as goal
 pub returns-then-is_receiver_borrowed : goal.returns-then-is_receiver_borrowed
 returns-then-is_receiver_borrowed g c =
     let run = shown c.self.inside.core c.self.inside.senders c.self.inside.receivers.entries c.self.inside.weak_senders
-    c.self.inside.weak_receivers c.self.inside.operations.entries in
+    c.self.inside.weak_receivers c.self.inside.operations.by_name.entries in
     let step = Step.DropReceiver c.args.name in
     let known = ap (λ (r : View g.row.T.Denot). is_among c.args.name r.receivers) c.self.view_is
     ∙ sym c.has_receiver.ensures ∙ c.if-not-has_receiver.false in
     let borrowed : is_borrowed run step ≡ true =
-    list_any-shown (λ operation. borrows_receiver c.args.name operation) c.self.inside.operations.entries
+    list_any-shown (λ operation. borrows_receiver c.args.name operation) c.self.inside.operations.by_name.entries
     ∙ sym c.is_receiver_borrowed.ensures ∙ c.if-is_receiver_borrowed.true in
     rw (← c.self.view_is) (StepsTo-refused run run step Refusal.Borrowed _
     (borrowed_handle run step known refl borrowed) (IsRefused-unchanged run step Refusal.Borrowed))
@@ -32,28 +32,28 @@ invariant_of-self g c =
     ∙ sym c.has_receiver.ensures ∙ c.if-not-has_receiver.false in
     let is = stepped-drop_receiver c.self.inside.core c.self.inside.senders c.self.inside.receivers.entries
     c.take.new.entries.entries c.self.inside.weak_senders c.self.inside.weak_receivers
-    c.self.inside.operations.entries c.self.invariant c.args.name
+    c.self.inside.operations.by_name.entries c.self.invariant.0 c.args.name
     c.take.ensures.different known c.take.ensures.left
     (c.take.ensures.fewer (ap (λ found. is_some found) c.take.ensures.value
     ∙ is_among-entry_at c.self.inside.receivers.entries c.args.name ∙ known)) in
     let ticket : c.flatten-ticket.result ≡ ticket_at stream_ticket c.self.inside.receivers.entries c.args.name =
     c.flatten-ticket.ensures ∙ ap (λ found. option_flatten found) c.take.ensures.value
     ∙ flat (entry_at c.self.inside.receivers.entries c.args.name) in
-    rw (c.drop_receiver.ensures.after, ticket) is.whole
+    rw (c.drop_receiver.ensures.after, ticket) (is.whole, c.self.invariant.1)
 
 pub returns : goal.returns
 returns g c =
     let run = shown c.self.inside.core c.self.inside.senders c.self.inside.receivers.entries c.self.inside.weak_senders
-    c.self.inside.weak_receivers c.self.inside.operations.entries in
+    c.self.inside.weak_receivers c.self.inside.operations.by_name.entries in
     let step = Step.DropReceiver c.args.name in
     let known = ap (λ (r : View g.row.T.Denot). is_among c.args.name r.receivers) c.self.view_is
     ∙ sym c.has_receiver.ensures ∙ c.if-not-has_receiver.false in
     let free : is_borrowed run step ≡ false =
-    list_any-shown (λ operation. borrows_receiver c.args.name operation) c.self.inside.operations.entries
+    list_any-shown (λ operation. borrows_receiver c.args.name operation) c.self.inside.operations.by_name.entries
     ∙ sym c.is_receiver_borrowed.ensures ∙ c.if-is_receiver_borrowed.false in
     let is = stepped-drop_receiver c.self.inside.core c.self.inside.senders c.self.inside.receivers.entries
     c.take.new.entries.entries c.self.inside.weak_senders c.self.inside.weak_receivers
-    c.self.inside.operations.entries c.self.invariant c.args.name
+    c.self.inside.operations.by_name.entries c.self.invariant.0 c.args.name
     c.take.ensures.different known c.take.ensures.left
     (c.take.ensures.fewer (ap (λ found. is_some found) c.take.ensures.value
     ∙ is_among-entry_at c.self.inside.receivers.entries c.args.name ∙ known)) in

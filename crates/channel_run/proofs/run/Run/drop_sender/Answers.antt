@@ -14,11 +14,11 @@ use Rattle.channel_run.proofs.run.Run.drop_sender.Goals as goal
 pub returns-then-is_sender_borrowed : goal.returns-then-is_sender_borrowed
 returns-then-is_sender_borrowed g c =
     let run = shown c.self.inside.core c.self.inside.senders c.self.inside.receivers.entries c.self.inside.weak_senders
-    c.self.inside.weak_receivers c.self.inside.operations.entries in
+    c.self.inside.weak_receivers c.self.inside.operations.by_name.entries in
     let step = Step.DropSender c.args.name in
     let known : is_among c.args.name run.senders ≡ true = sym c.has.ensures ∙ c.if-not-has.false in
     let borrowed : is_borrowed run step ≡ true =
-    list_any-shown (λ operation. borrows_sender c.args.name operation) c.self.inside.operations.entries
+    list_any-shown (λ operation. borrows_sender c.args.name operation) c.self.inside.operations.by_name.entries
     ∙ sym c.is_sender_borrowed.ensures ∙ c.if-is_sender_borrowed.true in
     rw (← c.self.view_is) (StepsTo-refused run run step Refusal.Borrowed _
     (borrowed_handle run step known refl borrowed) (IsRefused-unchanged run step Refusal.Borrowed))
@@ -27,24 +27,26 @@ pub invariant_of-self : goal.invariant_of-self
 invariant_of-self g c =
     let fewer : length c.self.inside.senders ≡ suc (length (without c.args.name c.self.inside.senders)) =
     rw (← c.remove.ensures.left) (c.remove.ensures.fewer (sym c.has.ensures ∙ c.if-not-has.false)) in
-    rw (c.drop_sender.ensures.after, c.remove.ensures.left)
-    (stepped-drop_sender c.self.inside.core c.self.inside.senders c.self.inside.receivers.entries
-    c.self.inside.weak_senders c.self.inside.weak_receivers c.self.inside.operations.entries c.self.invariant
-    c.args.name fewer).whole
+    rw (c.drop_sender.ensures.after, c.remove.ensures.left) (
+      (stepped-drop_sender c.self.inside.core c.self.inside.senders c.self.inside.receivers.entries
+          c.self.inside.weak_senders c.self.inside.weak_receivers c.self.inside.operations.by_name.entries c.self.invariant.0
+          c.args.name fewer).whole,
+      c.self.invariant.1,
+    )
 
 pub returns : goal.returns
 returns g c =
     let run = shown c.self.inside.core c.self.inside.senders c.self.inside.receivers.entries c.self.inside.weak_senders
-    c.self.inside.weak_receivers c.self.inside.operations.entries in
+    c.self.inside.weak_receivers c.self.inside.operations.by_name.entries in
     let step = Step.DropSender c.args.name in
     let known : is_among c.args.name run.senders ≡ true = sym c.has.ensures ∙ c.if-not-has.false in
     let free : is_borrowed run step ≡ false =
-    list_any-shown (λ operation. borrows_sender c.args.name operation) c.self.inside.operations.entries
+    list_any-shown (λ operation. borrows_sender c.args.name operation) c.self.inside.operations.by_name.entries
     ∙ sym c.is_sender_borrowed.ensures ∙ c.if-is_sender_borrowed.false in
     let fewer : length c.self.inside.senders ≡ suc (length (without c.args.name c.self.inside.senders)) =
     rw (← c.remove.ensures.left) (c.remove.ensures.fewer known) in
     rw (← c.self.view_is, c.drop_sender.ensures.after, c.remove.ensures.left)
     (StepsTo-made run _ step _ (not_refused run step known refl free refl)
     (stepped-drop_sender c.self.inside.core c.self.inside.senders c.self.inside.receivers.entries
-    c.self.inside.weak_senders c.self.inside.weak_receivers c.self.inside.operations.entries c.self.invariant
+    c.self.inside.weak_senders c.self.inside.weak_receivers c.self.inside.operations.by_name.entries c.self.invariant.0
     c.args.name fewer).made)

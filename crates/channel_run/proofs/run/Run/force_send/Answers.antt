@@ -11,20 +11,22 @@ use Rattle.channel_run.proofs.run.Run.force_send.Goals.{in-Ok, in-Err}
 
 pub invariant_of-self : goal.invariant_of-self
 invariant_of-self g c = elim c.match-force_send.branch [
-  | in-Ok w ↦ rw w.in-Ok.ensures.after
-      (stepped-force_send c.self.inside.core c.self.inside.senders c.self.inside.receivers.entries
-      c.self.inside.weak_senders c.self.inside.weak_receivers c.self.inside.operations.entries c.self.invariant
-      c.args.sender c.args.message).whole
+  | in-Ok w ↦ rw w.in-Ok.ensures.after (
+    (stepped-force_send c.self.inside.core c.self.inside.senders c.self.inside.receivers.entries
+        c.self.inside.weak_senders c.self.inside.weak_receivers c.self.inside.operations.by_name.entries c.self.invariant.0
+        c.args.sender c.args.message).whole,
+    c.self.invariant.1,
+  )
   | in-Err w ↦ rw w.in-Err.ensures.unchanged c.self.invariant
 ]
 
 pub returns : goal.returns
 returns g c =
     let run = shown c.self.inside.core c.self.inside.senders c.self.inside.receivers.entries c.self.inside.weak_senders
-    c.self.inside.weak_receivers c.self.inside.operations.entries in
+    c.self.inside.weak_receivers c.self.inside.operations.by_name.entries in
     let step = Step.ForceSend c.args.sender c.args.message in
     let is = stepped-force_send c.self.inside.core c.self.inside.senders c.self.inside.receivers.entries
-    c.self.inside.weak_senders c.self.inside.weak_receivers c.self.inside.operations.entries c.self.invariant
+    c.self.inside.weak_senders c.self.inside.weak_receivers c.self.inside.operations.by_name.entries c.self.invariant.0
     c.args.sender c.args.message in
     let known : is_among c.args.sender c.self.inside.senders ≡ true = sym c.has.ensures ∙ c.if-not-has.false in
     let allowed = not_refused run step known refl refl refl in

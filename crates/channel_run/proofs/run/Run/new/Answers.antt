@@ -1,8 +1,10 @@
-use Rattle.std.proofs.Common.{◌≡◌, ◌∙◌, ◌+◌, ◌∷◌, ◌++◌, [], ℕ, Option, Some, None, sym, ap, length, subst}
+use Rattle.std.proofs.Common.{◌≡◌, ◌∙◌, ◌+◌, ◌∷◌, ℕ, Option, Some, None, sym, ap, length, subst}
 use Rattle.std.specs.Prelude.{List}
+use Rattle.channel_run.specs.declared.operations.Operation.{Operation as Started}
 use Rattle.channel_model.specs.Capacity.{capacity_of}
+use Rattle.channel_model.specs.View.{AreSameNames}
 use Rattle.channel_core.specs.Channel.{new_channel}
-use Rattle.channel_run.specs.RunShown.{Changed}
+use Rattle.channel_run.specs.RunShown.{AreCounted, Changed}
 use Rattle.channel_run.proofs.RunNew.{stands-new, whole-new}
 use Rattle.channel_run.proofs.RunTables.{when_ok}
 use Rattle.channel_run.proofs.run.Run.new.Goals as goal
@@ -19,8 +21,8 @@ invariant_of-result g c =
       | in-Unbounded w ↦ w.core-is ∙ w.unbounded-core.ensures
           ∙ sym (ap (λ k. new_channel (capacity_of k)) w.in-Unbounded.is)
     ] in
-    let senders : c.add.new.self ≡ 0 ∷ [] = c.in_ok-add.ensures.added
-    ∙ ap (λ (names : List ℕ). names ++ 0 ∷ []) c.new-senders.ensures in
+    let senders = subst (λ (names : List ℕ). AreSameNames c.add.new.self (0 ∷ names)) c.new-senders.ensures
+    c.in_ok-add.ensures.added in
     let first = when_ok c.put.result (Changed 0 c.new-receivers.result.entries c.put.new.entries.entries (Some None))
     (sym c.is_err.ensures.value ∙ c.if-is_err.false) c.put.ensures.added in
     let count = when_ok c.put.result (length c.put.new.entries.entries ≡ length c.new-receivers.result.entries + 1)
@@ -28,8 +30,12 @@ invariant_of-result g c =
     let change = subst (λ (entries : List (ℕ × Option ℕ)). Changed 0 entries c.put.new.entries.entries (Some None))
     c.new-receivers.ensures.empty first in
     let one = count ∙ ap (λ (entries : List (ℕ × Option ℕ)). length entries + 1) c.new-receivers.ensures.empty in
-    rw (core, senders, c.new-3.ensures.empty)
-    (whole-new g.row.T.Denot (Unit {0}) c.args.kind c.put.new.entries.entries change one (capacity_of c.args.kind))
+    rw (core, c.new-3.ensures.empty) (
+      whole-new g.row.T.Denot (Unit {0}) c.args.kind c.add.new.self senders c.put.new.entries.entries change one
+          (capacity_of c.args.kind),
+      subst (λ (operations : List (ℕ × Started g.row.T.Denot)). AreCounted c.new-3.result.by_sender
+          c.new-3.result.by_receiver operations) c.new-3.ensures.empty c.new-3.ensures.counted,
+    )
 
 pub returns : goal.returns
 returns g c =
@@ -39,8 +45,8 @@ returns g c =
       | in-Unbounded w ↦ w.core-is ∙ w.unbounded-core.ensures
           ∙ sym (ap (λ k. new_channel (capacity_of k)) w.in-Unbounded.is)
     ] in
-    let senders : c.add.new.self ≡ 0 ∷ [] = c.in_ok-add.ensures.added
-    ∙ ap (λ (names : List ℕ). names ++ 0 ∷ []) c.new-senders.ensures in
+    let senders = subst (λ (names : List ℕ). AreSameNames c.add.new.self (0 ∷ names)) c.new-senders.ensures
+    c.in_ok-add.ensures.added in
     let first = when_ok c.put.result (Changed 0 c.new-receivers.result.entries c.put.new.entries.entries (Some None))
     (sym c.is_err.ensures.value ∙ c.if-is_err.false) c.put.ensures.added in
     let count = when_ok c.put.result (length c.put.new.entries.entries ≡ length c.new-receivers.result.entries + 1)
@@ -48,5 +54,5 @@ returns g c =
     let change = subst (λ (entries : List (ℕ × Option ℕ)). Changed 0 entries c.put.new.entries.entries (Some None))
     c.new-receivers.ensures.empty first in
     let one = count ∙ ap (λ (entries : List (ℕ × Option ℕ)). length entries + 1) c.new-receivers.ensures.empty in
-    rw (core, senders, c.new.ensures, c.new-2.ensures, c.new-3.ensures.empty)
-    (stands-new g.row.T.Denot (Unit {0}) c.args.kind c.put.new.entries.entries change one c.requires)
+    rw (core, c.new.ensures, c.new-2.ensures, c.new-3.ensures.empty)
+    (stands-new g.row.T.Denot (Unit {0}) c.args.kind c.add.new.self senders c.put.new.entries.entries change one c.requires)

@@ -14,12 +14,12 @@ use Rattle.channel_run.proofs.run.Run.poll_next.Goals as goal
 pub returns-then-is_receiver_borrowed : goal.returns-then-is_receiver_borrowed
 returns-then-is_receiver_borrowed g c =
     let run = shown c.self.inside.core c.self.inside.senders c.self.inside.receivers.entries c.self.inside.weak_senders
-    c.self.inside.weak_receivers c.self.inside.operations.entries in
+    c.self.inside.weak_receivers c.self.inside.operations.by_name.entries in
     let step = Step.PollNext c.args.receiver in
     let known = ap (λ (r : View g.row.T.Denot). is_among c.args.receiver r.receivers) c.self.view_is
     ∙ sym c.has_receiver.ensures ∙ c.if-not-has_receiver.false in
     let borrowed : is_borrowed run step ≡ true =
-    list_any-shown (λ operation. borrows_receiver c.args.receiver operation) c.self.inside.operations.entries
+    list_any-shown (λ operation. borrows_receiver c.args.receiver operation) c.self.inside.operations.by_name.entries
     ∙ sym c.is_receiver_borrowed.ensures ∙ c.if-is_receiver_borrowed.true in
     rw (← c.self.view_is) (StepsTo-refused run run step Refusal.Borrowed _
     (borrowed_handle run step known refl borrowed) (IsRefused-unchanged run step Refusal.Borrowed))
@@ -27,12 +27,12 @@ returns-then-is_receiver_borrowed g c =
 pub returns : goal.returns
 returns g c =
     let run = shown c.self.inside.core c.self.inside.senders c.self.inside.receivers.entries c.self.inside.weak_senders
-    c.self.inside.weak_receivers c.self.inside.operations.entries in
+    c.self.inside.weak_receivers c.self.inside.operations.by_name.entries in
     let step = Step.PollNext c.args.receiver in
     let known = ap (λ (r : View g.row.T.Denot). is_among c.args.receiver r.receivers) c.self.view_is
     ∙ sym c.has_receiver.ensures ∙ c.if-not-has_receiver.false in
     let free : is_borrowed run step ≡ false =
-    list_any-shown (λ operation. borrows_receiver c.args.receiver operation) c.self.inside.operations.entries
+    list_any-shown (λ operation. borrows_receiver c.args.receiver operation) c.self.inside.operations.by_name.entries
     ∙ sym c.is_receiver_borrowed.ensures ∙ c.if-is_receiver_borrowed.false in
     StepsTo-allowed c.args.self.now _ step _
     (subst (λ (r : View g.row.T.Denot). refusal_in r step ≡ None) c.self.view_is

@@ -28,13 +28,13 @@ invariant_of-self-2 g c =
     let written = kept.3 (is_there _ _ was) in
     let change = changed c.args.receiver c.self.inside.receivers.entries entries (Some now) written.1 written.2 in
     let outcome = polled-stream c.self.inside.core c.self.inside.senders c.self.inside.receivers.entries entries
-    c.self.inside.weak_senders c.self.inside.weak_receivers c.self.inside.operations.entries c.self.invariant
+    c.self.inside.weak_senders c.self.inside.weak_receivers c.self.inside.operations.by_name.entries c.self.invariant.0
     c.args.receiver kept.1 kept.2 c.in-Some.ticket.now now was change
     c.poll_next.result c.poll_next.new.self tt c.poll_next.ensures.reply c.poll_next.ensures.after
     c.poll_next.ensures.finished c.poll_next.ensures.waits
     (first_on_err _ _ c.poll_next.result c.poll_next.ensures.unchanged) c.poll_next.ensures.unpolled
     c.poll_next.ensures.wanted in
-    outcome.whole
+    (outcome.whole, c.self.invariant.1)
 
 pub returns : goal.returns
 returns g c =
@@ -46,7 +46,7 @@ returns g c =
     let written = kept.3 (is_there _ _ was) in
     let change = changed c.args.receiver c.self.inside.receivers.entries entries (Some now) written.1 written.2 in
     let outcome = polled-stream c.self.inside.core c.self.inside.senders c.self.inside.receivers.entries entries
-    c.self.inside.weak_senders c.self.inside.weak_receivers c.self.inside.operations.entries c.self.invariant
+    c.self.inside.weak_senders c.self.inside.weak_receivers c.self.inside.operations.by_name.entries c.self.invariant.0
     c.args.receiver kept.1 kept.2 c.in-Some.ticket.now now was change
     c.poll_next.result c.poll_next.new.self tt c.poll_next.ensures.reply c.poll_next.ensures.after
     c.poll_next.ensures.finished c.poll_next.ensures.waits

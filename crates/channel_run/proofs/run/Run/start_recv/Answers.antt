@@ -14,34 +14,37 @@ use Rattle.channel_run.proofs.WholeSteps.{IsRefused-unchanged, StepsTo-made, Ste
 use Rattle.channel_run.proofs.run.Run.start_recv.Goals as goal
 use Rattle.channel_run.proofs.run.Run.start_recv.Goals.{in-Ok, in-Err}
 
-pub put-requires : goal.put-requires
-put-requires g c = nothing_at c.self.inside.operations.entries c.args.op
-    (sym (is_some-shown c.self.inside.operations.entries c.args.op)
+pub put-requires-clause-free : goal.put-requires-clause-free
+put-requires-clause-free g c = nothing_at c.self.inside.operations.by_name.entries c.args.op
+    (sym (is_some-shown c.self.inside.operations.by_name.entries c.args.op)
     ∙ ap (λ (r : View g.row.T.Denot). is_operation r c.args.op) c.self.view_is ∙ sym c.has_operation.ensures
     ∙ c.if-has_operation.false)
 
 pub invariant_of-self : goal.invariant_of-self
 invariant_of-self g c =
     let run = shown c.self.inside.core c.self.inside.senders c.self.inside.receivers.entries c.self.inside.weak_senders
-    c.self.inside.weak_receivers c.self.inside.operations.entries in
+    c.self.inside.weak_receivers c.self.inside.operations.by_name.entries in
     let fresh : is_operation run c.args.op ≡ false =
     ap (λ (r : View g.row.T.Denot). is_operation r c.args.op) c.self.view_is ∙ sym c.has_operation.ensures
     ∙ c.if-has_operation.false in
-    let absent = nothing_at c.self.inside.operations.entries c.args.op
-    (sym (is_some-shown c.self.inside.operations.entries c.args.op) ∙ fresh) in
+    let absent = nothing_at c.self.inside.operations.by_name.entries c.args.op
+    (sym (is_some-shown c.self.inside.operations.by_name.entries c.args.op) ∙ fresh) in
     elim c.match-put.branch [
-      | in-Ok w ↦ (stepped-started c.self.inside.core c.self.inside.senders c.self.inside.receivers.entries
-          c.self.inside.weak_senders c.self.inside.weak_receivers c.self.inside.operations.entries c.self.invariant
-          (Step.StartRecv c.args.op c.args.receiver) c.args.op
-          (Recv c.args.receiver None) c.put.new.entries.entries absent refl refl refl w.in-Ok.ensures.added
-          w.in-Ok.ensures.more (made-start_recv run c.args.op c.args.receiver fresh)).whole
-      | in-Err w ↦ rw w.in-Err.ensures.unchanged c.self.invariant
+      | in-Ok w ↦ (
+        (stepped-started c.self.inside.core c.self.inside.senders c.self.inside.receivers.entries
+            c.self.inside.weak_senders c.self.inside.weak_receivers c.self.inside.operations.by_name.entries c.self.invariant.0
+            (Step.StartRecv c.args.op c.args.receiver) c.args.op
+            (Recv c.args.receiver None) c.put.new.self.by_name.entries absent refl refl refl w.in-Ok.ensures.added
+            w.in-Ok.ensures.more (made-start_recv run c.args.op c.args.receiver fresh)).whole,
+        c.put.ensures.counted,
+      )
+      | in-Err w ↦ (rw w.in-Err.ensures.unchanged c.self.invariant.0, c.put.ensures.counted)
     ]
 
 pub returns : goal.returns
 returns g c =
     let run = shown c.self.inside.core c.self.inside.senders c.self.inside.receivers.entries c.self.inside.weak_senders
-    c.self.inside.weak_receivers c.self.inside.operations.entries in
+    c.self.inside.weak_receivers c.self.inside.operations.by_name.entries in
     let step = Step.StartRecv c.args.op c.args.receiver in
     let known : is_among c.args.receiver run.receivers ≡ true =
     ap (λ (r : View g.row.T.Denot). is_among c.args.receiver r.receivers) c.self.view_is
@@ -49,15 +52,15 @@ returns g c =
     let fresh : is_operation run c.args.op ≡ false =
     ap (λ (r : View g.row.T.Denot). is_operation r c.args.op) c.self.view_is ∙ sym c.has_operation.ensures
     ∙ c.if-has_operation.false in
-    let absent = nothing_at c.self.inside.operations.entries c.args.op
-    (sym (is_some-shown c.self.inside.operations.entries c.args.op) ∙ fresh) in
+    let absent = nothing_at c.self.inside.operations.by_name.entries c.args.op
+    (sym (is_some-shown c.self.inside.operations.by_name.entries c.args.op) ∙ fresh) in
     let allowed = not_refused run step known fresh refl refl in
     elim c.match-put.branch [
       | in-Ok w ↦ rw (← c.self.view_is, w.result-is)
           (StepsTo-made run _ step _ allowed (stepped-started c.self.inside.core c.self.inside.senders
           c.self.inside.receivers.entries c.self.inside.weak_senders c.self.inside.weak_receivers
-          c.self.inside.operations.entries c.self.invariant step c.args.op
-          (Recv c.args.receiver None) c.put.new.entries.entries absent refl refl refl w.in-Ok.ensures.added
+          c.self.inside.operations.by_name.entries c.self.invariant.0 step c.args.op
+          (Recv c.args.receiver None) c.put.new.self.by_name.entries absent refl refl refl w.in-Ok.ensures.added
           w.in-Ok.ensures.more (made-start_recv run c.args.op c.args.receiver fresh)).made)
       | in-Err w ↦ rw (← c.self.view_is, w.result-is, w.in-Err.ensures.unchanged)
           (StepsTo-wants run run step _ (wants-name run step allowed refl)

@@ -9,17 +9,19 @@ use Rattle.channel_run.proofs.run.Run.try_recv.Goals as goal
 
 pub invariant_of-self : goal.invariant_of-self
 invariant_of-self g c =
-    rw c.try_recv.ensures.after
-    (stepped-try_recv c.self.inside.core c.self.inside.senders c.self.inside.receivers.entries
-    c.self.inside.weak_senders c.self.inside.weak_receivers c.self.inside.operations.entries c.self.invariant
-    c.args.receiver).whole
+    rw c.try_recv.ensures.after (
+      (stepped-try_recv c.self.inside.core c.self.inside.senders c.self.inside.receivers.entries
+          c.self.inside.weak_senders c.self.inside.weak_receivers c.self.inside.operations.by_name.entries c.self.invariant.0
+          c.args.receiver).whole,
+      c.self.invariant.1,
+    )
 
 pub returns : goal.returns
 returns g c =
     let run = shown c.self.inside.core c.self.inside.senders c.self.inside.receivers.entries c.self.inside.weak_senders
-    c.self.inside.weak_receivers c.self.inside.operations.entries in
+    c.self.inside.weak_receivers c.self.inside.operations.by_name.entries in
     let is = stepped-try_recv c.self.inside.core c.self.inside.senders c.self.inside.receivers.entries
-    c.self.inside.weak_senders c.self.inside.weak_receivers c.self.inside.operations.entries c.self.invariant
+    c.self.inside.weak_senders c.self.inside.weak_receivers c.self.inside.operations.by_name.entries c.self.invariant.0
     c.args.receiver in
     let known = ap (λ (r : View g.row.T.Denot). is_among c.args.receiver r.receivers) c.self.view_is
     ∙ sym c.has_receiver.ensures ∙ c.if-not-has_receiver.false in

@@ -24,7 +24,7 @@ pub invariant_of-self-2 : goal.invariant_of-self-2
 invariant_of-self-2 g c =
     let opened : c.self.inside.core.closed ≡ false = sym c.is_closed.ensures ∙ c.if-is_closed.false in
     let run = shown c.self.inside.core c.self.inside.senders c.self.inside.receivers.entries c.self.inside.weak_senders
-    c.self.inside.weak_receivers c.self.inside.operations.entries in
+    c.self.inside.weak_receivers c.self.inside.operations.by_name.entries in
     let absent = nothing_at c.self.inside.receivers.entries c.args.new
     (is_among-entry_at c.self.inside.receivers.entries c.args.new
     ∙ ap (λ (r : View g.row.T.Denot). is_among c.args.new r.receivers) c.self.view_is
@@ -34,7 +34,7 @@ invariant_of-self-2 g c =
     let more = when_ok c.put.result (length c.put.new.entries.entries ≡ length c.self.inside.receivers.entries + 1)
     (sym c.is_err.ensures.value ∙ c.if-is_err.false) c.put.ensures.more in
     let is = stepped-receiver c.self.inside.core c.self.inside.senders c.self.inside.receivers.entries
-    c.self.inside.weak_senders c.self.inside.weak_receivers c.self.inside.operations.entries c.self.invariant
+    c.self.inside.weak_senders c.self.inside.weak_receivers c.self.inside.operations.by_name.entries c.self.invariant.0
     (Step.UpgradeReceiver c.args.of c.args.new)
     (Reply.Upgraded true) c.args.new c.put.new.entries.entries absent change more
     (made-upgrade_receiver run c.args.of c.args.new opened) in
@@ -44,13 +44,13 @@ invariant_of-self-2 g c =
     ∙ ap (λ count. record c.self.inside.core { receivers = count })
     (ap (λ answer. count_upgraded answer c.self.inside.core.receivers) c.upgrade_receiver.ensures.reply ∙ upgraded)
     in
-    rw after is.whole
+    rw after (is.whole, c.self.invariant.1)
 
 pub returns : goal.returns
 returns g c =
     let opened : c.self.inside.core.closed ≡ false = sym c.is_closed.ensures ∙ c.if-is_closed.false in
     let run = shown c.self.inside.core c.self.inside.senders c.self.inside.receivers.entries c.self.inside.weak_senders
-    c.self.inside.weak_receivers c.self.inside.operations.entries in
+    c.self.inside.weak_receivers c.self.inside.operations.by_name.entries in
     let absent = nothing_at c.self.inside.receivers.entries c.args.new
     (is_among-entry_at c.self.inside.receivers.entries c.args.new
     ∙ ap (λ (r : View g.row.T.Denot). is_among c.args.new r.receivers) c.self.view_is
@@ -60,7 +60,7 @@ returns g c =
     let more = when_ok c.put.result (length c.put.new.entries.entries ≡ length c.self.inside.receivers.entries + 1)
     (sym c.is_err.ensures.value ∙ c.if-is_err.false) c.put.ensures.more in
     let is = stepped-receiver c.self.inside.core c.self.inside.senders c.self.inside.receivers.entries
-    c.self.inside.weak_senders c.self.inside.weak_receivers c.self.inside.operations.entries c.self.invariant
+    c.self.inside.weak_senders c.self.inside.weak_receivers c.self.inside.operations.by_name.entries c.self.invariant.0
     (Step.UpgradeReceiver c.args.of c.args.new)
     (Reply.Upgraded true) c.args.new c.put.new.entries.entries absent change more
     (made-upgrade_receiver run c.args.of c.args.new opened) in
@@ -71,7 +71,7 @@ returns g c =
     (rw (← c.receiver_count.ensures) c.if-receiver_count-gt-HANDLE_LIMIT.false) in
     let counted : nat_lt handle_limit (length run.receivers) ≡ false =
     ap (λ count. nat_lt handle_limit count) (length-map c.self.inside.receivers.entries (λ e. e.0)
-    ∙ sym c.self.invariant.count_receivers) ∙ few in
+    ∙ sym c.self.invariant.0.count_receivers) ∙ few in
     let upgraded = upgraded-count c.self.inside.core.closed c.self.inside.core.receivers opened
     (rw (← c.receiver_count.ensures) c.if-receiver_count-gt-HANDLE_LIMIT.false) in
     let after = c.upgrade_receiver.ensures.after

@@ -9,9 +9,9 @@ overflow_add-result g c =
     let p = c.len-operations.ensures.small in
     let r = c.len-receivers.ensures.len in
     let s = c.len-receivers.ensures.small in
-    let few = few_waiting run.core run.senders run.receivers.entries run.operations.entries c.self.invariant
+    let few = few_waiting run.core run.senders run.receivers.entries run.operations.by_name.entries c.self.invariant.0
     (omega arith) (omega arith) in
-    let count = count_waiting run.core run.senders run.receivers.entries run.operations.entries c.self.invariant in
+    let count = count_waiting run.core run.senders run.receivers.entries run.operations.by_name.entries c.self.invariant.0 in
     let w1 = c.waiting.ensures.count in
     let w2 = c.waiting-2.ensures.count in
     omega arith
@@ -23,9 +23,9 @@ overflow_add-result-2 g c =
     let p = c.len-operations.ensures.small in
     let r = c.len-receivers.ensures.len in
     let s = c.len-receivers.ensures.small in
-    let few = few_waiting run.core run.senders run.receivers.entries run.operations.entries c.self.invariant
+    let few = few_waiting run.core run.senders run.receivers.entries run.operations.by_name.entries c.self.invariant.0
     (omega arith) (omega arith) in
-    let count = count_waiting run.core run.senders run.receivers.entries run.operations.entries c.self.invariant in
+    let count = count_waiting run.core run.senders run.receivers.entries run.operations.by_name.entries c.self.invariant.0 in
     let w1 = c.waiting.ensures.count in
     let w2 = c.waiting-2.ensures.count in
     let w3 = c.waiting-3.ensures.count in
@@ -38,9 +38,9 @@ overflow_add-result-3 g c =
     let p = c.len-operations.ensures.small in
     let r = c.len-receivers.ensures.len in
     let s = c.len-receivers.ensures.small in
-    let few = few_waiting run.core run.senders run.receivers.entries run.operations.entries c.self.invariant
+    let few = few_waiting run.core run.senders run.receivers.entries run.operations.by_name.entries c.self.invariant.0
     (omega arith) (omega arith) in
-    let count = count_waiting run.core run.senders run.receivers.entries run.operations.entries c.self.invariant in
+    let count = count_waiting run.core run.senders run.receivers.entries run.operations.by_name.entries c.self.invariant.0 in
     let w1 = c.waiting.ensures.count in
     let w2 = c.waiting-2.ensures.count in
     let w3 = c.waiting-3.ensures.count in
@@ -50,7 +50,7 @@ overflow_add-result-3 g c =
 pub returns : goal.returns
 returns g c =
     let run = c.self.inside in
-    let count = count_waiting run.core run.senders run.receivers.entries run.operations.entries c.self.invariant in
+    let count = count_waiting run.core run.senders run.receivers.entries run.operations.by_name.entries c.self.invariant.0 in
     let w1 = c.waiting.ensures.count in
     let w2 = c.waiting-2.ensures.count in
     let w3 = c.waiting-3.ensures.count in

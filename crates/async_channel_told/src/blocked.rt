@@ -1,0 +1,195 @@
+//! Whom each call tells where threads are blocked: the longest waiting one ends with its answer,
+//! and the other one waits on.
+use crate::scene::{Answer, Call, Ends};
+use crate::waiting::{are_waiting, channel, waiting};
+use Answer::*;
+use Call::*;
+use async_channel::{Group, RecvError, SendError, TryRecvError, TrySendError};
+use futures::task::Poll;
+use futures::test::MockTask;
+use std::alloc::AllocGlobal;
+use std::process::Abort;
+use std::random::RandomSource;
+use std::sync::Wait;
+use std::test::Fail;
+use std::thread;
+use std::thread::Threads;
+
+/// A call, what it answers, and what the blocked call then gives that waits longest.
+type Case = (Call, Answer, Answer);
+
+/// Blocks two threads in a receive, one after the other, and ends each by a call.
+fn receives<R>(rt: &R, first: Case, second: Case) -> Result<(), Fail>
+where
+    R: Threads + Wait + Clone + Drop + RandomSource + AllocGlobal + Abort,
+    R: std::marker::Send + Sync + 'static,
+{
+    for capacity in [Some(1), None] {
+        let (s, r) = channel(rt, rt.alloc(), capacity)?;
+        let (weak, one, other) = (s.downgrade()?, r.try_clone()?, r.try_clone()?);
+        let one = thread::spawn(rt, move || one.recv_blocking().map(Got))?;
+        assert!(rt; are_waiting(&weak, Group::Receives, 1));
+        let other = thread::spawn(rt, move || other.recv_blocking().map(Got))?;
+        assert!(rt; are_waiting(&weak, Group::Receives, 2));
+        let mut ends = Ends::new(s, r);
+        let (call, answer, gives) = &first;
+        assert_eq!(rt; ends.answer(rt, *call)?, *answer);
+        assert_eq!(rt; one.join(rt)?, *gives);
+        let (call, answer, gives) = &second;
+        assert_eq!(rt; ends.answer(rt, *call)?, *answer);
+        assert_eq!(rt; other.join(rt)?, *gives);
+        assert_eq!(rt; waiting(&weak), [0; 4]);
+    }
+    Ok(())
+}
+
+/// Blocks two threads in sends of 2 and 3 into a channel full with 1, and ends each by a call.
+fn sends<R>(rt: &R, first: Case, second: Case) -> Result<(), Fail>
+where
+    R: Threads + Wait + Clone + Drop + RandomSource + AllocGlobal + Abort,
+    R: std::marker::Send + Sync + 'static,
+{
+    let (s, r) = channel(rt, rt.alloc(), Some(1))?;
+    assert_eq!(rt; s.try_send(1u64)?, Ok(()));
+    let (weak, one, other) = (s.downgrade()?, s.try_clone()?, s.try_clone()?);
+    let one = thread::spawn(rt, move || one.send_blocking(2).map(Sent))?;
+    assert!(rt; are_waiting(&weak, Group::Sends, 1));
+    let other = thread::spawn(rt, move || other.send_blocking(3).map(Sent))?;
+    assert!(rt; are_waiting(&weak, Group::Sends, 2));
+    let mut ends = Ends::new(s, r);
+    let (call, answer, gives) = first;
+    assert_eq!(rt; ends.answer(rt, call)?, answer);
+    assert_eq!(rt; one.join(rt)?, gives);
+    let (call, answer, gives) = second;
+    assert_eq!(rt; ends.answer(rt, call)?, answer);
+    assert_eq!(rt; other.join(rt)?, gives);
+    assert_eq!(rt; waiting(&weak), [0; 4]);
+    Ok(())
+}
+
+#[test]
+fn a_message_ends_the_longest_blocked_receive(rt: HostRuntime) -> Result<(), Fail> {
+    receives(
+        &rt,
+        (TrySend(7), TrySent(Ok(())), Got(Ok(7))),
+        (ForceSend(8), Forced(Ok(None)), Got(Ok(8))),
+    )?;
+    receives(
+        &rt,
+        (Send(7), Sent(Ok(())), Got(Ok(7))),
+        (SendBlocking(8), Sent(Ok(())), Got(Ok(8))),
+    )
+}
+
+#[test]
+fn a_close_ends_all_blocked_receives(rt: HostRuntime) -> Result<(), Fail> {
+    receives(
+        &rt,
+        (CloseSender, Flag(true), Got(Err(RecvError))),
+        (CloseReceiver, Flag(false), Got(Err(RecvError))),
+    )?;
+    receives(
+        &rt,
+        (CloseReceiver, Flag(true), Got(Err(RecvError))),
+        (CloseSender, Flag(false), Got(Err(RecvError))),
+    )?;
+    receives(
+        &rt,
+        (DropSender, Done, Got(Err(RecvError))),
+        (
+            TryRecv,
+            Received(Err(TryRecvError::Closed)),
+            Got(Err(RecvError)),
+        ),
+    )
+}
+
+#[test]
+fn a_taken_message_ends_the_longest_blocked_send(rt: HostRuntime) -> Result<(), Fail> {
+    sends(
+        &rt,
+        (TryRecv, Received(Ok(1)), Sent(Ok(()))),
+        (Recv, Got(Ok(2)), Sent(Ok(()))),
+    )?;
+    sends(
+        &rt,
+        (Next, Item(Some(1)), Sent(Ok(()))),
+        (RecvBlocking, Got(Ok(2)), Sent(Ok(()))),
+    )
+}
+
+#[test]
+fn a_close_ends_all_blocked_sends(rt: HostRuntime) -> Result<(), Fail> {
+    sends(
+        &rt,
+        (CloseSender, Flag(true), Sent(Err(SendError(2)))),
+        (CloseReceiver, Flag(false), Sent(Err(SendError(3)))),
+    )?;
+    sends(
+        &rt,
+        (CloseReceiver, Flag(true), Sent(Err(SendError(2)))),
+        (TryRecv, Received(Ok(1)), Sent(Err(SendError(3)))),
+    )?;
+    sends(
+        &rt,
+        (DropReceiver, Done, Sent(Err(SendError(2)))),
+        (
+            TrySend(4),
+            TrySent(Err(TrySendError::Closed(4))),
+            Sent(Err(SendError(3))),
+        ),
+    )
+}
+
+#[test]
+fn a_task_hands_its_notice_to_a_blocked_receive(rt: HostRuntime) -> Result<(), Fail> {
+    let (s, r) = channel(&rt, rt.alloc(), None)?;
+    let (task, weak, other) = (MockTask::new(&rt)?, s.downgrade()?, r.try_clone()?);
+    let mut recv = r.recv();
+    assert!(rt; matches!(&task.poll(&mut recv), Poll::Pending));
+    let thread = thread::spawn(&rt, move || other.recv_blocking())?;
+    assert!(rt; are_waiting(&weak, Group::Receives, 2));
+    assert_eq!(rt; s.try_send(7u64)?, Ok(()));
+    assert!(rt; task.is_woken());
+    drop(recv);
+    assert_eq!(rt; thread.join(&rt), Ok(Ok(7)));
+    assert_eq!(rt; waiting(&weak), [0; 4]);
+    Ok(())
+}
+
+#[test]
+fn a_blocked_receive_is_told_before_a_task(rt: HostRuntime) -> Result<(), Fail> {
+    let (s, r) = channel(&rt, rt.alloc(), Some(1))?;
+    let (task, weak, other) = (MockTask::new(&rt)?, s.downgrade()?, r.try_clone()?);
+    let thread = thread::spawn(&rt, move || other.recv_blocking())?;
+    assert!(rt; are_waiting(&weak, Group::Receives, 1));
+    let mut recv = r.recv();
+    assert!(rt; matches!(&task.poll(&mut recv), Poll::Pending));
+    assert_eq!(rt; s.try_send(7u64)?, Ok(()));
+    assert_eq!(rt; thread.join(&rt), Ok(Ok(7)));
+    assert!(rt; !task.is_woken());
+    assert_eq!(rt; s.try_send(8)?, Ok(()));
+    assert!(rt; task.is_woken());
+    assert!(rt; matches!(&task.poll(&mut recv), Poll::Ready(Ok(Ok(8)))));
+    assert_eq!(rt; waiting(&weak), [0; 4]);
+    Ok(())
+}
+
+#[test]
+fn a_blocked_send_is_told_before_a_task(rt: HostRuntime) -> Result<(), Fail> {
+    let (s, r) = channel(&rt, rt.alloc(), Some(1))?;
+    assert_eq!(rt; s.try_send(1u64)?, Ok(()));
+    let (task, weak, other) = (MockTask::new(&rt)?, s.downgrade()?, s.try_clone()?);
+    let thread = thread::spawn(&rt, move || other.send_blocking(2))?;
+    assert!(rt; are_waiting(&weak, Group::Sends, 1));
+    let mut send = s.send(3);
+    assert!(rt; matches!(&task.poll(&mut send), Poll::Pending));
+    assert_eq!(rt; r.try_recv(), Ok(1));
+    assert_eq!(rt; thread.join(&rt), Ok(Ok(())));
+    assert!(rt; !task.is_woken());
+    assert_eq!(rt; r.try_recv(), Ok(2));
+    assert!(rt; task.is_woken());
+    assert_eq!(rt; send.into_msg(), Some(3));
+    assert_eq!(rt; waiting(&weak), [0; 4]);
+    Ok(())
+}

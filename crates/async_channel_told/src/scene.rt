@@ -1,0 +1,294 @@
+//! Rows of calls at a channel where others wait: each call with its answer, and with the numbers of
+//! those that are woken after it and weren't polled since.
+use crate::waiting::{channel, waiting};
+use async_channel::{
+    Closed, Receiver, Recv, RecvError, Send, SendError, Sender, TryRecvError, TrySendError,
+};
+use futures::Stream;
+use futures::task::Poll;
+use futures::test::MockTask;
+use std::alloc::AllocGlobal;
+use std::process::Abort;
+use std::random::RandomSource;
+use std::sync::Wait;
+use std::test::Fail;
+
+/// What a task waits in.
+#[derive(Clone, Copy, Debug, PartialEq, Eq)]
+pub enum Kind {
+    Sending(u64),
+    Receiving,
+    Streaming,
+    AwaitingClose,
+}
+
+/// A call of the handles that nobody waits on, or of the one that waits by that number.
+#[derive(Clone, Copy, Debug)]
+pub enum Call {
+    TrySend(u64),
+    ForceSend(u64),
+    Send(u64),
+    SendBlocking(u64),
+    TryRecv,
+    Recv,
+    Next,
+    RecvBlocking,
+    AwaitClosed,
+    CloseSender,
+    CloseReceiver,
+    DropSender,
+    DropReceiver,
+    CopyAndDrop,
+    Poll(usize),
+    GiveUp(usize),
+    IntoMsg(usize),
+}
+
+/// What a call answers. `Pending` is the answer of each poll that can't go on.
+#[derive(Debug, Drop, PartialEq, Eq)]
+pub enum Answer {
+    Pending,
+    TrySent(Result<(), TrySendError<u64>>),
+    Forced(Result<Option<u64>, SendError<u64>>),
+    Sent(Result<(), SendError<u64>>),
+    Received(Result<u64, TryRecvError>),
+    Got(Result<u64, RecvError>),
+    Item(Option<u64>),
+    Flag(bool),
+    Message(Option<u64>),
+    Ended,
+    Done,
+}
+
+/// A call, what it answers, and who is woken after it.
+pub type Row<'a> = (Call, Answer, &'a [usize]);
+
+#[derive(Drop)]
+enum Waiter<'a, R: Wait + Clone + Drop> {
+    Sending(Send<'a, u64, R>),
+    Receiving(Recv<'a, u64, R>),
+    Streaming(Receiver<u64, R>),
+    AwaitingClose(Closed<'a, u64, R>),
+}
+
+/// One that waits, until it is dropped, with a task of its own.
+#[derive(Drop)]
+struct Watched<'a, R: Wait + Clone + Drop> {
+    task: MockTask,
+    waiter: Option<Waiter<'a, R>>,
+}
+
+/// The handles that nobody waits on, until they are dropped.
+#[derive(Drop)]
+pub struct Ends<R: Wait + Clone + Drop> {
+    sender: Option<Sender<u64, R>>,
+    receiver: Option<Receiver<u64, R>>,
+}
+
+impl<R: Wait + Clone + Drop> Waiter<'_, R> {
+    fn poll(&mut self, task: &MockTask) -> Result<Answer, Fail> {
+        Ok(match self {
+            Waiter::Sending(send) => match task.poll(send) {
+                Poll::Ready(sent) => Answer::Sent(sent?),
+                Poll::Pending => Answer::Pending,
+            },
+            Waiter::Receiving(recv) => match task.poll(recv) {
+                Poll::Ready(received) => Answer::Got(received?),
+                Poll::Pending => Answer::Pending,
+            },
+            Waiter::Streaming(receiver) => next(task, receiver)?,
+            Waiter::AwaitingClose(closed) => match task.poll(closed) {
+                Poll::Ready(ended) => {
+                    ended?;
+                    Answer::Ended
+                }
+                Poll::Pending => Answer::Pending,
+            },
+        })
+    }
+}
+
+fn next<R: Wait + Clone + Drop>(
+    task: &MockTask,
+    receiver: &mut Receiver<u64, R>,
+) -> Result<Answer, Fail> {
+    match task.enter(|cx| receiver.poll_next(cx)) {
+        Poll::Ready(Some(item)) => Ok(Answer::Item(Some(item?))),
+        Poll::Ready(None) => Ok(Answer::Item(None)),
+        Poll::Pending => Ok(Answer::Pending),
+    }
+}
+
+impl<R: Wait + Clone + Drop> Watched<'_, R> {
+    fn answer(&mut self, call: Call) -> Result<Answer, Fail> {
+        match call {
+            Call::Poll(_) => {
+                let waiter = self.waiter.as_mut().ok_or("one that waits")?;
+                waiter.poll(&self.task)
+            }
+            Call::IntoMsg(_) => match self.waiter.take() {
+                Some(Waiter::Sending(send)) => Ok(Answer::Message(send.into_msg())),
+                _ => Err("a send".into()),
+            },
+            _ => {
+                self.waiter = None;
+                Ok(Answer::Done)
+            }
+        }
+    }
+
+    fn is_woken(&self) -> bool {
+        self.waiter.is_some() && self.task.is_woken()
+    }
+}
+
+impl<R: Wait + Clone + Drop + RandomSource + AllocGlobal> Ends<R> {
+    pub fn new(sender: Sender<u64, R>, receiver: Receiver<u64, R>) -> Self {
+        Ends {
+            sender: Some(sender),
+            receiver: Some(receiver),
+        }
+    }
+
+    pub fn answer(&mut self, rt: &R, call: Call) -> Result<Answer, Fail> {
+        match call {
+            Call::DropSender => self.sender = None,
+            Call::DropReceiver => self.receiver = None,
+            Call::CopyAndDrop => return self.copy_and_drop(),
+            Call::TryRecv | Call::Recv | Call::Next | Call::RecvBlocking | Call::CloseReceiver => {
+                let receiver = self.receiver.as_mut().ok_or("a receiver")?;
+                return received(rt, receiver, call);
+            }
+            _ => {
+                let sender = self.sender.as_ref().ok_or("a sender")?;
+                return sent(rt, sender, call);
+            }
+        }
+        Ok(Answer::Done)
+    }
+
+    /// Copies both handles, makes weak ones and upgrades them, and gives all of these up.
+    fn copy_and_drop(&self) -> Result<Answer, Fail> {
+        let sender = self.sender.as_ref().ok_or("a sender")?;
+        let receiver = self.receiver.as_ref().ok_or("a receiver")?;
+        drop((sender.try_clone()?, receiver.try_clone()?));
+        drop((
+            sender.downgrade()?.upgrade()?,
+            receiver.downgrade()?.upgrade()?,
+        ));
+        Ok(Answer::Done)
+    }
+}
+
+fn sent<R: Wait + Clone + Drop + RandomSource + AllocGlobal>(
+    rt: &R,
+    sender: &Sender<u64, R>,
+    call: Call,
+) -> Result<Answer, Fail> {
+    let task = MockTask::new(rt)?;
+    Ok(match call {
+        Call::TrySend(m) => Answer::TrySent(sender.try_send(m)?),
+        Call::ForceSend(m) => Answer::Forced(sender.force_send(m)?),
+        Call::Send(m) => Waiter::Sending(sender.send(m)).poll(&task)?,
+        Call::SendBlocking(m) => Answer::Sent(sender.send_blocking(m)?),
+        Call::AwaitClosed => Waiter::AwaitingClose(sender.closed()).poll(&task)?,
+        _ => Answer::Flag(sender.close()),
+    })
+}
+
+fn received<R: Wait + Clone + Drop + RandomSource + AllocGlobal>(
+    rt: &R,
+    receiver: &mut Receiver<u64, R>,
+    call: Call,
+) -> Result<Answer, Fail> {
+    let task = MockTask::new(rt)?;
+    Ok(match call {
+        Call::TryRecv => Answer::Received(receiver.try_recv()),
+        Call::Recv => Waiter::Receiving(receiver.recv()).poll(&task)?,
+        Call::Next => next(&task, receiver)?,
+        Call::RecvBlocking => Answer::Got(receiver.recv_blocking()?),
+        _ => Answer::Flag(receiver.close()),
+    })
+}
+
+/// Starts one that waits.
+fn start<'a, R: Wait + Clone + Drop + RandomSource + AllocGlobal + Abort>(
+    rt: &R,
+    kind: Kind,
+    sender: Option<&'a Sender<u64, R>>,
+    receiver: Option<&'a Receiver<u64, R>>,
+) -> Result<Watched<'a, R>, Fail> {
+    let task = MockTask::new(rt)?;
+    let mut waiter = match kind {
+        Kind::Sending(m) => Waiter::Sending(sender.ok_or("a sender")?.send(m)),
+        Kind::Receiving => Waiter::Receiving(receiver.ok_or("a receiver")?.recv()),
+        Kind::Streaming => Waiter::Streaming(receiver.ok_or("a receiver")?.try_clone()?),
+        Kind::AwaitingClose => Waiter::AwaitingClose(sender.ok_or("a sender")?.closed()),
+    };
+    let first = waiter.poll(&task)?;
+    assert!(rt; first == Answer::Pending, "{kind:?} answers {first:?}");
+    Ok(Watched {
+        task,
+        waiter: Some(waiter),
+    })
+}
+
+/// The numbers of those that are woken.
+fn woken<R: Wait + Clone + Drop + AllocGlobal>(
+    rt: &R,
+    watched: &[Watched<'_, R>],
+) -> Result<Vec<usize>, Fail> {
+    let mut numbers = Vec::new(rt.alloc());
+    for (number, one) in watched.iter().enumerate() {
+        if one.is_woken() {
+            numbers.push(number)?;
+        }
+    }
+    Ok(numbers)
+}
+
+/// Makes the calls in order where those of the list wait. Those on a side that the list doesn't
+/// need are the last handles of that side.
+pub fn run<R: Wait + Clone + Drop + RandomSource + AllocGlobal + Abort>(
+    rt: &R,
+    capacity: Option<usize>,
+    held: &[u64],
+    kinds: &[Kind],
+    rows: &[Row<'_>],
+) -> Result<(), Fail> {
+    let (s, r) = channel(rt, rt.alloc(), capacity)?;
+    for m in held {
+        assert_eq!(rt; s.try_send(*m)?, Ok(()));
+    }
+    let (mut own_sender, mut own_receiver) = (None, None);
+    for kind in kinds {
+        match kind {
+            Kind::Sending(_) | Kind::AwaitingClose => own_sender = Some(s.try_clone()?),
+            Kind::Receiving | Kind::Streaming => own_receiver = Some(r.try_clone()?),
+        }
+    }
+    let mut watched = Vec::new(rt.alloc());
+    for kind in kinds {
+        watched.push(start(rt, *kind, own_sender.as_ref(), own_receiver.as_ref())?)?;
+    }
+    let observer = s.downgrade()?;
+    let mut ends = Ends::new(s, r);
+    for (call, want, told) in rows {
+        let got = match *call {
+            Call::Poll(number) | Call::GiveUp(number) | Call::IntoMsg(number) => {
+                watched
+                    .get_mut(number)
+                    .ok_or("one that waits")?
+                    .answer(*call)?
+            }
+            _ => ends.answer(rt, *call)?,
+        };
+        assert!(rt; got == *want, "{call:?} answers {got:?}");
+        let now = woken(rt, &watched)?;
+        assert!(rt; now.as_slice() == *told, "{call:?} wakes {now:?}");
+    }
+    drop(watched);
+    drop(ends);
+    assert_eq!(rt; waiting(&observer), [0; 4]);
+    Ok(())
+}

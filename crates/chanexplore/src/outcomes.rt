@@ -1,0 +1,132 @@
+//! The outcomes of orders, and how many orders lead to each.
+
+use crate::plan::Plan;
+use channel_model::OutOfMemory;
+use channel_orders::party::{Answer, Turn};
+use channel_orders::search::Visitor;
+use chanrun::reply_text::{NoticeText, ReplyText};
+use std::alloc::{AllocError, Global};
+use std::collections::BTreeMap;
+
+/// What is known of an outcome.
+#[derive(Drop)]
+pub struct Tally {
+    /// The outcome's number, from 0, in the order in which outcomes first came.
+    pub number: usize,
+    /// How many orders lead to it.
+    pub count: u64,
+    /// The first of them: the party and the line of each turn.
+    pub first: Vec<(usize, usize)>,
+}
+
+/// The outcomes of the orders so far.
+#[derive(Drop)]
+pub struct Outcomes {
+    alloc: Global,
+    // for each party how many lines the parties before it have
+    starts: Vec<usize>,
+    // how many lines all parties have
+    lines: usize,
+    // each outcome by the last answer to each line, party by party, each with a line end; nothing
+    // stands before the line end where a line wasn't reached
+    tallies: BTreeMap<String, Tally>,
+}
+
+// The text of an answer, as `chanrun` writes it.
+fn answer_text(alloc: Global, answer: Answer) -> Result<String, AllocError> {
+    match answer {
+        Answer::Replied(reply) => format!(in alloc; "{}", ReplyText(reply)),
+        Answer::Noticed(notice) => format!(in alloc; "{}", NoticeText(notice)),
+    }
+}
+
+// The party and the line of each turn.
+fn spots_of(alloc: Global, order: &[Turn]) -> Result<Vec<(usize, usize)>, AllocError> {
+    order
+        .iter()
+        .map(|turn| (turn.party, turn.line))
+        .collect(alloc)
+}
+
+impl Outcomes {
+    /// No order was made yet.
+    pub fn new(alloc: Global, plan: &Plan) -> Result<Outcomes, AllocError> {
+        let mut starts = Vec::new(alloc);
+        let mut lines: usize = 0;
+        for party in plan.parties.iter() {
+            starts.push(lines)?;
+            lines = lines.saturating_add(party.len());
+        }
+        Ok(Outcomes {
+            alloc,
+            starts,
+            lines,
+            tallies: BTreeMap::new(alloc),
+        })
+    }
+
+    /// Each outcome's answers and what is known of it, in the order in which they first came.
+    pub fn into_list(self) -> Result<Vec<(String, Tally)>, AllocError> {
+        let mut list = Vec::new(self.alloc);
+        for outcome in self.tallies {
+            list.push(outcome)?;
+        }
+        list.sort_by_key(|outcome: &(String, Tally)| outcome.1.number)?;
+        Ok(list)
+    }
+
+    // The last answer to each line.
+    fn last_answers(&self, order: Vec<Turn>) -> Result<Vec<Option<Answer>>, AllocError> {
+        let mut last = Vec::new(self.alloc);
+        for _ in 0..self.lines {
+            last.push(None)?;
+        }
+        for turn in order {
+            let start = self.starts.get(turn.party).copied().unwrap_or(0);
+            if let Some(answer) = last.get_mut(start.saturating_add(turn.line)) {
+                *answer = Some(turn.answer);
+            }
+        }
+        Ok(last)
+    }
+
+    // The answers as text.
+    fn text_of(&self, answers: Vec<Option<Answer>>) -> Result<String, AllocError> {
+        let mut text = String::new(self.alloc);
+        for answer in answers {
+            if let Some(answer) = answer {
+                text.push_str(answer_text(self.alloc, answer)?.as_str())?;
+            }
+            text.push('\n')?;
+        }
+        Ok(text)
+    }
+
+    // Counts an order for its outcome.
+    fn count(&mut self, order: Vec<Turn>) -> Result<(), AllocError> {
+        let first = spots_of(self.alloc, order.as_slice())?;
+        let answers = self.last_answers(order)?;
+        let text = self.text_of(answers)?;
+        if let Some(tally) = self.tallies.get_mut(text.as_str()) {
+            tally.count = tally.count.saturating_add(1);
+            return Ok(());
+        }
+        let number = self.tallies.len();
+        let tally = Tally {
+            number,
+            count: 1,
+            first,
+        };
+        self.tallies.insert(text, tally)?;
+        Ok(())
+    }
+}
+
+impl Visitor for Outcomes {
+    fn visit(&mut self, order: Vec<Turn>) -> Result<(), OutOfMemory> {
+        match self.count(order) {
+            Ok(()) => Ok(()),
+            Err(_) => Err(OutOfMemory),
+        }
+    }
+}

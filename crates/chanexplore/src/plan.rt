@@ -1,0 +1,223 @@
+//! What the input says: the channel, the lines before the parties, and the parties' lines.
+ghost use Rattle.channel_model.specs.Capacity.{HasPositiveCapacity};
+
+use channel_model::{Kind, OutOfMemory, Refusal, Reply, Who};
+use channel_orders::party::{Act, Opening, step_again};
+use channel_run::Run;
+use chanrun::grammar::{Command, Fault, LINE_LIMIT, command_of, kind_of, split_line, who_of};
+use chanrun::script::ScriptError;
+use std::alloc::{AllocError, Global};
+
+/// What the input says.
+#[derive(Drop)]
+pub struct Plan {
+    /// The channel.
+    pub kind: Kind,
+    ghost positive: { HasPositiveCapacity kind },
+    /// What the lines before the parties ask for.
+    pub before: Vec<Command>,
+    /// What each party's lines ask for.
+    pub parties: Vec<Vec<Act>>,
+    /// The lines themselves.
+    pub texts: Texts,
+}
+
+/// The lines of the input.
+#[derive(Drop)]
+pub struct Texts {
+    /// Those before the parties, the first one among them.
+    pub before: Vec<Vec<u8>>,
+    /// The parties' names.
+    pub names: Vec<Vec<u8>>,
+    /// The parties' lines.
+    pub lines: Vec<Vec<Vec<u8>>>,
+}
+
+fn is_name_byte(byte: u8) -> bool {
+    byte.is_ascii_alphanumeric() || byte == b'_'
+}
+
+/// The name of the party that a line begins, or what is wrong with it; none for another line.
+fn party_name(line: &[u8]) -> Option<Result<&[u8], Fault>> {
+    if line == b"party".as_slice() {
+        return Some(Err(Fault::WrongWordCount));
+    }
+    let name = line.strip_prefix(b"party ")?;
+    if name.contains(&b' ') {
+        Some(Err(Fault::WrongWordCount))
+    } else if name.is_empty() || !name.iter().all(|byte| is_name_byte(*byte)) {
+        Some(Err(Fault::BadName))
+    } else {
+        Some(Ok(name))
+    }
+}
+
+/// Who is awaited by a line, or what is wrong with it; none for another line.
+fn awaited(line: &[u8]) -> Option<Result<Who, Fault>> {
+    if line == b"await".as_slice() {
+        return Some(Err(Fault::WrongWordCount));
+    }
+    let name = line.strip_prefix(b"await ")?;
+    if name.contains(&b' ') {
+        Some(Err(Fault::WrongWordCount))
+    } else {
+        Some(who_of(name))
+    }
+}
+
+/// What a party's line asks for, or its first fault.
+pub fn act_of(alloc: Global, line: &[u8]) -> Result<Result<Act, Fault>, AllocError> {
+    if line.len() > LINE_LIMIT {
+        return Ok(Err(Fault::LineTooLong));
+    }
+    if let Some(who) = awaited(line) {
+        return Ok(match who {
+            Ok(who) => Ok(Act::Await(who)),
+            Err(fault) => Err(fault),
+        });
+    }
+    Ok(match command_of(alloc, line)? {
+        Ok(Command::Make(step)) => Ok(Act::Make(step)),
+        Ok(Command::Notice(who)) => Ok(Act::Notice(who)),
+        Ok(Command::Settle) => Err(Fault::UnknownCommand),
+        Err(fault) => Err(fault),
+    })
+}
+
+// Does a line that stands before the parties.
+fn prepare(run: &mut Run<u64>, command: &Command) -> Result<(), OutOfMemory> {
+    match command {
+        Command::Make(step) => {
+            match run.step(step_again(step)) {
+                Reply::Refused(Refusal::OutOfMemory, _) => Err(OutOfMemory),
+                _ => Ok(()),
+            }
+        }
+        Command::Notice(_) => Ok(()),
+        Command::Settle => {
+            let _settled = run.settle()?;
+            Ok(())
+        }
+    }
+}
+
+// Does the lines that stand before the parties, in order.
+fn prepare_all(alloc: Global, kind: Kind, before: &[Command]) -> Result<Run<u64>, OutOfMemory>
+    requires { HasPositiveCapacity kind }
+{
+    let mut run = Run::new(alloc, kind)?;
+    for command in before {
+        prepare(&mut run, command)?;
+    }
+    Ok(run)
+}
+
+impl Opening for Plan {
+    fn open(&self, alloc: Global) -> Result<Run<u64>, OutOfMemory> {
+        prepare_all(alloc, self.kind, self.before.as_slice())
+    }
+}
+
+impl Plan {
+    // A channel with no line and no party yet.
+    fn new(alloc: Global, kind: Kind, first: &[u8]) -> Result<Plan, AllocError>
+        requires { HasPositiveCapacity kind }
+    {
+        let mut before = Vec::new(alloc);
+        before.push(Vec::from_slice(alloc, first)?)?;
+        Ok(Plan {
+            kind,
+            before: Vec::new(alloc),
+            parties: Vec::new(alloc),
+            texts: Texts {
+                before,
+                names: Vec::new(alloc),
+                lines: Vec::new(alloc),
+            },
+        })
+    }
+
+    // Whether a party has this name.
+    fn has_party(&self, name: &[u8]) -> bool {
+        self.texts
+            .names
+            .iter()
+            .any(|other| other.as_slice() == name)
+    }
+
+    // Begins a party.
+    fn add_party(&mut self, alloc: Global, name: &[u8]) -> Result<Result<(), Fault>, AllocError> {
+        if self.has_party(name) {
+            return Ok(Err(Fault::BadName));
+        }
+        self.parties.push(Vec::new(alloc))?;
+        self.texts.names.push(Vec::from_slice(alloc, name)?)?;
+        self.texts.lines.push(Vec::new(alloc))?;
+        Ok(Ok(()))
+    }
+
+    // Adds a line before the parties.
+    fn add_before(&mut self, alloc: Global, line: &[u8]) -> Result<Result<(), Fault>, AllocError> {
+        match command_of(alloc, line)? {
+            Ok(command) => {
+                self.before.push(command)?;
+                self.texts.before.push(Vec::from_slice(alloc, line)?)?;
+                Ok(Ok(()))
+            }
+            Err(fault) => Ok(Err(fault)),
+        }
+    }
+
+    // Adds a line behind the first one.
+    fn add(&mut self, alloc: Global, line: &[u8]) -> Result<Result<(), Fault>, AllocError> {
+        if line.len() > LINE_LIMIT {
+            return Ok(Err(Fault::LineTooLong));
+        }
+        match party_name(line) {
+            Some(Ok(name)) => return self.add_party(alloc, name),
+            Some(Err(fault)) => return Ok(Err(fault)),
+            None => {}
+        }
+        let (Some(acts), Some(texts)) = (self.parties.last_mut(), self.texts.lines.last_mut())
+        else {
+            return self.add_before(alloc, line);
+        };
+        match act_of(alloc, line)? {
+            Ok(act) => {
+                acts.push(act)?;
+                texts.push(Vec::from_slice(alloc, line)?)?;
+                Ok(Ok(()))
+            }
+            Err(fault) => Ok(Err(fault)),
+        }
+    }
+}
+
+/// What the input says, or its first fault.
+pub fn plan_of(alloc: Global, input: &[u8]) -> Result<Plan, ScriptError> {
+    if input.is_empty() {
+        return Err(ScriptError::Fault {
+            line: 1,
+            fault: Fault::ChannelMissing,
+        });
+    }
+    let (first, others) = split_line(input);
+    let mut plan = match kind_of(alloc, first)? {
+        Ok(kind) => Plan::new(alloc, kind, first)?,
+        Err(fault) => return Err(ScriptError::Fault { line: 1, fault }),
+    };
+    let mut rest = others;
+    let mut number: u64 = 1;
+    while !rest.is_empty() {
+        let (line, others) = split_line(rest);
+        number = number.saturating_add(1);
+        if let Err(fault) = plan.add(alloc, line)? {
+            return Err(ScriptError::Fault {
+                line: number,
+                fault,
+            });
+        }
+        rest = others;
+    }
+    Ok(plan)
+}

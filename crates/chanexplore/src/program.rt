@@ -1,0 +1,152 @@
+//! The whole program over its devices.
+
+use crate::outcomes::Outcomes;
+use crate::plan::plan_of;
+use crate::report::write_report;
+use channel_model::OutOfMemory;
+use channel_orders::party::Turn;
+use channel_orders::search::{Visitor, search};
+use chanrun::device::{Sink, Source};
+use chanrun::script::{ScriptError, read_script, write_text};
+use std::alloc::Global;
+use std::fmt;
+use std::fmt::Write;
+
+/// How many orders are made where no argument says it.
+pub const USUAL_ORDERS: u64 = 100_000;
+
+/// How many orders an argument may ask for.
+pub const MOST_ORDERS: u64 = 10_000_000;
+
+/// Who is shown how far the search is.
+pub trait Watch {
+    /// So many orders were made.
+    fn made(&mut self, orders: u64);
+}
+
+// Counts each order, and shows how many there were.
+#[derive(Drop)]
+struct Watched<'w, W> {
+    outcomes: Outcomes,
+    orders: u64,
+    watch: &'w mut W,
+}
+
+impl<W: Watch> Visitor for Watched<'_, W> {
+    fn visit(&mut self, order: Vec<Turn>) -> Result<(), OutOfMemory> {
+        self.outcomes.visit(order)?;
+        self.orders = self.orders.saturating_add(1);
+        self.watch.made(self.orders);
+        Ok(())
+    }
+}
+
+/// How many orders the arguments allow; none where they are neither nothing nor `--orders N`, N
+/// from 1 to [`MOST_ORDERS`].
+///
+/// ```text
+///                        100000
+/// --orders 5             5
+/// --orders 0             none
+/// --orders 10000001      none
+/// ```
+pub fn orders_allowed(arguments: &[String]) -> Option<u64> {
+    match arguments {
+        [] => Some(USUAL_ORDERS),
+        [word, number] => {
+            if word.as_str() != "--orders" {
+                return None;
+            }
+            match number.as_str().parse::<u64>() {
+                Ok(count) if count >= 1 && count <= MOST_ORDERS => Some(count),
+                _ => None,
+            }
+        }
+        _ => None,
+    }
+}
+
+/// Reads what is to be explored to its end, makes each order up to the limit, and writes what they
+/// came to. It answers whether there is no other order.
+pub fn explore<R: Source, W: Sink, P: Watch>(
+    alloc: Global,
+    limit: u64,
+    reader: &mut R,
+    writer: &mut W,
+    watch: &mut P,
+) -> Result<bool, ScriptError> {
+    let input = read_script(alloc, reader)?;
+    let plan = plan_of(alloc, input.as_slice())?;
+    let mut watched = Watched {
+        outcomes: Outcomes::new(alloc, &plan)?,
+        orders: 0,
+        watch,
+    };
+    let searched = search(alloc, &plan, plan.parties.as_slice(), limit, &mut watched)?;
+    let list = watched.outcomes.into_list()?;
+    write_report(alloc, &plan, searched, list.as_slice(), writer)?;
+    Ok(searched.whole)
+}
+
+// A sink to which text is written.
+struct Lines<'a, S> {
+    sink: &'a mut S,
+}
+
+impl<S: Sink> fmt::Write for Lines<'_, S> {
+    fn write_str(&mut self, text: &str) -> fmt::Result {
+        match write_text(&mut *self.sink, text.as_bytes()) {
+            Ok(()) => Ok(()),
+            Err(_) => Err(fmt::Error),
+        }
+    }
+}
+
+// Writes a line, as far as the sink takes it.
+fn tell<S: Sink, D: fmt::Display + Drop>(sink: &mut S, text: D) {
+    let mut lines = Lines { sink };
+    let _ = writeln!(lines, "{text}");
+    let Lines { sink: _ } = lines;
+}
+
+// The status for an end without a report.
+fn status_of(error: &ScriptError) -> u8 {
+    match error {
+        ScriptError::Fault { .. } => 2,
+        _ => 1,
+    }
+}
+
+/// The program over its devices. It answers the exit status: 0 where every order was made, 3 where
+/// the limit was met before, 2 for a faulty line or for other arguments than `--orders N`, 1
+/// otherwise. A line that says why it is 1 or 2 goes to `errors`; a failure there changes nothing.
+/// There are no arguments where they couldn't be read for want of memory.
+pub fn program<R: Source, W: Sink, E: Sink, P: Watch>(
+    alloc: Global,
+    arguments: Option<&[String]>,
+    reader: &mut R,
+    writer: &mut W,
+    errors: &mut E,
+    watch: &mut P,
+) -> u8 {
+    let Some(arguments) = arguments else {
+        tell(errors, ScriptError::OutOfMemory);
+        return 1;
+    };
+    let Some(limit) = orders_allowed(arguments) else {
+        tell(
+            errors,
+            "chanexplore takes --orders N, N from 1 to 10000000, or no argument",
+        );
+        return 2;
+    };
+    match explore(alloc, limit, reader, writer, watch) {
+        Ok(true) => 0,
+        Ok(false) => 3,
+        Err(error) => {
+            let status = status_of(&error);
+            tell(errors, error);
+            status
+        }
+    }
+}

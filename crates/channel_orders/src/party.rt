@@ -1,0 +1,97 @@
+//! Parties: what their lines ask for, where they stand, and what answers them.
+
+use channel_model::{Notice, OutOfMemory, Reply, Step, Who};
+use channel_run::Run;
+use std::alloc::Global;
+
+/// How the channel is made that the parties find.
+///
+/// Each order is made on a channel of its own, so it is opened again for each.
+pub trait Opening {
+    /// Makes the channel.
+    fn open(&self, alloc: Global) -> Result<Run<u64>, OutOfMemory>;
+}
+
+/// What a line of a party asks for.
+#[derive(Drop)]
+pub enum Act {
+    /// A step.
+    Make(Step<u64>),
+    /// Whether somebody waits, and was told.
+    Notice(Who),
+    /// A poll. Where it is pending the party goes on only once who waits was told, and polls again.
+    Await(Who),
+}
+
+/// Where a party stands.
+#[derive(Clone, Copy)]
+pub struct Place {
+    /// How many of its lines are behind it.
+    pub done: usize,
+    /// Whether the next one awaits, and its poll was pending.
+    pub waiting: bool,
+}
+
+/// What answers a line.
+#[derive(Drop)]
+pub enum Answer {
+    /// The reply to a step or a poll.
+    Replied(Reply<u64>),
+    /// Whether somebody waits, and was told.
+    Noticed(Notice),
+}
+
+/// One turn in an order: a party did a line.
+#[derive(Drop)]
+pub struct Turn {
+    /// The party's number, from 0.
+    pub party: usize,
+    /// The number of its line, from 0.
+    pub line: usize,
+    /// What answered the line.
+    pub answer: Answer,
+}
+
+/// The poll by which somebody is awaited.
+pub fn poll_of(who: Who) -> Step<u64> {
+    match who {
+        Who::Op(op) => Step::Poll(op),
+        Who::Receiver(receiver) => Step::PollNext(receiver),
+    }
+}
+
+/// The same step again.
+pub fn step_again(step: &Step<u64>) -> Step<u64> {
+    match *step {
+        Step::TrySend(sender, message) => Step::TrySend(sender, message),
+        Step::ForceSend(sender, message) => Step::ForceSend(sender, message),
+        Step::TryRecv(receiver) => Step::TryRecv(receiver),
+        Step::Close(side) => Step::Close(side),
+        Step::IsClosed(side) => Step::IsClosed(side),
+        Step::IsEmpty(side) => Step::IsEmpty(side),
+        Step::IsFull(side) => Step::IsFull(side),
+        Step::IsTerminated(receiver) => Step::IsTerminated(receiver),
+        Step::Len(side) => Step::Len(side),
+        Step::SenderCount(side) => Step::SenderCount(side),
+        Step::ReceiverCount(side) => Step::ReceiverCount(side),
+        Step::Capacity(side) => Step::Capacity(side),
+        Step::CloneSender { of, new } => Step::CloneSender { of, new },
+        Step::CloneReceiver { of, new } => Step::CloneReceiver { of, new },
+        Step::CloneWeakSender { of, new } => Step::CloneWeakSender { of, new },
+        Step::CloneWeakReceiver { of, new } => Step::CloneWeakReceiver { of, new },
+        Step::DowngradeSender { of, new } => Step::DowngradeSender { of, new },
+        Step::DowngradeReceiver { of, new } => Step::DowngradeReceiver { of, new },
+        Step::UpgradeSender { of, new } => Step::UpgradeSender { of, new },
+        Step::UpgradeReceiver { of, new } => Step::UpgradeReceiver { of, new },
+        Step::DropSender(name) => Step::DropSender(name),
+        Step::DropReceiver(name) => Step::DropReceiver(name),
+        Step::DropWeakSender(name) => Step::DropWeakSender(name),
+        Step::DropWeakReceiver(name) => Step::DropWeakReceiver(name),
+        Step::StartSend { op, sender, msg } => Step::StartSend { op, sender, msg },
+        Step::StartRecv { op, receiver } => Step::StartRecv { op, receiver },
+        Step::StartClosed { op, sender } => Step::StartClosed { op, sender },
+        Step::Poll(op) => Step::Poll(op),
+        Step::PollNext(receiver) => Step::PollNext(receiver),
+        Step::DropOp(op) => Step::DropOp(op),
+    }
+}

@@ -1,0 +1,26 @@
+//! A channel that any number of threads call through a shared reference, and whose calls are afterwards one
+//! history.
+//!
+//! Each thread writes down its own calls in a [`Clerk`]. [`Recorder::finish`] compares what the clerks wrote down
+//! with the history that was made under the lock, and its [`Book`] has both: a history that one thread alone could
+//! have made, and for each clerk the places of its own calls in it, in order.
+#![tactic(auto)]
+
+mod book;
+mod calls;
+mod clerk;
+mod finish;
+mod journal;
+mod recorder;
+mod same;
+
+pub use book::Book;
+pub use calls::{Call, Outcome};
+pub use channel_core::{MakeError, OutOfMemory, SendError, TryRecvError, TrySendError};
+pub use channel_model::Kind;
+pub use channel_stamps::{Stamp, StampMaker};
+pub use clerk::Clerk;
+pub use exact::Exact;
+pub use finish::FinishError;
+pub use journal::Journal;
+pub use recorder::Recorder;

@@ -1,0 +1,7 @@
+use Rattle.std.proofs.Common.{◌∙◌}
+use Rattle.channel_run.proofs.Entries.{is_among-entry_at}
+use Rattle.channel_run.proofs.names.Names.has.Goals as goal
+
+pub returns : goal.returns
+returns c = rw (← c.self.view_is) (c.contains_key.ensures
+    ∙ is_among-entry_at c.self.inside.names.entries c.args.name)

@@ -1,0 +1,9 @@
+use Rattle.std.proofs.Common.{◌∙◌, sym, ap}
+use Rattle.std.specs.Prelude.{nat_lt}
+use Rattle.channel_model.specs.Operations.{borrows_sender}
+use Rattle.channel_run.proofs.Borrowing.{list_any-count}
+use Rattle.channel_run.proofs.operations.Operations.is_sender_borrowed.Goals as goal
+
+pub returns : goal.returns
+returns g c = ap (λ count. nat_lt 0 count) (c.get.ensures ∙ c.requires.each_sender c.args.name)
+    ∙ sym (list_any-count (borrows_sender c.args.name) c.args.self.now.by_name.entries)

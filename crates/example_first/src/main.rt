@@ -1,0 +1,32 @@
+//! A thread sends, and a task receives.
+#![tactic(auto)]
+
+use anyhow::Result;
+use async_channel::{Sender, StampMaker, bounded};
+use futures::executor::block_on;
+use std::sync::Wait;
+use std::thread;
+
+/// Sends three numbers, and waits where the channel is full. It answers whether all went in.
+fn send_three<R: Wait + Clone + Drop>(s: &Sender<u32, R>) -> bool {
+    (1..=3).all(|number| matches!(s.send_blocking(number), Ok(Ok(()))))
+}
+
+fn main(rt: HostRuntime) -> Result<()> {
+    let (s, r) = bounded(&rt, rt.alloc(), 1, &mut StampMaker::new())?;
+
+    // The sender is dropped when its thread ends, and the channel is closed then.
+    let sending = thread::spawn(&rt, move || send_three(&s))?;
+
+    for _ in rt.forever() {
+        match block_on(&rt, r.recv())?? {
+            Ok(number) => println!(rt; "received {number}")?,
+            Err(closed) => {
+                println!(rt; "{closed}")?;
+                break;
+            }
+        }
+    }
+    println!(rt; "all sent: {}", sending.join(&rt))?;
+    Ok(())
+}

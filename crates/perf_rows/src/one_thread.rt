@@ -1,0 +1,124 @@
+//! One thread: a message in and out at once, many in and then out, and calls that pass no message.
+use crate::report::{Form, channel, row};
+use anyhow::Result;
+use async_channel::Queue;
+use std::alloc::AllocGlobal;
+use std::rt::Clock;
+use std::sync::{Mutex, Wait};
+use std::time::Instant;
+
+/// How many calls, or pairs of them, are made.
+const PAIRS: u64 = 500_000;
+
+pub fn pairs<R>(rt: &R, form: Form<'_>) -> Result<()>
+where
+    R: Wait + Clone + Drop + AllocGlobal + Clock + Print,
+{
+    for (work, capacity) in [
+        ("1 pair bounded(1)", Some(1)),
+        ("1 pair bounded(1024)", Some(1024)),
+        ("1 pair unbounded", None),
+    ] {
+        pair(rt, form, work, capacity)?;
+    }
+    let ring = Queue::bounded(rt.alloc(), 1024)?;
+    locked_pair(rt, form, "1 pair locked queue of 1024", ring)?;
+    let deque = Queue::unbounded(rt.alloc());
+    locked_pair(rt, form, "1 pair locked queue without a bound", deque)
+}
+
+fn pair<R>(rt: &R, form: Form<'_>, work: &str, capacity: Option<usize>) -> Result<()>
+where
+    R: Wait + Clone + Drop + AllocGlobal + Clock + Print,
+{
+    let (s, r) = channel(rt, capacity)?;
+    let mut sum = 0u64;
+    let start = Instant::now(rt)?;
+    for number in 0..PAIRS {
+        let _ = s.try_send(number);
+        sum = sum.wrapping_add(r.try_recv().unwrap_or(0));
+    }
+    row(rt, form, work, PAIRS, start, sum)
+}
+
+/// A pair on a lock round the plain queue, without a channel.
+fn locked_pair<R>(rt: &R, form: Form<'_>, work: &str, queue: Queue<u64>) -> Result<()>
+where
+    R: Wait + Clock + Print,
+{
+    let queue = Mutex::new(queue);
+    let mut sum = 0u64;
+    let start = Instant::now(rt)?;
+    for number in 0..PAIRS {
+        let _ = queue.lock(rt).push(number)?;
+        sum = sum.wrapping_add(queue.lock(rt).pop().unwrap_or(0));
+    }
+    row(rt, form, work, PAIRS, start, sum)
+}
+
+pub fn fills<R>(rt: &R, form: Form<'_>) -> Result<()>
+where
+    R: Wait + Clone + Drop + AllocGlobal + Clock + Print,
+{
+    for (work, held, times, capacity) in [
+        ("2 fill+drain unbounded 1e3", 1_000, 1, None),
+        (
+            "2 fill+drain unbounded 1e3, 1,000 times",
+            1_000,
+            1_000,
+            None,
+        ),
+        ("2 fill+drain unbounded 1e5", 100_000, 1, None),
+        ("2 fill+drain unbounded 1e6", 1_000_000, 1, None),
+        ("2 fill+drain bounded(N) 1e3", 1_000, 1, Some(1_000)),
+        ("2 fill+drain bounded(N) 1e5", 100_000, 1, Some(100_000)),
+        ("2 fill+drain bounded(N) 1e6", 1_000_000, 1, Some(1_000_000)),
+    ] {
+        fill(rt, form, work, (held, times), capacity)?;
+    }
+    Ok(())
+}
+
+/// So many messages held at once, and so many times.
+fn fill<R>(
+    rt: &R,
+    form: Form<'_>,
+    work: &str,
+    (held, times): (u64, u64),
+    capacity: Option<usize>,
+) -> Result<()>
+where
+    R: Wait + Clone + Drop + AllocGlobal + Clock + Print,
+{
+    let (s, r) = channel(rt, capacity)?;
+    let mut sum = 0u64;
+    let start = Instant::now(rt)?;
+    for _ in 0..times {
+        for number in 0..held {
+            let _ = s.try_send(number);
+        }
+        for _ in 0..held {
+            sum = sum.wrapping_add(r.try_recv().unwrap_or(0));
+        }
+    }
+    row(rt, form, work, held.saturating_mul(times), start, sum)
+}
+
+/// A copy of a sender that is given up at once, and the number of messages held.
+pub fn calls<R>(rt: &R, form: Form<'_>) -> Result<()>
+where
+    R: Wait + Clone + Drop + AllocGlobal + Clock + Print,
+{
+    let (s, r) = channel(rt, Some(16))?;
+    let start = Instant::now(rt)?;
+    for _ in 0..PAIRS {
+        drop(s.try_clone()?);
+    }
+    row(rt, form, "6 clone+drop of a sender", PAIRS, start, 0)?;
+    let mut sum = 0u64;
+    let start = Instant::now(rt)?;
+    for _ in 0..PAIRS {
+        sum = sum.wrapping_add(r.len() as u64);
+    }
+    row(rt, form, "6 len", PAIRS, start, sum)
+}
