@@ -36,7 +36,7 @@ impl<T: Drop, R: Wait + Clone + Drop> Sender<T, R> {
     /// ```
     #[tactic(auto, using(crate::proofs::Refusals::poll_send_hands_back))]
     pub fn send_blocking(&self, msg: T) -> Result<Result<(), SendError<T>>, NoMemory<T>>
-        ensures refused { IfOk result (λ answer. IfErr answer (λ error. error.0 ≡ msg)) }
+        ensures handed_back { IfOk result (λ answer. IfErr answer (λ error. error.0 ≡ msg)) }
         ensures unsent { IfErr result (λ error. error.0 ≡ msg) }
     {
         let mut message = msg;
@@ -54,7 +54,7 @@ impl<T: Drop, R: Wait + Clone + Drop> Sender<T, R> {
     // Waits until there is a place, or the channel is closed.
     #[tactic(auto, using(crate::proofs::Refusals::poll_send_hands_back))]
     fn wait_to_send(&self, msg: T) -> Result<Result<(), SendError<T>>, NoMemory<T>>
-        ensures refused { IfOk result (λ answer. IfErr answer (λ error. error.0 ≡ msg)) }
+        ensures handed_back { IfOk result (λ answer. IfErr answer (λ error. error.0 ≡ msg)) }
         ensures unsent { IfErr result (λ error. error.0 ≡ msg) }
     {
         let link = &self.link;

@@ -126,7 +126,7 @@ pub fn bounded<T: Drop, R: Wait + Clone + Drop>(
 ) -> Result<(Sender<T, R>, Receiver<T, R>), MakeError>
     requires { 0 < cap }
     ensures spent { (result ≡ Err MakeError.NoStamps) ↔ (maker.old ≡ None) }
-    ensures refused { OnErr result (maker.new ≡ maker.old) }
+    ensures unchanged { OnErr result (maker.new ≡ maker.old) }
     ensures tags { IfOk result (λ ends. AreEndsOf ends.0 ends.1 maker.old (Some cap)) }
     ensures rises { IfOk result (λ _. maker.new ≡ next_stamp maker.old) }
 {
@@ -162,7 +162,7 @@ pub fn unbounded<T: Drop, R: Wait + Clone + Drop>(
     maker: &mut StampMaker,
 ) -> Result<(Sender<T, R>, Receiver<T, R>), MakeError>
     ensures spent { (result ≡ Err MakeError.NoStamps) ↔ (maker.old ≡ None) }
-    ensures refused { OnErr result (maker.new ≡ maker.old) }
+    ensures unchanged { OnErr result (maker.new ≡ maker.old) }
     ensures tags { IfOk result (λ ends. AreEndsOf ends.0 ends.1 maker.old None) }
     ensures rises { IfOk result (λ _. maker.new ≡ next_stamp maker.old) }
 {
@@ -182,7 +182,7 @@ fn ends<T: Drop, R: Wait + Clone + Drop>(
 ) -> Result<(Sender<T, R>, Receiver<T, R>), MakeError>
     requires { IsSome maker.old }
     ensures spent { result ≢ Err MakeError.NoStamps }
-    ensures refused { OnErr result (maker.new ≡ maker.old) }
+    ensures unchanged { OnErr result (maker.new ≡ maker.old) }
     ensures tags { IfOk result (λ ends. AreEndsOf ends.0 ends.1 maker.old capacity) }
     ensures rises { IfOk result (λ _. maker.new ≡ next_stamp maker.old) }
 {
@@ -229,7 +229,7 @@ impl<T: Drop, R: Wait + Clone + Drop> Sender<T, R> {
     /// ```
     #[tactic(auto, using(crate::proofs::Refusals::try_send_hands_back))]
     pub fn try_send(&self, msg: T) -> Result<Result<(), TrySendError<T>>, NoMemory<T>>
-        ensures refused { IfOk result (λ answer. IfErr answer (λ error. message_of error ≡ msg)) }
+        ensures handed_back { IfOk result (λ answer. IfErr answer (λ error. message_of error ≡ msg)) }
         ensures unsent { IfErr result (λ error. error.0 ≡ msg) }
     {
         self.link.lock().try_send(msg)
@@ -254,7 +254,7 @@ impl<T: Drop, R: Wait + Clone + Drop> Sender<T, R> {
     /// ```
     #[tactic(auto, using(crate::proofs::Refusals::force_send_hands_back))]
     pub fn force_send(&self, msg: T) -> Result<Result<Option<T>, SendError<T>>, NoMemory<T>>
-        ensures refused { IfOk result (λ answer. IfErr answer (λ error. error.0 ≡ msg)) }
+        ensures handed_back { IfOk result (λ answer. IfErr answer (λ error. error.0 ≡ msg)) }
         ensures unsent { IfErr result (λ error. error.0 ≡ msg) }
     {
         self.link.lock().force_send(msg)

@@ -67,7 +67,7 @@ impl<T: Drop, R: Wait> Locked<'_, T, R> {
         ensures reply { IfOk result (λ answer. answer ≡ try_send_answer self.old.channel.closed
             (is_channel_full self.old.channel) m) }
         ensures after { OnOk result (self.new ≡ then (sent m) self.old) }
-        ensures refused { IfErr result (λ error. error.0 ≡ m) }
+        ensures handed_back { IfErr result (λ error. error.0 ≡ m) }
         ensures unchanged { OnErr result (self.new ≡ self.old) }
         ensures wanted { OnErr result (GrowsWithMessages self.old.channel) }
     {
@@ -82,7 +82,7 @@ impl<T: Drop, R: Wait> Locked<'_, T, R> {
         ensures reply { IfOk result (λ answer. answer ≡ force_send_answer self.old.channel.closed
             (is_channel_full self.old.channel) (oldest self.old.channel) m) }
         ensures after { OnOk result (self.new ≡ then (force_sent m) self.old) }
-        ensures refused { IfErr result (λ error. error.0 ≡ m) }
+        ensures handed_back { IfErr result (λ error. error.0 ≡ m) }
         ensures unchanged { OnErr result (self.new ≡ self.old) }
         ensures wanted { OnErr result (GrowsWithMessages self.old.channel) }
     {

@@ -250,7 +250,7 @@ impl<T: Drop, R: Wait + Clone + Drop> Future for Send<'_, T, R> {
           message = None;
           ticket = None;
         })) }
-        ensures refused { IfReady result (λ answer. OnErr answer (self.new ≡ self.old)) }
+        ensures unchanged { IfReady result (λ answer. OnErr answer (self.new ≡ self.old)) }
         ensures waits { OnPending result (self.new ≡ record self.old { ticket = self.new.ticket }) }
         ensures holds { OnPending result (IsSome self.old.message → IsSome self.new.ticket) }
         ensures rests { OnPending result (self.old.message ≡ None → self.new ≡ self.old) }
@@ -304,7 +304,7 @@ impl<T: Drop, R: Wait + Clone + Drop> Future for Recv<'_, T, R> {
           finished = true;
           ticket = None;
         })) }
-        ensures refused { IfReady result (λ answer. OnErr answer (self.new ≡ self.old)) }
+        ensures unchanged { IfReady result (λ answer. OnErr answer (self.new ≡ self.old)) }
         ensures waits { OnPending result (self.new ≡ record self.old {
           finished = false;
           ticket =
@@ -367,7 +367,7 @@ impl<T: Drop, R: Wait + Clone + Drop> Future for Closed<'_, T, R> {
           finished = true;
           ticket = None;
         })) }
-        ensures refused { IfReady result (λ answer. OnErr answer (self.new ≡ self.old)) }
+        ensures unchanged { IfReady result (λ answer. OnErr answer (self.new ≡ self.old)) }
         ensures waits { OnPending result (self.new ≡ record self.old {
           finished = false;
           ticket =

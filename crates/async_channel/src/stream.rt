@@ -36,7 +36,7 @@ impl<T: Drop, R: Wait + Clone + Drop> Stream for Receiver<T, R> {
             (λ o. IfSome o (λ item. OnOk item (self.new ≡ record self.old { ticket = None }))) }
         ensures ends { IfReady result
             (λ o. o ≡ None → self.new ≡ record self.old { ticket = None }) }
-        ensures refused { IfReady result (λ o. IfSome o (λ item. OnErr item (self.new ≡
+        ensures unchanged { IfReady result (λ o. IfSome o (λ item. OnErr item (self.new ≡
             self.old))) }
         ensures waits { OnPending result (self.new ≡ record self.old { ticket = self.new.ticket }) }
         ensures holds { OnPending result (IsSome self.new.ticket) }

@@ -99,7 +99,7 @@ impl<T: Drop> Queue<T> {
     pub fn push(&mut self, message: T) -> Result<Result<(), T>, NoMemory<T>>
         ensures reply { IfOk result (λ reply. reply ≡ push_reply self.old message) }
         ensures after { OnOk result (self.new ≡ pushed self.old message) }
-        ensures refused { IfErr result (λ error. error.0 ≡ message) }
+        ensures handed_back { IfErr result (λ error. error.0 ≡ message) }
         ensures unchanged { OnErr result (self.new ≡ self.old) }
         ensures unbounded { OnErr result (self.old.capacity ≡ None) }
     {
@@ -129,7 +129,7 @@ impl<T: Drop> Queue<T> {
         ensures reply { IfOk result (λ displaced. displaced ≡ force_push_reply self.old) }
         ensures after { OnOk result (self.new ≡ force_pushed self.old message) }
         ensures within { IsWithin self.new }
-        ensures refused { IfErr result (λ error. error.0 ≡ message) }
+        ensures handed_back { IfErr result (λ error. error.0 ≡ message) }
         ensures unchanged { OnErr result (self.new ≡ self.old) }
         ensures unbounded { OnErr result (self.old.capacity ≡ None) }
     {

@@ -56,7 +56,7 @@ impl<T: Copy + Exact> Recorder<T> {
     ) -> Result<Recorder<T>, MakeError>
         requires { 0 < cap }
         ensures spent { (result ≡ Err MakeError.NoStamps) ↔ (maker.old ≡ None) }
-        ensures refused { OnErr result (maker.new ≡ maker.old) }
+        ensures unchanged { OnErr result (maker.new ≡ maker.old) }
         ensures made { IfOk result (IsRecorderOf maker.old (Bounded cap)) }
         ensures rises { IfOk result (λ _. maker.new ≡ next_stamp maker.old) }
     {
@@ -78,7 +78,7 @@ impl<T: Copy + Exact> Recorder<T> {
     /// ```
     pub fn unbounded(alloc: Global, maker: &mut StampMaker) -> Result<Recorder<T>, MakeError>
         ensures spent { (result ≡ Err MakeError.NoStamps) ↔ (maker.old ≡ None) }
-        ensures refused { OnErr result (maker.new ≡ maker.old) }
+        ensures unchanged { OnErr result (maker.new ≡ maker.old) }
         ensures made { IfOk result (IsRecorderOf maker.old Unbounded) }
         ensures rises { IfOk result (λ _. maker.new ≡ next_stamp maker.old) }
     {
@@ -89,7 +89,7 @@ impl<T: Copy + Exact> Recorder<T> {
     fn of_kind(alloc: Global, kind: Kind, maker: &mut StampMaker) -> Result<Recorder<T>, MakeError>
         requires { HasPositiveCapacity kind }
         ensures spent { (result ≡ Err MakeError.NoStamps) ↔ (maker.old ≡ None) }
-        ensures refused { OnErr result (maker.new ≡ maker.old) }
+        ensures unchanged { OnErr result (maker.new ≡ maker.old) }
         ensures made { IfOk result (IsRecorderOf maker.old kind) }
         ensures rises { IfOk result (λ _. maker.new ≡ next_stamp maker.old) }
     {

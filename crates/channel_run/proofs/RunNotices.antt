@@ -15,12 +15,12 @@ use Rattle.event_list.proofs.Splits.{is_among-append}
 use Rattle.channel_model.specs.declared.step.Notice.TheVariants.{Absent, Told, Untold}
 use Rattle.channel_model.specs.Rosters.{notice_in}
 use Rattle.channel_model.specs.View.{View}
-use Rattle.channel_run.specs.RunShown.{AreHeld, IsWhole, closed_ticket, entry_at, notice_at, notice_by_mark, operation_shown, recv_ticket, roster_of, send_ticket, shown, stream_ticket, ticket_at}
+use Rattle.channel_run.specs.RunShown.{AreHeld, IsWhole, closed_ticket, entry_at, notice_at, notice_by_flag, operation_shown, recv_ticket, roster_of, send_ticket, shown, stream_ticket, ticket_at}
 use Rattle.channel_run.proofs.Holding.{absent-Holds, holds-refl, is_told-key, key_roster, keyed}
 use Rattle.channel_run.proofs.KeyedRosters.{notice_in-keyed}
 use Rattle.channel_model.proofs.NameLists.{is_among-take}
 
--- a ticket's mark is its name's notice
+-- a ticket's told flag is its name's notice
 pub notice-held : {W : Type 0} (ticket_of : ℕ → Option ℕ) (names : List ℕ) (list : Waiting W)
     → AreHeld ticket_of names list → (name : ℕ) (ticket : Option ℕ) → ticket_of name ≡ ticket
     → notice_at ticket list ≡ notice_in name (roster_of ticket_of names list)
@@ -37,7 +37,7 @@ notice-held ticket_of names list each name (Some key) has =
     (keyed ticket_of names list roster (holds-refl ticket_of names list each)))
   where
     by_mark : (told : Bool) → is_among key list.told ≡ told → (untold : Bool) → is_among key (untold_keys list) ≡ untold
-        → notice_by_mark (cond told (Some true) (cond untold (Some false) None)) ≡ notice_in key (key_roster list)
+        → notice_by_flag (cond told (Some true) (cond untold (Some false) None)) ≡ notice_in key (key_roster list)
     by_mark true e untold f = sym (ap (λ t. cond t Told (cond (is_among key (keys list)) Untold Absent))
         (is_told-key list key ∙ e))
     by_mark false e true f = sym (ap (λ t. cond t Told (cond (is_among key (keys list)) Untold Absent))

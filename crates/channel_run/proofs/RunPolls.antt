@@ -11,7 +11,7 @@ use Rattle.event_list.specs.Keys.{is_among}
 use Rattle.event_list.specs.Waiting.{Waiting}
 use Rattle.channel_model.specs.declared.errors.SendError.{SendError}
 use Rattle.channel_model.specs.declared.errors.RecvError.{RecvError}
-use Rattle.channel_model.specs.declared.errors.OutOfMemory.{OutOfMemory as NoRoom}
+use Rattle.channel_model.specs.declared.errors.OutOfMemory.{OutOfMemory as OutOfMemoryError}
 use Rattle.channel_model.specs.declared.step.Refusal.TheVariants.{OutOfMemory}
 use Rattle.channel_run.specs.declared.operations.Operation.{Operation as Started}
 use Rattle.channel_run.specs.declared.operations.Operation.TheVariants.{Send, Recv, Closed}
@@ -41,7 +41,7 @@ use Rattle.channel_run.proofs.WholeSteps.{IsMade-AreAlike, StepsTo-made, StepsTo
 use Rattle.channel_run.proofs.RunWants.{brings-send, poll_not_refused, wants-message, wants-wait}
 
 -- a reply to a poll, and to want of memory
-abbrev pub polled : {T A : Type 0} → (Polled A → Reply T) → Result (Polled A) NoRoom → Reply T
+abbrev pub polled : {T A : Type 0} → (Polled A → Reply T) → Result (Polled A) OutOfMemoryError → Reply T
 polled wrap (Ok poll) = wrap poll
 polled wrap (Err error) = Refused OutOfMemory None
 
@@ -306,7 +306,7 @@ module _ {T W : Type 0} (core : Channel T W) (senders : List ℕ) (receivers : L
                 (full_shown core senders receivers weak_senders weak_receivers operations whole ∙ h)).replied))
 
     -- the whole poll of a send
-    pub polled-send : (result : Result (Polled (Result (Unit {0}) (SendError T))) NoRoom) (core' : Channel T W)
+    pub polled-send : (result : Result (Polled (Result (Unit {0}) (SendError T))) OutOfMemoryError) (core' : Channel T W)
         (payload : W)
         → IfOk result (λ poll. poll ≡ send_poll message core.closed (is_channel_full core))
         → OnReady result (core' ≡ (polled_send message ticket core).channel)
@@ -487,7 +487,7 @@ module _ {T W : Type 0} (core : Channel T W) (senders : List ℕ) (receivers : L
             (ap is_pending (sym (made-recv_waits (sym begins.0)).replied))
 
     -- the whole poll
-    pub polled-recv : (result : Result (Polled (Result T RecvError)) NoRoom) (core' : Channel T W) (payload : W)
+    pub polled-recv : (result : Result (Polled (Result T RecvError)) OutOfMemoryError) (core' : Channel T W) (payload : W)
         → IfOk result (λ poll. poll ≡ recv_poll (oldest core) core.closed)
         → OnReady result (core' ≡ (polled_receive ticket core).channel) → OnReady result (ticket' ≡ None)
         → OnWait result (RecvWaits ticket core payload ticket' core')
@@ -662,7 +662,7 @@ module _ {T W : Type 0} (core : Channel T W) (senders : List ℕ) (receivers : L
             (ap is_pending (sym (made-closed_waits (sym begins.0)).replied))
 
     -- the whole poll
-    pub polled-closed : (result : Result (Polled (Unit {0})) NoRoom) (core' : Channel T W) (payload : W)
+    pub polled-closed : (result : Result (Polled (Unit {0})) OutOfMemoryError) (core' : Channel T W) (payload : W)
         → IfOk result (λ poll. poll ≡ closed_poll (core.receivers == 0))
         → OnReady result (core' ≡ (record core { closeds = left ticket core.closeds }))
         → OnReady result (ticket' ≡ None)

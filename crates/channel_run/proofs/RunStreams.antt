@@ -5,7 +5,7 @@ use Rattle.std.specs.Map.{keys_of}
 use Rattle.futures.specs.declared.task.Poll.{Poll as Polled}
 use Rattle.futures.specs.declared.task.Poll.TheVariants.{Ready, Pending}
 use Rattle.event_list.specs.Waiting.{Waiting}
-use Rattle.channel_model.specs.declared.errors.OutOfMemory.{OutOfMemory as NoRoom}
+use Rattle.channel_model.specs.declared.errors.OutOfMemory.{OutOfMemory as OutOfMemoryError}
 use Rattle.channel_run.specs.declared.operations.Operation.{Operation as Started}
 use Rattle.channel_model.specs.declared.step.Refusal.TheVariants.{OutOfMemory}
 use Rattle.channel_model.specs.declared.step.Step.{Step}
@@ -187,7 +187,7 @@ module _ {T W : Type 0} (core : Channel T W) (senders : List ℕ) (receivers rec
           (keys_of receivers) core.streams all.streams is.fits_streams name ticket had begins.1)
 
   -- the whole poll
-  pub polled-stream : (result : Result (Polled (Option T)) NoRoom) (core' : Channel T W) (payload : W)
+  pub polled-stream : (result : Result (Polled (Option T)) OutOfMemoryError) (core' : Channel T W) (payload : W)
       → IfOk result (λ poll. poll ≡ next_poll (oldest core) core.closed)
       → OnReady result (core' ≡ (polled_stream ticket core).channel) → OnReady result (ticket' ≡ None)
       → OnWait result (NextWaits ticket core payload ticket' core')

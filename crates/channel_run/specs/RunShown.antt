@@ -4,7 +4,7 @@ use Rattle.std.specs.Map.{lookup, keys_of}
 use Rattle.std.specs.BTreeMap.{is_at}
 use Rattle.std.specs.Ordering.{nat_cmp}
 use Rattle.event_list.specs.Keys.{AreDifferent, is_among}
-use Rattle.event_list.specs.Waiting.{Waiting, keys, mark, told_count}
+use Rattle.event_list.specs.Waiting.{Waiting, keys, told_flag, told_count}
 use Rattle.channel_run.specs.declared.operations.Operation.{Operation as Started}
 use Rattle.channel_run.specs.declared.operations.Operation.TheVariants.{Send, Recv, Closed}
 use Rattle.channel_core.specs.declared.state.Group.{Group}
@@ -132,14 +132,14 @@ module _ {T : Type 0} where
     pub each_receiver : (name : ℕ) → number_at by_receiver name ≡ count_of (borrows_receiver name) operations
 
 -- whether the entry of a ticket waits, and was told
-abbrev pub notice_by_mark : Option Bool → Notice
-notice_by_mark (Some true) = Told
-notice_by_mark (Some false) = Untold
-notice_by_mark None = Absent
+abbrev pub notice_by_flag : Option Bool → Notice
+notice_by_flag (Some true) = Told
+notice_by_flag (Some false) = Untold
+notice_by_flag None = Absent
 
 abbrev pub notice_at : {W : Type 0} → Option ℕ → Waiting W → Notice
 notice_at None list = Absent
-notice_at (Some key) list = notice_by_mark (mark list key)
+notice_at (Some key) list = notice_by_flag (told_flag list key)
 
 -- ---- the run
 

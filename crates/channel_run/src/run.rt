@@ -305,7 +305,7 @@ pub fn run_all<T: Drop>(
     requires { HasPositiveCapacity kind }
     ensures made { IfOk result (λ end. ComesTo kind steps.items end.replies.items end.run) }
     ensures count { IfOk result (λ end. length end.replies.items ≡ length steps.items) }
-    ensures refused { IfErr result (λ error. error.0 ≡ steps) }
+    ensures handed_back { IfErr result (λ error. error.0 ≡ steps) }
 {
     let Ok(mut replies) = Vec::with_capacity(alloc, steps.len()) else {
         return Err(RunError(steps));

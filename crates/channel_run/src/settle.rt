@@ -56,7 +56,7 @@ impl<T: Drop> Run<T> {
         ensures settled { IfOk result (λ settled. (kind : Kind) (past : Past T)
             → StandsFor kind past self.old
             → SettlesTo kind past settled.polls settled.finished.items self.new) }
-        ensures refused { OnErr result (self.new ≡ self.old) }
+        ensures unchanged { OnErr result (self.new ≡ self.old) }
     {
         let mut finished = self.room_for_replies()?;
         for polls in 0..u128::MAX {

@@ -4,7 +4,7 @@ use Rattle.std.specs.Option.{option_map, option_and_then}
 use Rattle.std.proofs.lemmas.List.{length-map, length-append}
 use Rattle.slab.specs.Slab.{Slab, get, slab_len}
 use Rattle.event_list.specs.Keys.{is_among, AreDifferent}
-use Rattle.event_list.specs.Waiting.{Waiting, LosesOne, IsWaiting, keys, untold_keys, mark, joined, without, renewed, told_one, payloads, RingsEach}
+use Rattle.event_list.specs.Waiting.{Waiting, LosesOne, IsWaiting, keys, untold_keys, told_flag, joined, without, renewed, told_one, payloads, RingsEach}
 use Rattle.event_list.specs.Entries.{with_notice, is_told, payload_at, Rewrites}
 use Rattle.event_list.specs.Chain.{first_key, IsChain, untold_item, items, shown, IsLinked, Keeps}
 use Rattle.event_list.specs.declared.entries.Entry.{Entry}
@@ -13,7 +13,7 @@ use Rattle.event_list.specs.declared.entries.Notice.{Notice}
 use Rattle.event_list.specs.declared.entries.Notice.TheVariants.{Told, Untold}
 use Rattle.event_list.proofs.Splits.{without_told, without_untold, without_absent, renewed_absent, loses_one, joined_waits, renewed_waits}
 use Rattle.event_list.proofs.ChainLemmas.{Keeps-shown}
-use Rattle.event_list.proofs.ListLemmas.{mark_is, told_entry, untold_entry, told_from_mark, untold_from_mark, linked_renewed, FirstUntold, first_untold, linked_told_one}
+use Rattle.event_list.proofs.ListLemmas.{mark_is, told_entry, untold_entry, told_from_flag, untold_from_flag, linked_renewed, FirstUntold, first_untold, linked_told_one}
 
 -- a fact of the value, where there is one
 pub there : {result : Option Bool} {P : Type 0} → result ≡ Some true → OnSome result P → P
@@ -41,12 +41,12 @@ module _ {W : Type 0} where
       → Keeps slab ends len told list → LosesOne list key
   loses {list = list} key keeps = loses_one list key keeps.links.different
 
-  -- what the entries say of a key is its mark
+  -- what the entries say of a key is its told flag
   pub marked : {slab : Slab (Entry W)} {ends : Ends} {len told key name : ℕ} {list : Waiting W} {result : Option Bool}
       → Keeps slab ends len told list → key ≡ name → result ≡ option_map (λ entry. is_told entry.notice) (get slab key)
-      → result ≡ mark list name
+      → result ≡ told_flag list name
   marked {slab} {ends} {key = key} {list = list} keeps same is = is ∙ mark_is slab ends list key keeps.links
-      ∙ ap (mark list) same
+      ∙ ap (told_flag list) same
 
   chain_same : (old new : Slab (Entry W)) (before behind : Option ℕ) (xs : List (ℕ × Notice W))
       → ((key : ℕ) → get new key ≡ get old key) → IsChain old before xs behind → IsChain new before xs behind
@@ -82,10 +82,10 @@ module _ {W : Type 0} where
 
   -- how many are left of a list once a told key has left it
   told_left : (slab : Slab (Entry W)) (ends : Ends) (list : Waiting W) (key : ℕ) → IsLinked slab ends list
-      → mark list key ≡ Some true → (length (without list key).told + 1 ≡ length list.told)
+      → told_flag list key ≡ Some true → (length (without list key).told + 1 ≡ length list.told)
       × (length (without list key).untold ≡ length list.untold)
   told_left slab ends list key linked marked =
-      let at = told_entry slab ends list key linked (told_from_mark list key marked) in
+      let at = told_entry slab ends list key linked (told_from_flag list key marked) in
       let is = without_told list key at.front at.back at.cut in (
         omega (
           arith,
@@ -100,10 +100,10 @@ module _ {W : Type 0} where
 
   -- and once an untold one has
   untold_left : (slab : Slab (Entry W)) (ends : Ends) (list : Waiting W) (key : ℕ) → IsLinked slab ends list
-      → mark list key ≡ Some false → (length (without list key).told ≡ length list.told)
+      → told_flag list key ≡ Some false → (length (without list key).told ≡ length list.told)
       × (length (without list key).untold + 1 ≡ length list.untold)
   untold_left slab ends list key linked marked =
-      let at = untold_entry slab ends list key linked (untold_from_mark list key marked).1 in
+      let at = untold_entry slab ends list key linked (untold_from_flag list key marked).1 in
       let is = without_untold list key at.payload at.front at.back at.cut in (
         ap (λ (v : Waiting W). length v.told) is,
         omega (
@@ -118,13 +118,13 @@ module _ {W : Type 0} where
 
   -- somebody is told where a told key is in the list
   pub some_told : {slab : Slab (Entry W)} {ends : Ends} {len told : ℕ} {list : Waiting W} (key : ℕ)
-      → Keeps slab ends len told list → mark list key ≡ Some true → 0 < told
+      → Keeps slab ends len told list → told_flag list key ≡ Some true → 0 < told
   some_told {slab} {ends} {list = list} key keeps marked =
       omega (arith, keeps.counted, (told_left slab ends list key keeps.links marked).0)
 
   -- a told key leaves
   pub keeps_without_told : {old new : Slab (Entry W)} {ends left : Ends} {len told : ℕ} {list : Waiting W} (key : ℕ)
-      → Keeps old ends len told list → mark list key ≡ Some true → IsLinked new left (without list key)
+      → Keeps old ends len told list → told_flag list key ≡ Some true → IsLinked new left (without list key)
       → slab_len new + 1 ≡ slab_len old → Keeps new left (len - 1) (told - 1) (without list key)
   keeps_without_told {old} {ends = ends} {list = list} key keeps marked linked held =
       let sizes = told_left old ends list key keeps.links marked in
@@ -137,7 +137,7 @@ module _ {W : Type 0} where
 
   -- an untold key leaves
   pub keeps_without_untold : {old new : Slab (Entry W)} {ends left : Ends} {len told : ℕ} {list : Waiting W} (key : ℕ)
-      → Keeps old ends len told list → mark list key ≡ Some false → IsLinked new left (without list key)
+      → Keeps old ends len told list → told_flag list key ≡ Some false → IsLinked new left (without list key)
       → slab_len new + 1 ≡ slab_len old → Keeps new left (len - 1) told (without list key)
   keeps_without_untold {old} {ends = ends} {list = list} key keeps marked linked held =
       let sizes = untold_left old ends list key keeps.links marked in
@@ -150,12 +150,12 @@ module _ {W : Type 0} where
 
   -- a told key leaves, and comes again as the last one, untold
   pub keeps_moved : {old new : Slab (Entry W)} {ends left : Ends} {len told at : ℕ} {list : Waiting W} (key : ℕ)
-      (payload : W) → Keeps old ends len told list → mark list key ≡ Some true → at ≡ key
+      (payload : W) → Keeps old ends len told list → told_flag list key ≡ Some true → at ≡ key
       → IsLinked new left (joined (without list key) at payload) → slab_len new ≡ slab_len old
       → Keeps new left len (told - 1) (renewed list key payload)
   keeps_moved {old} {new} {ends} {left} {list = list} key payload keeps marked same linked held =
       let sizes = told_left old ends list key keeps.links marked in
-      rw (told_from_mark list key marked) (record {
+      rw (told_from_flag list key marked) (record {
         links = subst (λ (k : ℕ). IsLinked new left (joined (without list key) k payload)) same linked;
         counted = omega (arith, keeps.counted, sizes.0);
         total = omega (
@@ -171,11 +171,11 @@ module _ {W : Type 0} where
 
   -- an untold key keeps its place, with another payload
   pub keeps_repaid : {old new : Slab (Entry W)} {ends : Ends} {len told : ℕ} {list : Waiting W} (key : ℕ) (payload : W)
-      → Keeps old ends len told list → mark list key ≡ Some false
+      → Keeps old ends len told list → told_flag list key ≡ Some false
       → Rewrites old new key (option_map (with_notice (Untold payload)) (get old key))
       → Keeps new ends len told (renewed list key payload)
   keeps_repaid {old} {new} {ends} {list = list} key payload keeps marked writes =
-      let marks = untold_from_mark list key marked in
+      let marks = untold_from_flag list key marked in
       let size : length (map (λ (entry : ℕ × W). cond (entry.0 == key) (key, payload) entry) list.untold)
       ≡ length list.untold = length-map list.untold
       (λ (entry : ℕ × W). cond (entry.0 == key) (key, payload) entry) in
@@ -186,9 +186,9 @@ module _ {W : Type 0} where
         held = keeps.held ∙ sym writes.held;
       }
 
-  absent_from_mark : (list : Waiting W) (key : ℕ) → mark list key ≡ None
+  absent_from_flag : (list : Waiting W) (key : ℕ) → told_flag list key ≡ None
       → (is_among key list.told ≡ false) × (is_among key (untold_keys list) ≡ false)
-  absent_from_mark list key h = by_tests (is_among key list.told) (is_among key (untold_keys list)) h
+  absent_from_flag list key h = by_tests (is_among key list.told) (is_among key (untold_keys list)) h
     where
       by_tests : (told untold : Bool) → cond told (Some true) (cond untold (Some false) None) ≡ None
           → (told ≡ false) × (untold ≡ false)
@@ -197,17 +197,17 @@ module _ {W : Type 0} where
       by_tests false false h = (refl, refl)
 
   -- a key that isn't in the list changes nothing
-  pub without_none : {list : Waiting W} (key : ℕ) → mark list key ≡ None → without list key ≡ list
-  without_none {list} key h = let parts = absent_from_mark list key h in without_absent list key parts.0 parts.1
+  pub without_none : {list : Waiting W} (key : ℕ) → told_flag list key ≡ None → without list key ≡ list
+  without_none {list} key h = let parts = absent_from_flag list key h in without_absent list key parts.0 parts.1
 
   -- nor does it where it is to wait again
-  pub renewed_none : {list : Waiting W} (key : ℕ) (payload : W) → mark list key ≡ None → renewed list key payload ≡ list
-  renewed_none {list} key payload h = let parts = absent_from_mark list key h in
+  pub renewed_none : {list : Waiting W} (key : ℕ) (payload : W) → told_flag list key ≡ None → renewed list key payload ≡ list
+  renewed_none {list} key payload h = let parts = absent_from_flag list key h in
       renewed_absent list key payload parts.0 parts.1
 
   -- a key that isn't in the list leaves
   pub keeps_untouched : {old new : Slab (Entry W)} {ends left : Ends} {len told : ℕ} {list : Waiting W} (key : ℕ)
-      → Keeps old ends len told list → mark list key ≡ None → IsLinked new left (without list key) → new ≡ old
+      → Keeps old ends len told list → told_flag list key ≡ None → IsLinked new left (without list key) → new ≡ old
       → Keeps new left len told list
   keeps_untouched {old} {new} {ends} {left} key keeps marked linked same =
       record {
@@ -219,7 +219,7 @@ module _ {W : Type 0} where
 
   -- a key that was in the list waits again, with its payload
   pub waits_again : {after : Waiting W} (list : Waiting W) (key : ℕ) (payload : W) (told : Bool)
-      → AreDifferent (keys list) → mark list key ≡ Some told → after ≡ renewed list key payload
+      → AreDifferent (keys list) → told_flag list key ≡ Some told → after ≡ renewed list key payload
       → IsWaiting after key payload
   waits_again list key payload told different marked is =
       subst (λ (v : Waiting W). IsWaiting v key payload) (sym is)

@@ -5,7 +5,7 @@ use Rattle.std.proofs.lemmas.Bool.{eqb-false, ne_eqb, or_parts, or_from, cases_B
 use Rattle.std.proofs.lemmas.List.{map-id, map-append, append_assoc, append-nil}
 use Rattle.slab.specs.Slab.{Slab, get, Updates}
 use Rattle.event_list.specs.Keys.{is_among, AreDifferent}
-use Rattle.event_list.specs.Waiting.{Waiting, keys, untold_keys, mark, joined, without, renewed, told_one}
+use Rattle.event_list.specs.Waiting.{Waiting, keys, untold_keys, told_flag, joined, without, renewed, told_one}
 use Rattle.event_list.specs.Entries.{with_behind, with_before, with_notice, is_told, is_at, ends_without, ends_with, Rewrites, MayRewrite}
 use Rattle.event_list.specs.Chain.{first_key, last_key, IsChain, told_item, untold_item, items, IsLinked}
 use Rattle.event_list.specs.declared.entries.Entry.{Entry}
@@ -102,9 +102,9 @@ module _ {W : Type 0} where
             (map untold_item back) linked.linked whole;
       }
 
-  -- what the slab says of a key is its mark
+  -- what the slab says of a key is its told flag
   pub mark_is : (slab : Slab (Entry W)) (ends : Ends) (list : Waiting W) (key : ℕ) → IsLinked slab ends list
-      → option_map (λ entry. is_told entry.notice) (get slab key) ≡ mark list key
+      → option_map (λ entry. is_told entry.notice) (get slab key) ≡ told_flag list key
   mark_is slab ends list key linked =
       elim (cases_Bool (is_among key list.told)) [
         | inl told ↦ rw told (ap (option_map (λ (entry : Entry W). is_told entry.notice))
@@ -117,9 +117,9 @@ module _ {W : Type 0} where
         ]
       ]
 
-  pub untold_from_mark : (list : Waiting W) (key : ℕ) → mark list key ≡ Some false
+  pub untold_from_flag : (list : Waiting W) (key : ℕ) → told_flag list key ≡ Some false
       → (is_among key list.told ≡ false) × (is_among key (untold_keys list) ≡ true)
-  untold_from_mark list key h = by_tests (is_among key list.told) (is_among key (untold_keys list)) h
+  untold_from_flag list key h = by_tests (is_among key list.told) (is_among key (untold_keys list)) h
     where
       by_tests : (told untold : Bool) → cond told (Some true) (cond untold (Some false) None) ≡ Some false
           → (told ≡ false) × (untold ≡ true)
@@ -127,8 +127,8 @@ module _ {W : Type 0} where
       by_tests false true h = (refl, refl)
       by_tests false false h = absurd (cc)
 
-  pub told_from_mark : (list : Waiting W) (key : ℕ) → mark list key ≡ Some true → is_among key list.told ≡ true
-  told_from_mark list key h = by_tests (is_among key list.told) (is_among key (untold_keys list)) h
+  pub told_from_flag : (list : Waiting W) (key : ℕ) → told_flag list key ≡ Some true → is_among key list.told ≡ true
+  told_from_flag list key h = by_tests (is_among key list.told) (is_among key (untold_keys list)) h
     where
       by_tests : (told untold : Bool) → cond told (Some true) (cond untold (Some false) None) ≡ Some true → told ≡ true
       by_tests true untold h = refl
@@ -354,11 +354,11 @@ module _ {W : Type 0} where
 
   -- an untold entry gets another payload
   pub linked_renewed : (old new : Slab (Entry W)) (ends : Ends) (list : Waiting W) (key : ℕ) (payload : W)
-      → IsLinked old ends list → mark list key ≡ Some false
+      → IsLinked old ends list → told_flag list key ≡ Some false
       → Rewrites old new key (option_map (with_notice (Untold payload)) (get old key))
       → IsLinked new ends (renewed list key payload)
   linked_renewed old new ends list key payload linked marked writes =
-      let marks = untold_from_mark list key marked in
+      let marks = untold_from_flag list key marked in
       let at = untold_entry old ends list key linked marks.1 in
       let xs = map told_item list.told ++ map untold_item at.front in
       let ys = map (untold_item {W = W}) at.back in

@@ -5,7 +5,7 @@ use Rattle.std.proofs.lemmas.List.{map-id, length-append, map-append, append_ass
 use Rattle.std.proofs.lemmas.List.Folds.{list_any-append}
 use Rattle.std.proofs.lemmas.List.Elements.{filter-append}
 use Rattle.event_list.specs.Keys.{is_among, AreDifferent}
-use Rattle.event_list.specs.Waiting.{Waiting, LosesOne, IsWaiting, payload_in, keys, untold_keys, mark, joined, without, repaid, renewed}
+use Rattle.event_list.specs.Waiting.{Waiting, LosesOne, IsWaiting, payload_in, keys, untold_keys, told_flag, joined, without, repaid, renewed}
 
 pub eqb_swap : (x y : ℕ) → (x == y) ≡ false → (y == x) ≡ false
 eqb_swap x y h = ne_eqb y x (λ e. eqb-false x y h (sym e))
@@ -333,7 +333,7 @@ module _ {W : Type 0} where
 
   -- so is one that waits again
   pub renewed_waits : (list : Waiting W) (key : ℕ) (payload : W) → AreDifferent (keys list)
-      → is_some (mark list key) ≡ true → IsWaiting (renewed list key payload) key payload
+      → is_some (told_flag list key) ≡ true → IsWaiting (renewed list key payload) key payload
   renewed_waits list key payload different present =
       elim (cases_Bool (is_among key list.told)) [
         | inl told ↦

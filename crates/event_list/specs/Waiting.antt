@@ -34,8 +34,8 @@ module _ {W : Type 0} where
   payloads list = map (λ entry. entry.1) list.untold
 
   -- whether the key is told, or nothing where it isn't in the list
-  abbrev pub mark : Waiting W → ℕ → Option Bool
-  mark list key =
+  abbrev pub told_flag : Waiting W → ℕ → Option Bool
+  told_flag list key =
       if is_among key list.told then Some true
       else if is_among key (untold_keys list) then Some false else None
 
@@ -46,7 +46,7 @@ module _ {W : Type 0} where
 
   -- the key is in the list, untold, with this payload
   pub record IsWaiting (list : Waiting W) (key : ℕ) (payload : W) : Type 0 where
-    pub is_untold : mark list key ≡ Some false
+    pub is_untold : told_flag list key ≡ Some false
     pub holds : payload_in key list.untold ≡ Some payload
 
   -- a new entry goes last, untold

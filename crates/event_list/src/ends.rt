@@ -2,7 +2,7 @@
 ghost use Rattle.std.specs.Prelude.{◌≡◌, ◌+◌, ◌^◌, ◌<◌, ◌≤◌, false, OnSome, IfNone};
 ghost use Rattle.slab.specs.Slab.{slab_len, HasRoomFor};
 ghost use Rattle.event_list.specs.Keys.{is_among};
-ghost use Rattle.event_list.specs.Waiting.{Waiting, keys, mark, joined, without};
+ghost use Rattle.event_list.specs.Waiting.{Waiting, keys, told_flag, joined, without};
 ghost use Rattle.event_list.specs.Entries.{ends_with, ends_without};
 ghost use Rattle.event_list.specs.Chain.{IsLinked};
 
@@ -59,7 +59,7 @@ impl Ends {
         ensures leaves { (list : Waiting W) → IsLinked entries.old self.old list
             → IsLinked entries.new self.new (without list key) }
         ensures was_told { (list : Waiting W) → IsLinked entries.old self.old list
-            → result ≡ mark list key }
+            → result ≡ told_flag list key }
         ensures absent { IfNone result (entries.new ≡ entries.old) }
         ensures held { OnSome result (slab_len entries.new + 1 ≡ slab_len entries.old) }
         ensures next { OnSome result (entries.new.vacant_key ≡ key) }

@@ -11,7 +11,7 @@
 ghost use Rattle.std.specs.Prelude.{◌≡◌, ◌+◌, ◌<◌, ◌≤◌, ◌↔◌, length, take, is_some, IsTrue, IfNone, IfOk, IfErr, OnErr, slice_get, false};
 ghost use Rattle.std.specs.Bool.{OnTrue, OnFalse};
 ghost use Rattle.event_list.specs.Keys.{is_among, AreDifferent};
-ghost use Rattle.event_list.specs.Waiting.{LosesOne, IsWaiting, nobody, keys, told_count, payloads, mark, joined, without, renewed, told_one, told_all, cancelled, rung_by_cancelling, RingsEach};
+ghost use Rattle.event_list.specs.Waiting.{LosesOne, IsWaiting, nobody, keys, told_count, payloads, told_flag, joined, without, renewed, told_one, told_all, cancelled, rung_by_cancelling, RingsEach};
 
 use crate::bell::Bell;
 use crate::ends::Ends;
@@ -74,7 +74,7 @@ impl<W: Drop> Links<W> {
         ensures fresh { IfOk result (λ ticket. is_among ticket (keys self.old) ≡ false) }
         ensures after { IfOk result (λ ticket. self.new ≡ joined self.old ticket w) }
         ensures waits { IfOk result (λ ticket. IsWaiting self.new ticket w) }
-        ensures refused { IfErr result (λ error. error.0 ≡ w) }
+        ensures handed_back { IfErr result (λ error. error.0 ≡ w) }
         ensures unchanged { OnErr result (self.new ≡ self.old) }
         ensures different { AreDifferent (keys self.new) }
         ensures counted { lookups.new ≤ lookups.old + 6 }
@@ -90,7 +90,7 @@ impl<W: Drop> Links<W> {
 
     /// The entry waits again with this payload. At most 6 look-ups.
     pub(crate) fn again<L: Ledger>(&mut self, t: &Ticket, w: W, lookups: &mut Lookups<L>) -> bool
-        ensures found { result ≡ is_some (mark self.old t.now) }
+        ensures found { result ≡ is_some (told_flag self.old t.now) }
         ensures after { self.new ≡ renewed self.old t.now w }
         ensures waits { OnTrue result (IsWaiting self.new t.now w) }
         ensures unchanged { OnFalse result (self.new ≡ self.old) }
@@ -157,7 +157,7 @@ impl<W: Drop> Links<W> {
 
     /// The entry leaves. At most 6 look-ups.
     pub(crate) fn remove<L: Ledger>(&mut self, t: Ticket, lookups: &mut Lookups<L>) -> Option<bool>
-        ensures was_told { result ≡ mark self.old t }
+        ensures was_told { result ≡ told_flag self.old t }
         ensures after { self.new ≡ without self.old t }
         ensures unchanged { IfNone result (self.new ≡ self.old) }
         ensures different { AreDifferent (keys self.new) }
@@ -194,7 +194,7 @@ impl<W: Drop> Links<W> {
 
     /// Whether the ticket's entry is told, or nothing where it isn't in the list. One look-up.
     pub(crate) fn is_told<L: Ledger>(&self, t: &Ticket, lookups: &mut Lookups<L>) -> Option<bool>
-        ensures value { result ≡ mark self.now t.now }
+        ensures value { result ≡ told_flag self.now t.now }
         ensures counted { lookups.new ≡ lookups.old + 1 }
     {
         self.entries.is_told(t.key, lookups)

@@ -21,7 +21,7 @@
 ghost use Rattle.std.specs.Prelude.{◌≡◌, ◌+◌, ◌<◌, ◌≤◌, ◌↔◌, length, take, is_some, IsTrue, IfNone, IfOk, IfErr, OnErr, slice_get, false};
 ghost use Rattle.std.specs.Bool.{OnTrue, OnFalse};
 ghost use Rattle.event_list.specs.Keys.{is_among, AreDifferent};
-ghost use Rattle.event_list.specs.Waiting.{LosesOne, IsWaiting, nobody, keys, told_count, payloads, mark, joined, without, renewed, told_one, told_all, cancelled, rung_by_cancelling, RingsEach};
+ghost use Rattle.event_list.specs.Waiting.{LosesOne, IsWaiting, nobody, keys, told_count, payloads, told_flag, joined, without, renewed, told_one, told_all, cancelled, rung_by_cancelling, RingsEach};
 ghost use Rattle.event_list.specs.Opens.{Opens};
 
 pub(crate) mod steps;
@@ -114,7 +114,7 @@ impl<W: Drop> WaitList<W> {
         ensures fresh { IfOk result (λ ticket. is_among ticket (keys self.old) ≡ false) }
         ensures after { IfOk result (λ ticket. self.new ≡ joined self.old ticket w) }
         ensures waits { IfOk result (λ ticket. IsWaiting self.new ticket w) }
-        ensures refused { IfErr result (λ error. error.0 ≡ w) }
+        ensures handed_back { IfErr result (λ error. error.0 ≡ w) }
         ensures unchanged { OnErr result (self.new ≡ self.old) }
         ensures different { AreDifferent (keys self.new) }
     {
@@ -139,7 +139,7 @@ impl<W: Drop> WaitList<W> {
     /// assert_eq!(rt; list.is_told(&second), Some(true));
     /// ```
     pub fn again(&mut self, t: &Ticket, w: W) -> bool
-        ensures found { result ≡ is_some (mark self.old t.now) }
+        ensures found { result ≡ is_some (told_flag self.old t.now) }
         ensures after { self.new ≡ renewed self.old t.now w }
         ensures waits { OnTrue result (IsWaiting self.new t.now w) }
         ensures unchanged { OnFalse result (self.new ≡ self.old) }
@@ -215,7 +215,7 @@ impl<W: Drop> WaitList<W> {
     /// assert_eq!(rt; list.len(), 0);
     /// ```
     pub fn remove(&mut self, t: Ticket) -> Option<bool>
-        ensures was_told { result ≡ mark self.old t }
+        ensures was_told { result ≡ told_flag self.old t }
         ensures after { self.new ≡ without self.old t }
         ensures unchanged { IfNone result (self.new ≡ self.old) }
         ensures different { AreDifferent (keys self.new) }
@@ -270,7 +270,7 @@ impl<W: Drop> WaitList<W> {
         ensures fresh { IfOk result (λ ticket. is_among ticket (keys self.old) ≡ false) }
         ensures after { IfOk result (λ ticket. self.new ≡ joined self.old ticket w) }
         ensures waits { IfOk result (λ ticket. IsWaiting self.new ticket w) }
-        ensures refused { IfErr result (λ error. error.0 ≡ w) }
+        ensures handed_back { IfErr result (λ error. error.0 ≡ w) }
         ensures unchanged { OnErr result (self.new ≡ self.old) }
         ensures different { AreDifferent (keys self.new) }
         ensures counted { steps.new ≤ steps.old + 6 }
@@ -281,7 +281,7 @@ impl<W: Drop> WaitList<W> {
 
     /// `again`, which counts its look-ups: at most 6.
     pub fn again_counted<L: Ledger>(&mut self, t: &Ticket, w: W, steps: &mut Steps<L>) -> bool
-        ensures found { result ≡ is_some (mark self.old t.now) }
+        ensures found { result ≡ is_some (told_flag self.old t.now) }
         ensures after { self.new ≡ renewed self.old t.now w }
         ensures waits { OnTrue result (IsWaiting self.new t.now w) }
         ensures unchanged { OnFalse result (self.new ≡ self.old) }
@@ -325,7 +325,7 @@ impl<W: Drop> WaitList<W> {
 
     /// `remove`, which counts its look-ups: at most 6.
     pub fn remove_counted<L: Ledger>(&mut self, t: Ticket, steps: &mut Steps<L>) -> Option<bool>
-        ensures was_told { result ≡ mark self.old t }
+        ensures was_told { result ≡ told_flag self.old t }
         ensures after { self.new ≡ without self.old t }
         ensures unchanged { IfNone result (self.new ≡ self.old) }
         ensures different { AreDifferent (keys self.new) }
@@ -370,14 +370,14 @@ impl<W: Drop> WaitList<W> {
 
     /// Whether the ticket's entry is in the list.
     pub fn contains(&self, t: &Ticket) -> bool
-        ensures { result ≡ is_some (mark self.now t.now) }
+        ensures { result ≡ is_some (told_flag self.now t.now) }
     {
         self.is_told(t).is_some()
     }
 
     /// Whether the ticket's entry is told, or nothing where it isn't in the list.
     pub fn is_told(&self, t: &Ticket) -> Option<bool>
-        ensures { result ≡ mark self.now t.now }
+        ensures { result ≡ told_flag self.now t.now }
     {
         self.is_told_from::<Brand>(t, Blank::new(1))
     }
@@ -398,7 +398,7 @@ impl<W: Drop> WaitList<W> {
         ensures fresh { IfOk result (λ ticket. is_among ticket (keys self.old) ≡ false) }
         ensures after { IfOk result (λ ticket. self.new ≡ joined self.old ticket w) }
         ensures waits { IfOk result (λ ticket. IsWaiting self.new ticket w) }
-        ensures refused { IfErr result (λ error. error.0 ≡ w) }
+        ensures handed_back { IfErr result (λ error. error.0 ≡ w) }
         ensures unchanged { OnErr result (self.new ≡ self.old) }
         ensures different { AreDifferent (keys self.new) }
     {
@@ -407,7 +407,7 @@ impl<W: Drop> WaitList<W> {
 
     fn again_from<L: Ledger>(&mut self, t: &Ticket, w: W, blank: Blank) -> bool
         requires { Opens blank.name blank.parts L.name L.parts }
-        ensures found { result ≡ is_some (mark self.old t.now) }
+        ensures found { result ≡ is_some (told_flag self.old t.now) }
         ensures after { self.new ≡ renewed self.old t.now w }
         ensures waits { OnTrue result (IsWaiting self.new t.now w) }
         ensures unchanged { OnFalse result (self.new ≡ self.old) }
@@ -439,7 +439,7 @@ impl<W: Drop> WaitList<W> {
 
     fn remove_from<L: Ledger>(&mut self, t: Ticket, blank: Blank) -> Option<bool>
         requires { Opens blank.name blank.parts L.name L.parts }
-        ensures was_told { result ≡ mark self.old t }
+        ensures was_told { result ≡ told_flag self.old t }
         ensures after { self.new ≡ without self.old t }
         ensures unchanged { IfNone result (self.new ≡ self.old) }
         ensures different { AreDifferent (keys self.new) }
@@ -460,7 +460,7 @@ impl<W: Drop> WaitList<W> {
 
     fn is_told_from<L: Ledger>(&self, t: &Ticket, blank: Blank) -> Option<bool>
         requires { Opens blank.name blank.parts L.name L.parts }
-        ensures { result ≡ mark self.now t.now }
+        ensures { result ≡ told_flag self.now t.now }
     {
         let mut steps = Steps::<L>::of(blank);
         self.links.is_told(t, &mut steps.lookups)

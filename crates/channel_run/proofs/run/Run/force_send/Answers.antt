@@ -33,7 +33,7 @@ returns g c =
     elim c.match-force_send.branch [
       | in-Ok w ↦ rw (← c.self.view_is, w.result-is, w.in-Ok.ensures.reply, w.in-Ok.ensures.after)
           (StepsTo-made run _ step _ allowed is.made)
-      | in-Err w ↦ rw (← c.self.view_is, w.result-is, w.in-Err.ensures.refused, w.in-Err.ensures.unchanged)
+      | in-Err w ↦ rw (← c.self.view_is, w.result-is, w.in-Err.ensures.handed_back, w.in-Err.ensures.unchanged)
           (StepsTo-wants run run step _ (wants-message run step allowed refl w.in-Err.ensures.wanted.1
           w.in-Err.ensures.wanted.0) (IsRefused-unchanged run step Refusal.OutOfMemory))
     ]

@@ -1,25 +1,25 @@
 use Rattle.std.proofs.Common.{◌≡◌, ◌∙◌, refl, sym, ap, Some, None, true, false}
 use Rattle.std.specs.Option.{is_some}
-use Rattle.event_list.specs.Waiting.{mark, renewed}
+use Rattle.event_list.specs.Waiting.{told_flag, renewed}
 use Rattle.event_list.proofs.KeepLemmas.{opened, shows, closed, loses, marked, there, some_told, keeps_repaid, keeps_moved, renewed_none, waits_again}
 use Rattle.event_list.proofs.links.Links.again.Goals as goal
 
 pub returns-in_default-clause-found : goal.returns-in_default-clause-found
 returns-in_default-clause-found g c =
-    let is : mark c.args.self.now c.t.inside.key ≡ None =
+    let is : told_flag c.args.self.now c.t.inside.key ≡ None =
     sym (marked (opened c.self.invariant c.self.view_is) refl c.is_told.ensures.value) ∙ c.in_default.is in
-    sym (ap is_some (ap (mark c.args.self.now) (sym c.t.view_is) ∙ is))
+    sym (ap is_some (ap (told_flag c.args.self.now) (sym c.t.view_is) ∙ is))
 
 pub returns-in_default-clause-after : goal.returns-in_default-clause-after
 returns-in_default-clause-after g c =
-    let is : mark c.args.self.now c.t.inside.key ≡ None =
+    let is : told_flag c.args.self.now c.t.inside.key ≡ None =
     sym (marked (opened c.self.invariant c.self.view_is) refl c.is_told.ensures.value) ∙ c.in_default.is in
     sym (renewed_none c.t.inside.key c.args.w is) ∙ ap (λ k. renewed c.args.self.now k c.args.w) c.t.view_is
 
 pub invariant_of-self : goal.invariant_of-self
 invariant_of-self g c =
     let keeps = opened c.self.invariant c.self.view_is in
-    let is : mark c.args.self.now c.t.inside.key ≡ Some false =
+    let is : told_flag c.args.self.now c.t.inside.key ≡ Some false =
     sym (marked (opened c.self.invariant c.self.view_is) refl c.is_told.ensures.value) ∙ c.in-Some.is
     ∙ ap Some c.if-not-was_told.true in
     let done = keeps_repaid c.t.inside.key c.args.w keeps is c.set_payload.ensures.rewrites in
@@ -28,7 +28,7 @@ invariant_of-self g c =
 pub returns-then-not-was_told-clause-after : goal.returns-then-not-was_told-clause-after
 returns-then-not-was_told-clause-after g c =
     let keeps = opened c.self.invariant c.self.view_is in
-    let is : mark c.args.self.now c.t.inside.key ≡ Some false =
+    let is : told_flag c.args.self.now c.t.inside.key ≡ Some false =
     sym (marked (opened c.self.invariant c.self.view_is) refl c.is_told.ensures.value) ∙ c.in-Some.is
     ∙ ap Some c.if-not-was_told.true in
     let done = keeps_repaid c.t.inside.key c.args.w keeps is c.set_payload.ensures.rewrites in
@@ -37,7 +37,7 @@ returns-then-not-was_told-clause-after g c =
 pub put_last-requires : goal.put_last-requires
 put_last-requires g c =
     let keeps = opened c.self.invariant c.self.view_is in
-    let is : mark c.args.self.now c.t.inside.key ≡ Some true =
+    let is : told_flag c.args.self.now c.t.inside.key ≡ Some true =
     sym (marked (opened c.self.invariant c.self.view_is) refl c.is_told.ensures.value) ∙ c.in-Some.is
     ∙ ap Some c.if-not-was_told.false in
     let taken : c.take_out.result ≡ Some true = c.take_out.ensures.was_told c.args.self.now keeps.links ∙ is in
@@ -46,7 +46,7 @@ put_last-requires g c =
 pub overflow_sub-self : goal.overflow_sub-self
 overflow_sub-self g c =
     let keeps = opened c.self.invariant c.self.view_is in
-    let is : mark c.args.self.now c.t.inside.key ≡ Some true =
+    let is : told_flag c.args.self.now c.t.inside.key ≡ Some true =
     sym (marked (opened c.self.invariant c.self.view_is) refl c.is_told.ensures.value) ∙ c.in-Some.is
     ∙ ap Some c.if-not-was_told.false in
     some_told c.t.inside.key keeps is
@@ -54,7 +54,7 @@ overflow_sub-self g c =
 pub invariant_of-self-2 : goal.invariant_of-self-2
 invariant_of-self-2 g c =
     let keeps = opened c.self.invariant c.self.view_is in
-    let is : mark c.args.self.now c.t.inside.key ≡ Some true =
+    let is : told_flag c.args.self.now c.t.inside.key ≡ Some true =
     sym (marked (opened c.self.invariant c.self.view_is) refl c.is_told.ensures.value) ∙ c.in-Some.is
     ∙ ap Some c.if-not-was_told.false in
     let taken : c.take_out.result ≡ Some true = c.take_out.ensures.was_told c.args.self.now keeps.links ∙ is in
@@ -67,7 +67,7 @@ invariant_of-self-2 g c =
 pub returns-clause-after : goal.returns-clause-after
 returns-clause-after g c =
     let keeps = opened c.self.invariant c.self.view_is in
-    let is : mark c.args.self.now c.t.inside.key ≡ Some true =
+    let is : told_flag c.args.self.now c.t.inside.key ≡ Some true =
     sym (marked (opened c.self.invariant c.self.view_is) refl c.is_told.ensures.value) ∙ c.in-Some.is
     ∙ ap Some c.if-not-was_told.false in
     let taken : c.take_out.result ≡ Some true = c.take_out.ensures.was_told c.args.self.now keeps.links ∙ is in

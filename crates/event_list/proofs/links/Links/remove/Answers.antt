@@ -1,12 +1,12 @@
 use Rattle.std.proofs.Common.{◌≡◌, ◌∙◌, sym, ap, Some, None, true, false}
-use Rattle.event_list.specs.Waiting.{mark, without}
+use Rattle.event_list.specs.Waiting.{told_flag, without}
 use Rattle.event_list.proofs.KeepLemmas.{opened, shows, closed, loses, some_told, keeps_without_told, keeps_without_untold, keeps_untouched, without_none}
 use Rattle.event_list.proofs.links.Links.remove.Goals as goal
 
 pub invariant_of-self : goal.invariant_of-self
 invariant_of-self g c =
     let keeps = opened c.self.invariant c.self.view_is in
-    let marked : mark c.args.self.now c.t.inside.key ≡ None =
+    let marked : told_flag c.args.self.now c.t.inside.key ≡ None =
     sym (c.take_out.ensures.was_told c.args.self.now keeps.links) ∙ c.in_err-was_told.was in
     let left = keeps_untouched c.t.inside.key keeps marked
     (c.take_out.ensures.leaves c.args.self.now keeps.links) c.in_err-was_told.ensures.absent in
@@ -15,7 +15,7 @@ invariant_of-self g c =
 pub returns-in_err-was_told-clause-after : goal.returns-in_err-was_told-clause-after
 returns-in_err-was_told-clause-after g c =
     let keeps = opened c.self.invariant c.self.view_is in
-    let marked : mark c.args.self.now c.t.inside.key ≡ None =
+    let marked : told_flag c.args.self.now c.t.inside.key ≡ None =
     sym (c.take_out.ensures.was_told c.args.self.now keeps.links) ∙ c.in_err-was_told.was in
     let left = keeps_untouched c.t.inside.key keeps marked
     (c.take_out.ensures.leaves c.args.self.now keeps.links) c.in_err-was_told.ensures.absent in
@@ -24,7 +24,7 @@ returns-in_err-was_told-clause-after g c =
 pub returns-in_err-was_told-clause-unchanged : goal.returns-in_err-was_told-clause-unchanged
 returns-in_err-was_told-clause-unchanged g c =
     let keeps = opened c.self.invariant c.self.view_is in
-    let marked : mark c.args.self.now c.t.inside.key ≡ None =
+    let marked : told_flag c.args.self.now c.t.inside.key ≡ None =
     sym (c.take_out.ensures.was_told c.args.self.now keeps.links) ∙ c.in_err-was_told.was in
     let left = keeps_untouched c.t.inside.key keeps marked
     (c.take_out.ensures.leaves c.args.self.now keeps.links) c.in_err-was_told.ensures.absent in
@@ -33,7 +33,7 @@ returns-in_err-was_told-clause-unchanged g c =
 pub overflow_sub-self-then-was_told : goal.overflow_sub-self-then-was_told
 overflow_sub-self-then-was_told g c =
     let keeps = opened c.self.invariant c.self.view_is in
-    let marked : mark c.args.self.now c.t.inside.key ≡ Some true =
+    let marked : told_flag c.args.self.now c.t.inside.key ≡ Some true =
     sym (c.take_out.ensures.was_told c.args.self.now keeps.links) ∙ c.in_ok-was_told.was
     ∙ ap Some c.if-was_told.true in
     some_told c.t.inside.key keeps marked
@@ -41,7 +41,7 @@ overflow_sub-self-then-was_told g c =
 pub invariant_of-self-then-was_told : goal.invariant_of-self-then-was_told
 invariant_of-self-then-was_told g c =
     let keeps = opened c.self.invariant c.self.view_is in
-    let marked : mark c.args.self.now c.t.inside.key ≡ Some true =
+    let marked : told_flag c.args.self.now c.t.inside.key ≡ Some true =
     sym (c.take_out.ensures.was_told c.args.self.now keeps.links) ∙ c.in_ok-was_told.was
     ∙ ap Some c.if-was_told.true in
     let left = keeps_without_told c.t.inside.key keeps marked
@@ -51,7 +51,7 @@ invariant_of-self-then-was_told g c =
 pub invariant_of-self-else-was_told : goal.invariant_of-self-else-was_told
 invariant_of-self-else-was_told g c =
     let keeps = opened c.self.invariant c.self.view_is in
-    let marked : mark c.args.self.now c.t.inside.key ≡ Some false =
+    let marked : told_flag c.args.self.now c.t.inside.key ≡ Some false =
     sym (c.take_out.ensures.was_told c.args.self.now keeps.links) ∙ c.in_ok-was_told.was
     ∙ ap Some c.if-was_told.false in
     let left = keeps_without_untold c.t.inside.key keeps marked
@@ -61,7 +61,7 @@ invariant_of-self-else-was_told g c =
 pub returns-then-was_told-clause-after : goal.returns-then-was_told-clause-after
 returns-then-was_told-clause-after g c =
     let keeps = opened c.self.invariant c.self.view_is in
-    let marked : mark c.args.self.now c.t.inside.key ≡ Some true =
+    let marked : told_flag c.args.self.now c.t.inside.key ≡ Some true =
     sym (c.take_out.ensures.was_told c.args.self.now keeps.links) ∙ c.in_ok-was_told.was
     ∙ ap Some c.if-was_told.true in
     let left = keeps_without_told c.t.inside.key keeps marked
@@ -71,7 +71,7 @@ returns-then-was_told-clause-after g c =
 pub returns-else-was_told-clause-after : goal.returns-else-was_told-clause-after
 returns-else-was_told-clause-after g c =
     let keeps = opened c.self.invariant c.self.view_is in
-    let marked : mark c.args.self.now c.t.inside.key ≡ Some false =
+    let marked : told_flag c.args.self.now c.t.inside.key ≡ Some false =
     sym (c.take_out.ensures.was_told c.args.self.now keeps.links) ∙ c.in_ok-was_told.was
     ∙ ap Some c.if-was_told.false in
     let left = keeps_without_untold c.t.inside.key keeps marked

@@ -1,0 +1,300 @@
+//! The polls of those who may wait, and what is left behind where one gives up.
+ghost use Rattle.std.specs.Prelude.{◌≡◌, ◌==◌, Some, None, IfOk, OnErr};
+ghost use Rattle.event_list.specs.Waiting.{RingsEach};
+ghost use Rattle.channel_model.specs.Tables.{OnReady, OnWait, send_poll, recv_poll, next_poll, closed_poll};
+ghost use Rattle.channel_core.specs.Tickets.{left, handed_on, rung_by_handing_on};
+ghost use Rattle.channel_core.specs.Channel.{is_channel_full, oldest, polled_receive, polled_stream, polled_send, SendWaits, RecvWaits, NextWaits, ClosedWaits, SendWants, RecvWants, NextWants, ClosedWants};
+
+use super::Core;
+use crate::waiting::{hand_on, leave, wait};
+use channel_model::{NoMemory, OutOfMemory, RecvError, SendError};
+use event_list::{Bell, Ticket};
+use futures::task::Poll;
+
+impl<T: Drop, W: Drop> Core<T, W> {
+    /// Polls a send: its message and its ticket. One without a message is finished, and stays
+    /// pending.
+    ///
+    /// A ready poll leaves neither message nor ticket. A pending one leaves the ticket of an
+    /// unnotified entry that holds `w`. Where memory was refused nothing has changed, the message
+    /// and the ticket neither.
+    ///
+    /// # Examples
+    ///
+    /// ```
+    /// let mut core: Core<u64, ()> = Core::bounded(rt.alloc(), 1)?;
+    /// let (mut message, mut ticket) = (Some(2), None);
+    /// assert_eq!(rt; core.try_send(1, &mut Quiet)?, Ok(()));
+    /// let poll = core.poll_send(&mut message, &mut ticket, (), &mut Quiet)?;
+    /// assert!(rt; poll.is_pending());
+    ///
+    /// assert_eq!(rt; core.try_recv(&mut Quiet), Ok(1));
+    /// let poll = core.poll_send(&mut message, &mut ticket, (), &mut Quiet)?;
+    /// assert!(rt; poll.is_ready());
+    /// assert!(rt; message.is_none());
+    /// ```
+    #[inline(always)]
+    pub fn poll_send<B: Bell<W>>(
+        &mut self,
+        m: &mut Option<T>,
+        t: &mut Option<Ticket>,
+        w: W,
+        bell: &mut B,
+    ) -> Result<Poll<Result<(), SendError<T>>>, OutOfMemory>
+        ensures reply { IfOk result
+            (λ poll. poll ≡ send_poll m.old self.old.closed (is_channel_full self.old)) }
+        ensures after { OnReady result (self.new ≡ (polled_send m.old t.old self.old).channel) }
+        ensures rung { OnReady result
+            (RingsEach B.rings bell.old (polled_send m.old t.old self.old).rung bell.new) }
+        ensures finished { OnReady result ((m.new ≡ None) × (t.new ≡ None)) }
+
+        ensures waits { OnWait result (SendWaits m.old t.old self.old w t.new self.new) }
+        ensures kept { OnWait result (m.new ≡ m.old) }
+        ensures silent { OnWait result (bell.new ≡ bell.old) }
+
+        ensures unchanged { OnErr result ((self.new ≡ self.old) × (bell.new ≡ bell.old)) }
+        ensures unpolled { OnErr result ((m.new ≡ m.old) × (t.new ≡ t.old)) }
+        ensures wanted { OnErr result (SendWants m.old t.old self.old) }
+    {
+        let Some(message) = m.take() else {
+            return Ok(Poll::Pending);
+        };
+        if self.closed {
+            leave(&mut self.lists.sends, t);
+            return Ok(Poll::Ready(Err(SendError(message))));
+        }
+        match self.queue.push(message) {
+            Ok(Ok(())) => {
+                leave(&mut self.lists.sends, t);
+                self.lists.tell_accepted(bell);
+                Ok(Poll::Ready(Ok(())))
+            }
+            Ok(Err(message)) => {
+                *m = Some(message);
+                wait(&mut self.lists.sends, t, w)?;
+                Ok(Poll::Pending)
+            }
+            Err(NoMemory(message)) => {
+                *m = Some(message);
+                Err(OutOfMemory)
+            }
+        }
+    }
+
+    /// Polls a receive, by its ticket.
+    ///
+    /// A ready poll leaves no ticket. A pending one leaves the ticket of an unnotified entry that
+    /// holds `w`. Where memory was refused nothing has changed, the ticket neither.
+    ///
+    /// # Examples
+    ///
+    /// ```
+    /// let mut core: Core<u64, ()> = Core::unbounded(rt.alloc());
+    /// let mut ticket = None;
+    /// assert!(rt; core.poll_recv(&mut ticket, (), &mut Quiet)?.is_pending());
+    /// assert!(rt; ticket.is_some());
+    ///
+    /// assert_eq!(rt; core.try_send(1, &mut Quiet)?, Ok(()));
+    /// assert!(rt; core.poll_recv(&mut ticket, (), &mut Quiet)?.is_ready());
+    /// assert!(rt; ticket.is_none());
+    /// ```
+    #[inline(always)]
+    pub fn poll_recv<B: Bell<W>>(
+        &mut self,
+        t: &mut Option<Ticket>,
+        w: W,
+        bell: &mut B,
+    ) -> Result<Poll<Result<T, RecvError>>, OutOfMemory>
+        ensures reply { IfOk result (λ poll. poll ≡ recv_poll (oldest self.old) self.old.closed) }
+        ensures after { OnReady result (self.new ≡ (polled_receive t.old self.old).channel) }
+        ensures rung { OnReady result
+            (RingsEach B.rings bell.old (polled_receive t.old self.old).rung bell.new) }
+        ensures finished { OnReady result (t.new ≡ None) }
+
+        ensures waits { OnWait result (RecvWaits t.old self.old w t.new self.new) }
+        ensures silent { OnWait result (bell.new ≡ bell.old) }
+
+        ensures unchanged { OnErr result ((self.new ≡ self.old) × (bell.new ≡ bell.old)) }
+        ensures unpolled { OnErr result (t.new ≡ t.old) }
+        ensures wanted { OnErr result (RecvWants t.old self.old) }
+    {
+        if let Some(message) = self.queue.pop() {
+            leave(&mut self.lists.receives, t);
+            self.lists.sends.tell_one(bell);
+            return Ok(Poll::Ready(Ok(message)));
+        }
+        if self.closed {
+            leave(&mut self.lists.receives, t);
+            return Ok(Poll::Ready(Err(RecvError)));
+        }
+        wait(&mut self.lists.receives, t, w)?;
+        Ok(Poll::Pending)
+    }
+
+    /// Polls the stream of a receiver, by its ticket.
+    ///
+    /// A ready poll leaves no ticket. A pending one leaves the ticket of an unnotified entry that
+    /// holds `w`. Where memory was refused nothing has changed, the ticket neither.
+    ///
+    /// # Examples
+    ///
+    /// ```
+    /// let mut core: Core<u64, ()> = Core::unbounded(rt.alloc());
+    /// let mut ticket = None;
+    /// assert!(rt; core.poll_next(&mut ticket, (), &mut Quiet)?.is_pending());
+    /// core.close(&mut Quiet);
+    /// assert!(rt; core.poll_next(&mut ticket, (), &mut Quiet)?.is_ready());
+    /// ```
+    pub fn poll_next<B: Bell<W>>(
+        &mut self,
+        t: &mut Option<Ticket>,
+        w: W,
+        bell: &mut B,
+    ) -> Result<Poll<Option<T>>, OutOfMemory>
+        ensures reply { IfOk result (λ poll. poll ≡ next_poll (oldest self.old) self.old.closed) }
+        ensures after { OnReady result (self.new ≡ (polled_stream t.old self.old).channel) }
+        ensures rung { OnReady result
+            (RingsEach B.rings bell.old (polled_stream t.old self.old).rung bell.new) }
+        ensures finished { OnReady result (t.new ≡ None) }
+
+        ensures waits { OnWait result (NextWaits t.old self.old w t.new self.new) }
+        ensures silent { OnWait result (bell.new ≡ bell.old) }
+
+        ensures unchanged { OnErr result ((self.new ≡ self.old) × (bell.new ≡ bell.old)) }
+        ensures unpolled { OnErr result (t.new ≡ t.old) }
+        ensures wanted { OnErr result (NextWants t.old self.old) }
+    {
+        if let Some(message) = self.queue.pop() {
+            leave(&mut self.lists.streams, t);
+            self.lists.sends.tell_one(bell);
+            return Ok(Poll::Ready(Some(message)));
+        }
+        if self.closed {
+            leave(&mut self.lists.streams, t);
+            return Ok(Poll::Ready(None));
+        }
+        wait(&mut self.lists.streams, t, w)?;
+        Ok(Poll::Pending)
+    }
+
+    /// Polls a closed operation, by its ticket. It is ready exactly where no receiver is left.
+    ///
+    /// A ready poll leaves no ticket. A pending one leaves the ticket of an unnotified entry that
+    /// holds `w`. Where memory was refused nothing has changed, the ticket neither.
+    ///
+    /// # Examples
+    ///
+    /// ```
+    /// let mut core: Core<u64, ()> = Core::unbounded(rt.alloc());
+    /// let mut ticket = None;
+    /// assert!(rt; core.poll_closed(&mut ticket, ())?.is_pending());
+    /// core.drop_receiver(&mut None, &mut Quiet);
+    /// assert!(rt; core.poll_closed(&mut ticket, ())?.is_ready());
+    /// ```
+    pub fn poll_closed(&mut self, t: &mut Option<Ticket>, w: W) -> Result<Poll<()>, OutOfMemory>
+        ensures reply { IfOk result (λ poll. poll ≡ closed_poll (self.old.receivers == 0)) }
+        ensures after { OnReady result (self.new ≡ record self.old {
+          closeds = left t.old self.old.closeds;
+        }) }
+        ensures finished { OnReady result (t.new ≡ None) }
+
+        ensures waits { OnWait result (ClosedWaits t.old self.old w t.new self.new) }
+
+        ensures unchanged { OnErr result (self.new ≡ self.old) }
+        ensures unpolled { OnErr result (t.new ≡ t.old) }
+        ensures wanted { OnErr result (ClosedWants t.old self.old) }
+    {
+        if self.receivers == 0 {
+            leave(&mut self.lists.closeds, t);
+            return Ok(Poll::Ready(()));
+        }
+        wait(&mut self.lists.closeds, t, w)?;
+        Ok(Poll::Pending)
+    }
+
+    /// Gives a send's wait up. A notice that it had goes to the next send.
+    ///
+    /// # Examples
+    ///
+    /// ```
+    /// let mut core: Core<u64, ()> = Core::bounded(rt.alloc(), 1)?;
+    /// let (mut message, mut ticket) = (Some(2), None);
+    /// assert_eq!(rt; core.try_send(1, &mut Quiet)?, Ok(()));
+    /// let poll = core.poll_send(&mut message, &mut ticket, (), &mut Quiet)?;
+    /// assert!(rt; poll.is_pending());
+    /// core.cancel_send(&mut ticket, &mut Quiet);
+    /// assert_eq!(rt; core.waiting(Group::Sends), 0);
+    /// ```
+    pub fn cancel_send<B: Bell<W>>(&mut self, t: &mut Option<Ticket>, bell: &mut B)
+        ensures after { self.new ≡ record self.old { sends = handed_on t.old self.old.sends } }
+        ensures rung { RingsEach B.rings bell.old
+            (rung_by_handing_on t.old self.old.sends) bell.new }
+        ensures ticket { t.new ≡ None }
+    {
+        hand_on(&mut self.lists.sends, t, bell);
+    }
+
+    /// Gives a receive's wait up. A notice that it had goes to the next receive.
+    ///
+    /// # Examples
+    ///
+    /// ```
+    /// let mut core: Core<u64, ()> = Core::unbounded(rt.alloc());
+    /// let (mut first, mut second) = (None, None);
+    /// assert!(rt; core.poll_recv(&mut first, (), &mut Quiet)?.is_pending());
+    /// assert!(rt; core.poll_recv(&mut second, (), &mut Quiet)?.is_pending());
+    /// assert_eq!(rt; core.try_send(1, &mut Quiet)?, Ok(()));
+    ///
+    /// // The first one was told, and its notice goes on.
+    /// core.cancel_recv(&mut first, &mut Quiet);
+    /// assert_eq!(rt; core.told(Group::Receives), 1);
+    /// assert_eq!(rt; core.waiting(Group::Receives), 1);
+    /// ```
+    pub fn cancel_recv<B: Bell<W>>(&mut self, t: &mut Option<Ticket>, bell: &mut B)
+        ensures after { self.new ≡ record self.old {
+          receives = handed_on t.old self.old.receives;
+        } }
+        ensures rung { RingsEach B.rings bell.old
+            (rung_by_handing_on t.old self.old.receives) bell.new }
+        ensures ticket { t.new ≡ None }
+    {
+        hand_on(&mut self.lists.receives, t, bell);
+    }
+
+    /// Gives a stream's wait up. Streams are told together, so that no notice is handed on.
+    ///
+    /// # Examples
+    ///
+    /// ```
+    /// let mut core: Core<u64, ()> = Core::unbounded(rt.alloc());
+    /// let mut ticket = None;
+    /// assert!(rt; core.poll_next(&mut ticket, (), &mut Quiet)?.is_pending());
+    /// core.cancel_stream(&mut ticket);
+    /// assert_eq!(rt; core.waiting(Group::Streams), 0);
+    /// ```
+    pub fn cancel_stream(&mut self, t: &mut Option<Ticket>)
+        ensures after { self.new ≡ record self.old { streams = left t.old self.old.streams } }
+        ensures ticket { t.new ≡ None }
+    {
+        leave(&mut self.lists.streams, t);
+    }
+
+    /// Gives a closed operation's wait up. Closed operations are told together, so that no notice
+    /// is handed on.
+    ///
+    /// # Examples
+    ///
+    /// ```
+    /// let mut core: Core<u64, ()> = Core::unbounded(rt.alloc());
+    /// let mut ticket = None;
+    /// assert!(rt; core.poll_closed(&mut ticket, ())?.is_pending());
+    /// core.cancel_closed(&mut ticket);
+    /// assert_eq!(rt; core.waiting(Group::Closeds), 0);
+    /// ```
+    pub fn cancel_closed(&mut self, t: &mut Option<Ticket>)
+        ensures after { self.new ≡ record self.old { closeds = left t.old self.old.closeds } }
+        ensures ticket { t.new ≡ None }
+    {
+        leave(&mut self.lists.closeds, t);
+    }
+}
