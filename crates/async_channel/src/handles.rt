@@ -227,6 +227,7 @@ impl<T: Drop, R: Wait + Clone + Drop> Sender<T, R> {
     /// drop(r);
     /// assert_eq!(rt; s.try_send(3)?, Err(TrySendError::Closed(3)));
     /// ```
+    #[inline(always)]
     #[tactic(auto, using(crate::proofs::Refusals::try_send_hands_back))]
     pub fn try_send(&self, msg: T) -> Result<Result<(), TrySendError<T>>, NoMemory<T>>
         ensures handed_back { IfOk result (λ answer. IfErr answer (λ error. message_of error ≡ msg)) }
@@ -451,6 +452,7 @@ impl<T: Drop, R: Wait + Clone + Drop> Receiver<T, R> {
     /// drop(s);
     /// assert_eq!(rt; r.try_recv(), Err(TryRecvError::Closed));
     /// ```
+    #[inline(always)]
     pub fn try_recv(&self) -> Result<T, TryRecvError> {
         self.link.lock().try_recv()
     }

@@ -238,6 +238,7 @@ impl<T: Drop, R: Wait + Clone + Drop> Future for Send<'_, T, R> {
 
     ghost gives = { λ op. MayGive op.message };
 
+    #[inline(always)]
     fn poll(&mut self, cx: &mut Context<'_>) -> Poll<Self::Output>
         ensures value { IfReady result (MayGive self.old.message) }
         ensures again { OnPending result ⊤ }
@@ -266,6 +267,7 @@ impl<T: Drop, R: Wait + Clone + Drop> Future for Send<'_, T, R> {
 }
 
 impl<T: Drop, R: Wait + Clone + Drop> Drop for Send<'_, T, R> {
+    #[inline(always)]
     fn drop(self) {
         let Self {
             sender,
@@ -293,6 +295,7 @@ impl<T: Drop, R: Wait + Clone + Drop> Future for Recv<'_, T, R> {
 
     ghost needs = { λ op source. source ≡ op.source };
 
+    #[inline(always)]
     fn poll(&mut self, cx: &mut Context<'_>) -> Poll<Self::Output>
         ensures value { IfReady result (λ _. ⊤) }
         ensures again { OnPending result ⊤ }
@@ -329,6 +332,7 @@ impl<T: Drop, R: Wait + Clone + Drop> Future for Recv<'_, T, R> {
 }
 
 impl<T: Drop, R: Wait + Clone + Drop> Drop for Recv<'_, T, R> {
+    #[inline(always)]
     fn drop(self) {
         let Self {
             receiver,

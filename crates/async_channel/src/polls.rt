@@ -19,6 +19,7 @@ use std::sync::Wait;
 
 // ## Polls by a task
 impl<T: Drop, R: Wait> Locked<'_, T, R> {
+    #[inline(always)]
     pub(crate) fn poll_send(
         &mut self,
         m: &mut Option<T>,
@@ -48,6 +49,7 @@ impl<T: Drop, R: Wait> Locked<'_, T, R> {
         self.poll_send_with(m, t, mark)
     }
 
+    #[inline(always)]
     pub(crate) fn poll_recv(
         &mut self,
         t: &mut Option<Ticket>,
@@ -185,7 +187,7 @@ impl<T: Drop, R: Wait> Locked<'_, T, R> {
 // ## Marks, where a poll isn't ready
 impl<T: Drop, R: Wait> Locked<'_, T, R> {
     // Whether a send is ready. A finished one never is.
-    #[inline]
+    #[inline(always)]
     #[tactic(auto, using(crate::proofs::Ready::send_ready))]
     fn is_send_ready(&self, m: &Option<T>) -> bool
         ensures { result ≡ not (is_pending (send_reply m.now self.now.channel)) }
@@ -194,7 +196,7 @@ impl<T: Drop, R: Wait> Locked<'_, T, R> {
     }
 
     // Whether a receive is ready.
-    #[inline]
+    #[inline(always)]
     #[tactic(auto, using(crate::proofs::Ready::recv_ready))]
     fn is_recv_ready(&self) -> bool
         ensures { result ≡ not (is_pending (recv_reply self.now.channel)) }
@@ -220,7 +222,7 @@ impl<T: Drop, R: Wait> Locked<'_, T, R> {
         self.core.receiver_count() == 0
     }
 
-    #[inline]
+    #[inline(always)]
     fn task_mark(
         &self,
         is_ready: bool,
@@ -258,7 +260,7 @@ impl<T: Drop, R: Wait> Locked<'_, T, R> {
 
 // ## Polls with a mark
 impl<T: Drop, R: Wait> Locked<'_, T, R> {
-    #[inline]
+    #[inline(always)]
     #[tactic(auto, using(crate::proofs::Logging::logs))]
     fn poll_send_with(
         &mut self,
@@ -283,7 +285,7 @@ impl<T: Drop, R: Wait> Locked<'_, T, R> {
         self.core.poll_send(m, t, w, &mut self.bell)
     }
 
-    #[inline]
+    #[inline(always)]
     #[tactic(auto, using(crate::proofs::Logging::logs))]
     fn poll_recv_with(
         &mut self,

@@ -4,7 +4,7 @@ ghost use Rattle.event_list.specs.Waiting.{RingsEach};
 ghost use Rattle.channel_model.specs.Tables.{try_send_answer, force_send_answer, try_recv_answer};
 ghost use Rattle.channel_core.specs.Channel.{is_channel_full, oldest, GrowsWithMessages, sent, force_sent, received, closing};
 
-use super::{Core, shut};
+use crate::state::{Core, shut};
 use channel_model::{NoMemory, SendError, TryRecvError, TrySendError};
 use event_list::Bell;
 

@@ -4,7 +4,7 @@ ghost use Rattle.event_list.specs.Waiting.{RingsEach};
 ghost use Rattle.channel_core.specs.Counts.{may_add, count_added, upgrade_answer, count_upgraded};
 ghost use Rattle.channel_core.specs.Channel.{sender_dropped, receiver_dropped_by};
 
-use super::{Core, HANDLE_LIMIT, Upgrade, shut};
+use crate::state::{Core, HANDLE_LIMIT, Upgrade, shut};
 use crate::waiting::leave;
 use event_list::{Bell, Ticket};
 

@@ -5,7 +5,7 @@ ghost use Rattle.channel_model.specs.Tables.{OnReady, OnWait, send_poll, recv_po
 ghost use Rattle.channel_core.specs.Tickets.{left, handed_on, rung_by_handing_on};
 ghost use Rattle.channel_core.specs.Channel.{is_channel_full, oldest, polled_receive, polled_stream, polled_send, SendWaits, RecvWaits, NextWaits, ClosedWaits, SendWants, RecvWants, NextWants, ClosedWants};
 
-use super::Core;
+use crate::state::Core;
 use crate::waiting::{hand_on, leave, wait};
 use channel_model::{NoMemory, OutOfMemory, RecvError, SendError};
 use event_list::{Bell, Ticket};
