@@ -1,4 +1,4 @@
--- The law of notices behind a forced message.
+-- The law of notices after a forced message.
 use Rattle.std.proofs.Common.{◌≡◌, ◌+◌, ◌<◌, ◌≤◌, ℕ, List, [], ◌∷◌, length, Bool, true, false, refl, sym, ◌∙◌, ap, arith, length-append, length-drop}
 use Rattle.event_list.specs.Waiting.{Waiting, told_one, told_all, told_count, untold_count}
 use Rattle.channel_core.specs.Queue.{Contents, contents, is_full, force_pushed, IsWithin}

@@ -114,7 +114,7 @@ module _ {T W : Type 0} where
         rung = payloads channel.sends ++ payloads channel.receives ++ payloads channel.streams;
       }
 
-  -- behind that, all closed operations are told
+  -- after that, all closed operations are told
   abbrev pub ending : Change T W → Change T W
   ending change = record {
     channel = record change.channel { closeds = told_all change.channel.closeds };

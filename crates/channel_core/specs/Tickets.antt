@@ -36,7 +36,7 @@ module _ {W : Type 0} where
   LosesAtMostOne (Some key) list = LosesOne list key
 
   -- Who can't go on waits. An entry that is in the list waits again; else a new one goes last, under a
-  -- key that isn't in the list. Either way it is untold behind that, and holds the payload.
+  -- key that isn't in the list. Either way it is untold after that, and holds the payload.
   pub record Waits (ticket : Option ℕ) (list : Waiting W) (payload : W) (ticket' : Option ℕ)
       (list' : Waiting W) : Type 0 where
     pub again : waits ticket list ≡ true → (ticket' ≡ ticket) × (list' ≡ waiting_again ticket list payload)

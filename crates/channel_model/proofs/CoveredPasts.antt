@@ -1,4 +1,4 @@
--- The law of notices holds behind every past that can come about.
+-- The law of notices holds after every past that can come about.
 use Rattle.std.proofs.Common.{◌≡◌, ◌+◌, ◌-◌, ◌<◌, ◌≤◌, [], ◌∷◌, false, refl, sym, ap, subst, length, arith}
 use Rattle.channel_model.specs.declared.step.Kind.{Kind}
 use Rattle.channel_model.specs.declared.step.Reply.{Reply}

@@ -57,7 +57,7 @@ pub IsHalfway-held : (capacity : Option ℕ) (held held' : ℕ) (closed : Bool) 
     → IsHalfway capacity held closed receivers all → IsHalfway capacity held' closed receivers all
 IsHalfway-held capacity held held' closed receivers all e half = rw e half
 
--- The law behind a past, roster by roster.
+-- The law after a past, roster by roster.
 abbrev pub Whole : {T : Type 0} → Kind → Past T → Type 0
 Whole kind past = IsHalfway (capacity_of kind) (length (held_messages past)) (is_closed past)
     (length (live_receivers past)) (rosters past)

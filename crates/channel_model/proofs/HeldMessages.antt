@@ -1,4 +1,4 @@
--- What is held behind a step, by what was held before it.
+-- What is held after a step, by what was held before it.
 use Rattle.std.proofs.Common.{◌≡◌, List, [], ◌∷◌, ◌++◌, Some, None, Option, refl, sym, ◌∙◌, ap, length, drop, append_assoc}
 use Rattle.std.proofs.Math.Seq.{drop-append_seam}
 use Rattle.std.proofs.lemmas.List.{drop-drop}
@@ -16,7 +16,7 @@ with_last-append : {T : Type 0} (front rest : List T) (found : Option T)
 with_last-append front rest None = refl
 with_last-append front rest (Some message) = append_assoc front rest (message ∷ [])
 
--- What is held behind a pair: with the accepted one last, and without the first if one was taken.
+-- What is held after a pair: with the accepted one last, and without the first if one was taken.
 pub held_messages-after : {T : Type 0} (kind : Kind) (past : Past T) (step : Step T) (reply : Reply T)
     → IsLegal kind past
     → held_messages ((step, reply) ∷ past) ≡ drop (count_of (taken_by reply))

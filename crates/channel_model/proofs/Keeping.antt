@@ -7,7 +7,7 @@ use Rattle.channel_model.proofs.RosterLemmas.{Left, told_left, untold_left, nobo
 abbrev pub HasUntold : Roster → Type 0
 HasUntold roster = 0 < length roster.names - roster.told
 
--- beside an untold one, so many were told
+-- beside an untold one, enough were told
 abbrev pub Enough : ℕ → Roster → Type 0
 Enough count roster = HasUntold roster → count ≤ roster.told
 
@@ -81,7 +81,7 @@ IsAllTold-hand_on name roster sound all = go (is_told name roster)
 pub Enough-all_told : (count : ℕ) (roster : Roster) → IsAllTold roster → Enough count roster
 Enough-all_told count roster all untold = omega arith
 
--- whoever is untold behind somebody's leaving was so before
+-- whoever is untold after somebody's leaving was so before
 pub HasUntold-leave : (name : ℕ) (roster : Roster) → IsSound roster → HasUntold (leave name roster) → HasUntold roster
 HasUntold-leave name roster sound untold = go (left name roster sound)
   where

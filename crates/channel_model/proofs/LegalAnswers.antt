@@ -22,9 +22,9 @@ use Rattle.channel_model.specs.View.{view_of}
 use Rattle.channel_model.proofs.ReplyForms.{force_send_reply, poll_closed_reply, poll_next_reply, poll_recv_reply, poll_send_reply, try_recv_reply, try_send_reply}
 use Rattle.channel_model.proofs.AllowedSteps.{allowed}
 
--- ---- a step that is known stands in the past behind its reply
+-- ---- a step that is known stands in the past after its reply
 
--- behind such a reply the past is longer
+-- after such a reply the past is longer
 IsLonger : {T : Type 0} → Past T → Step T → Reply T → Type 0
 IsLonger past step reply = past_after past step reply ≡ (step, reply) ∷ past
 
@@ -110,7 +110,7 @@ pub allowed_if_none : {T : Type 0} (step : Step T) (refusal : Option Refusal) �
 allowed_if_none (PollNext receiver) refusal none = inl none
 allowed_if_none step refusal none = none
 
--- behind a refusal, whichever it is, the past is as it was
+-- after a refusal, whichever it is, the past is as it was
 legal_refused : {T : Type 0} (kind : Kind) (past : Past T) (step : Step T) (refusal : Refusal) (message : Option T)
     (reply : Reply T) → IsLegal kind past → reply ≡ Refused refusal message → IsLegal kind (past_after past step reply)
 legal_refused {T} kind past step refusal message reply legal refused =

@@ -101,7 +101,7 @@ among-hand_on left name roster = go (is_told left roster)
     go true among = among-leave left name roster among
     go false among = among-leave left name roster among
 
--- who waits behind a poll in vain is the one who was polled, or waited before
+-- who waits after a poll in vain is the one who was polled, or waited before
 pub among-wait : (op name : ℕ) (roster : Roster) → is_among name (wait op roster).names ≡ true
     → ((op == name) ≡ true) ⊎ (is_among name roster.names ≡ true)
 among-wait op name roster = go (is_told op roster) (is_among op roster.names)

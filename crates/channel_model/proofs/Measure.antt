@@ -140,7 +140,7 @@ after_last_receiver-AreSound false false all sound = sound
 nobody-IsSound : IsSound nobody
 nobody-IsSound = record { once = tt; within = omega arith }
 
--- behind any past at all each waits once, and no more were told than wait
+-- after any past at all each waits once, and no more were told than wait
 pub rosters-AreSound : {T : Type 0} (past : Past T) → AreSound (rosters past)
 rosters-AreSound [] = record {
   sends = nobody-IsSound;
@@ -155,7 +155,7 @@ rosters-AreSound ((step, reply) ∷ past) =
     (after_accepting-AreSound (accepted_by (live_operations past) step reply) _
     (after_own_move-AreSound (live_operations past) step reply (rosters past) (rosters-AreSound past)))))
 
--- how many pairs so many can form
+-- how many pairs this many can form
 abbrev pub pairs : ℕ → ℕ
 pairs zero = 0
 pairs (suc count) = count + pairs count

@@ -28,7 +28,7 @@ answered kind past (settles expected finished ∷ lines) =
     settles (length (settling_polls kind past)) (finished_polls (settling_polls kind past))
     ∷ answered kind (settling_polls kind past ++ past) lines
 
--- the past behind the lines
+-- the past after the lines
 abbrev pub past_behind : Kind → Past ℕ → List Line → Past ℕ
 past_behind kind past [] = past
 past_behind kind past (does step expected ∷ lines) =
@@ -45,6 +45,6 @@ pub record Row : Type 0 where
 abbrev pub IsRow : Row → Type 0
 IsRow row = answered row.kind [] row.lines ≡ row.lines
 
--- The past behind the lines is one that can come about.
+-- The past after the lines is one that can come about.
 abbrev pub EndsLegal : Row → Type 0
 EndsLegal row = IsLegal row.kind (past_behind row.kind [] row.lines)

@@ -1,4 +1,4 @@
--- The past behind a row's lines can come about.
+-- The past after a row's lines can come about.
 use Rattle.std.proofs.Common.{◌≡◌, ℕ, ◌⊎◌, inl, List, [], ◌∷◌, ◌++◌, Some, None, Option, Bool, ◌<◌, refl, true}
 use Rattle.std.specs.Prelude.{MatchOption, nat_lt}
 use Rattle.std.proofs.lemmas.Bool.{ltb-true}

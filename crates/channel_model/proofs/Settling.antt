@@ -73,7 +73,7 @@ IsQuiet-no_first {T} past none =
 
 -- ---- it ends
 
--- These polls are those of settling, and behind them nobody is told.
+-- These polls are those of settling, and after them nobody is told.
 pub record IsComplete {T : Type 0} (kind : Kind) (past polls : Past T) : Type 0 where
   pub each : IsSettling kind past polls
   pub legal : IsLegal kind (polls ++ past)
@@ -144,7 +144,7 @@ Settles-IsLegal kind past legal =
 
 -- ---- no other polls settle it
 
--- the poll of the first who was told, behind polls that were made
+-- the poll of the first who was told, after polls that were made
 abbrev next_poll : {T : Type 0} → Past T → (polls : Past T) → Option (Step T)
 next_poll past polls = slice_get (told_polls (rosters (polls ++ past))) 0
 
@@ -152,7 +152,7 @@ abbrev with_poll : {T : Type 0} → Kind → Past T → (polls : Past T) → Opt
 with_poll kind past polls None = polls
 with_poll kind past polls (Some step) = (step, due_reply kind (polls ++ past) step) ∷ polls
 
--- the polls of settling again, so many of them
+-- the polls of settling again, with their number
 abbrev polls_within : {T : Type 0} → ℕ → Kind → Past T → Past T
 polls_within zero kind past = []
 polls_within (suc n) kind past =

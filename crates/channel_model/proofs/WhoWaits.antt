@@ -52,7 +52,7 @@ AreLive-last_receiver past false true all live =
 AreLive-last_receiver past false false all live = live
 AreLive-last_receiver past true now all live = live
 
--- ---- step by step: whoever waits behind the own move
+-- ---- step by step: whoever waits after the own move
 
 pub OwnMoveIsLive : {T : Type 0} → Past T → Step T → Reply T → Type 0
 OwnMoveIsLive past step reply = AreLive past (rosters past)

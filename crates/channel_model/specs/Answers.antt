@@ -38,15 +38,15 @@ abbrev pub refused_or : {T : Type 0} → Option Refusal → Step T → (due : Re
 refused_or None step due = due
 refused_or (Some refusal) step due = Refused refusal (message_in step)
 
--- The answer to a step behind this past where no memory is wanted.
+-- The answer to a step after this past where no memory is wanted.
 abbrev pub answer_of : {T : Type 0} → Kind → Past T → Step T → Reply T
 answer_of kind past step = refused_or (refusal_of kind past step) step (due_reply kind past step)
 
--- the past behind a step that was answered so
+-- the past after a step that was answered so
 abbrev pub past_made : {T : Type 0} → Kind → Past T → Step T → Past T
 past_made kind past step = past_after past step (answer_of kind past step)
 
--- Each step, in order, was answered behind the past that those before it left, and this is the past after all
+-- Each step, in order, was answered after the past that those before it left, and this is the past after all
 -- of them.
 abbrev pub AreAnswers : {T : Type 0} → Kind → Past T → List (Step T) → List (Reply T) → Past T → Type 0
 AreAnswers kind past [] [] after = after ≡ past

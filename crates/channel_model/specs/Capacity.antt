@@ -20,6 +20,6 @@ abbrev pub full_at : (capacity : Option ℕ) (held : ℕ) → Bool
 full_at (Some capacity) held = nat_le capacity held
 full_at None held = false
 
--- The channel is full behind this past.
+-- The channel is full after this past.
 abbrev pub is_full : {T : Type 0} → Kind → Past T → Bool
 is_full kind past = full_at (capacity_of kind) (length (held_messages past))

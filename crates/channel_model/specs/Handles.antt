@@ -12,7 +12,7 @@ without name names = filter (λ other. not (other == name)) names
 
 -- ---- What a step with this reply makes of the names that were live before it.
 
--- The senders: a copy is live, an upgrade where it was answered yes, and who is given up is not.
+-- The senders: a copy is live, an upgrade where it was answered by a handle, and who is given up is not.
 abbrev pub senders_after : {T : Type 0} → Step T → Reply T → List ℕ → List ℕ
 senders_after (CloneSender of new) reply names = new ∷ names
 senders_after (UpgradeSender of new) (Upgraded true) names = new ∷ names
@@ -40,7 +40,7 @@ weak_receivers_after (DowngradeReceiver of new) reply names = new ∷ names
 weak_receivers_after (DropWeakReceiver name) reply names = without name names
 weak_receivers_after step reply names = names
 
--- ---- Which names are live behind a past: those that were made and not given up since.
+-- ---- Which names are live after a past: those that were made and not given up since.
 
 -- The senders. A new channel has sender 0.
 abbrev pub live_senders : {T : Type 0} → Past T → List ℕ

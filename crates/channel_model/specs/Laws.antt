@@ -1,4 +1,4 @@
--- The parts of what holds behind every past that can come about. `laws` promises each of them.
+-- The parts of what holds after every past that can come about. `laws` promises each of them.
 use Rattle.std.specs.Prelude.{◌≡◌, ◌<◌, ℕ, List, [], ◌∷◌, ◌++◌, Option, Some, None, Err, Bool, true, not, length, drop, if◌then◌else◌}
 use Rattle.std.specs.Option.{ok_or}
 use Rattle.futures.specs.declared.task.Poll.TheVariants.{Ready}
@@ -86,7 +86,7 @@ pub record ComesBack {T : Type 0} (past : Past T) (step : Step T) (reply : Reply
 abbrev pub with_made : (is_made : Bool) → ℕ → List ℕ → List ℕ
 with_made is_made name names = if is_made then name ∷ names else names
 
--- An upgrade is answered yes, and makes its handle, exactly on an open channel.
+-- An upgrade makes its handle exactly on an open channel.
 pub record UpgradesWhileOpen {T : Type 0} (past : Past T) (of new : ℕ) (reply : Reply T) : Type 0 where
   pub replied : reply ≡ Upgraded (not (is_closed past))
   pub senders : live_senders ((UpgradeSender of new, reply) ∷ past)

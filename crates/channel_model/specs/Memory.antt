@@ -44,6 +44,6 @@ may_want_memory_in view step =
     || (brings_message view step && is_none view.capacity && not view.closed)
     || (polls_newcomer view step && is_pending (reply_in view step)))
 
--- Want of memory is possible behind this past.
+-- Want of memory is possible after this past.
 abbrev pub may_want_memory : {T : Type 0} → Kind → Past T → Step T → Bool
 may_want_memory kind past step = may_want_memory_in (view_of kind past) step

@@ -1,4 +1,4 @@
--- The rule of notices: who waits behind a past, and who of them was told.
+-- The rule of notices: who waits after a past, and who of them was told.
 use Rattle.std.specs.Prelude.{ℕ, List, [], ◌∷◌, Option, Some, None, Bool, true, false, if◌then◌else◌}
 use Rattle.futures.specs.declared.task.Poll.TheVariants.{Ready, Pending}
 use Rattle.channel_model.specs.declared.step.Who.{Who}
@@ -61,7 +61,7 @@ abbrev pub after_last_receiver : (none_before none_now : Bool) → Rosters → R
 after_last_receiver false true all = record all { closeds = tell_all all.closeds }
 after_last_receiver before now all = all
 
--- Who waits behind this past, and who was told: first the own entry is moved, then the others are told.
+-- Who waits after this past, and who was told: first the own entry is moved, then the others are told.
 -- On a new channel nobody waits.
 abbrev pub rosters : {T : Type 0} → Past T → Rosters
 rosters [] = record { sends = nobody; receives = nobody; streams = nobody; closeds = nobody }

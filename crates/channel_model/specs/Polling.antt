@@ -20,7 +20,7 @@ told_polls all =
     map Poll (told_names all.receives) ++ map PollNext (told_names all.streams)
     ++ map Poll (told_names all.sends) ++ map Poll (told_names all.closeds)
 
--- Pairs that poll behind this past, the newest first: each polls the first who was told just before, and has the
+-- Pairs that poll after this past, the newest first: each polls the first who was told just before, and has the
 -- reply that was due.
 abbrev pub IsSettling : {T : Type 0} → Kind → Past T → (polls : Past T) → Type 0
 IsSettling kind past [] = ⊤
@@ -53,7 +53,7 @@ waiting_in all =
 abbrev pub told_in : Rosters → ℕ
 told_in all = all.sends.told + all.receives.told + all.streams.told + all.closeds.told
 
--- the most polls that settling may take where so many wait
+-- the most polls that settling may take where this many wait
 abbrev pub most_polls : ℕ → ℕ
 most_polls waiting = waiting * (waiting + 1) / 2
 
@@ -68,7 +68,7 @@ abbrev pub finished_polls : {T : Type 0} → (polls : Past T) → List (Who × R
 finished_polls [] = []
 finished_polls ((step, reply) ∷ polls) = with_last (finished_polls polls) (finished_by step reply)
 
--- The polls of settling behind this past, after these ones, the newest first; so many more at the most.
+-- The polls of settling after this past and these polls, the newest first: at most this many more.
 abbrev pub settling : {T : Type 0} → (most : ℕ) → Kind → Past T → (polls : Past T) → Past T
 settling zero kind past polls = polls
 settling (suc most) kind past polls =
@@ -77,11 +77,11 @@ settling (suc most) kind past polls =
       | Some step ↦ settling most kind past ((step, due_reply kind (polls ++ past) step) ∷ polls)
     ]
 
--- The polls that settle the channel behind this past: there are never more of them than the bound.
+-- The polls that settle the channel after this past: there are never more of them than the bound.
 abbrev pub settling_polls : {T : Type 0} → Kind → Past T → Past T
 settling_polls kind past = settling (most_polls (waiting_in (rosters past))) kind past []
 
--- What settling answers: these polls settled the channel, and were so many.
+-- What settling answers: these polls settled the channel, and this is their number.
 pub record Settles {T : Type 0} (kind : Kind) (past polls : Past T) (count : ℕ)
     (finished : List (Who × Reply T)) : Type 0 where
   pub each : IsSettling kind past polls
@@ -91,8 +91,8 @@ pub record Settles {T : Type 0} (kind : Kind) (past polls : Past T) (count : ℕ
   pub settled : IsSettled kind (polls ++ past)
   pub bounded : count ≤ most_polls (waiting_in (rosters past))
 
--- In whatever order the told ones are polled: so many polls at the most, each of which could be made, and
--- where nobody is told behind them nobody waits who could go on.
+-- In whatever order the told ones are polled: at most this many polls, each of which could be made, and
+-- where nobody is told after them nobody waits who could go on.
 pub record EndsWell {T : Type 0} (kind : Kind) (past polls : Past T) : Type 0 where
   pub legal : IsLegal kind (polls ++ past)
   pub bounded : length polls ≤ most_polls (waiting_in (rosters past))

@@ -105,6 +105,6 @@ refusal_in view step =
     else if is_one_too_many view step then Some TooMany
     else None
 
--- The refusal that applies behind this past.
+-- The refusal that applies after this past.
 abbrev pub refusal_of : {T : Type 0} → Kind → Past T → Step T → Option Refusal
 refusal_of kind past step = refusal_in (view_of kind past) step

@@ -53,7 +53,7 @@ reply_in view (Poll op) =
 reply_in view (PollNext receiver) = NextPolled (next_poll (slice_get view.messages 0) view.closed)
 reply_in view step = Done
 
--- The reply that is due to a step behind this past.
+-- The reply that is due to a step after this past.
 abbrev pub due_reply : {T : Type 0} → Kind → Past T → Step T → Reply T
 due_reply kind past step = reply_in (view_of kind past) step
 

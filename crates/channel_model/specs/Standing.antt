@@ -24,6 +24,6 @@ standing_in view = record {
   closeds = waiters_of view.rosters.closeds;
 }
 
--- The numbers behind a past.
+-- The numbers after a past.
 abbrev pub standing_of : {T : Type 0} → Kind → Past T → Standing
 standing_of kind past = standing_in (view_of kind past)

@@ -24,7 +24,7 @@ pub record View (T : Type 0) : Type 0 where
   pub operations : List (ℕ × Operation T)
   pub rosters : Rosters
 
--- what a channel of this kind shows behind this past
+-- what a channel of this kind shows after this past
 abbrev pub view_of : {T : Type 0} → Kind → Past T → View T
 view_of kind past = record {
   capacity = capacity_of kind;

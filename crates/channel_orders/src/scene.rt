@@ -40,7 +40,7 @@ fn is_await(act: &Act) -> bool {
     matches!(act, Act::Await(_))
 }
 
-// Where a party of so many lines stands behind a line that was answered so.
+// Where a party with this many lines stands after a line that was answered so.
 fn place_behind(count: usize, place: Place, awaits: bool, answer: &Answer) -> Place {
     let next = Place {
         done: place.done.saturating_add(1),
@@ -85,7 +85,7 @@ fn act_on(run: &mut Run<u64>, act: &Act) -> Result<Answer, OutOfMemory> {
 }
 
 impl Scene {
-    /// The channel is opened, and each of so many parties stands at its first line.
+    /// The channel is opened, and each of this many parties stands at its first line.
     pub(crate) fn begin<O: Opening>(
         alloc: Global,
         opening: &O,

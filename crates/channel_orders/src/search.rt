@@ -85,7 +85,7 @@ fn complete(
         };
         choose(scene, parties, party, choices, turns)?;
     }
-    // never reached: so many turns have no room
+    // never reached: that many turns have no room
     Err(OutOfMemory)
 }
 
@@ -131,7 +131,7 @@ fn next_order<O: Opening>(
     Ok(turns)
 }
 
-/// Hands the visitor each order in turn, up to so many; the first is made also where the limit is
+/// Hands the visitor each order in turn, up to a limit; the first is made also where the limit is
 /// 0. Memory grows with the length of one order, and with what the visitor keeps.
 pub fn search<O: Opening, V: Visitor>(
     alloc: Global,

@@ -1,4 +1,4 @@
--- One more call behind a history.
+-- One more call after a history.
 use Rattle.std.proofs.Common.{◌≡◌, ◌<◌, ℕ, List, [], ◌∷◌, ◌++◌, Bool, true, false, not, ◌||◌, cond, Option, Some, None, refl, sym, ◌∙◌, ap, subst, map, reverse, length, drop, ◌==◌}
 use Rattle.std.specs.Prelude.{slice_get}
 use Rattle.std.proofs.Math.Bool.{or-false}

@@ -50,7 +50,7 @@ AgreesWith history clerk = All (IsAt history) clerk.entries
 abbrev pub holds : ℕ → List ℕ → Bool
 holds place places = list_any (λ other. other == place) places
 
--- Each of so many places lies in exactly one of the lists, no other place lies in any, and each list rises.
+-- Each of this many places lies in exactly one of the lists, no other place lies in any, and each list rises.
 pub record AreShares (count : ℕ) (lists : List (List ℕ)) : Type 0 where
   pub in_one : (place : ℕ) → count_by (holds place) lists ≡ (if nat_lt place count then 1 else 0)
   pub rising : All IsStrictlyIncreasing lists

@@ -85,7 +85,7 @@ impl<T: Copy + Exact> Recorder<T> {
         Recorder::of_kind(alloc, Kind::Unbounded, maker)
     }
 
-    // The stamp is drawn behind everything that may be refused.
+    // The stamp is drawn after everything that may be refused.
     fn of_kind(alloc: Global, kind: Kind, maker: &mut StampMaker) -> Result<Recorder<T>, MakeError>
         requires { HasPositiveCapacity kind }
         ensures spent { (result ≡ Err MakeError.NoStamps) ↔ (maker.old ≡ None) }

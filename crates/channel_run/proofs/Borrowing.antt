@@ -1,4 +1,4 @@
--- How many operations borrow a handle, behind each change of one operation.
+-- How many operations borrow a handle, after each change of one operation.
 use Rattle.std.proofs.Common.{rules, ◌≡◌, ℕ, ◌+◌, ◌-◌, ◌^◌, ◌<◌, ◌≤◌, List, [], ◌∷◌, Bool, true, false, ◌||◌, ◌==◌, cond, Some, None, Option, refl, sym, ◌∙◌, ap, length, filter, map, arith}
 use Rattle.std.specs.Prelude.{nat_lt, unwrap_or}
 use Rattle.std.specs.List.{list_any}
@@ -182,7 +182,7 @@ pub few_borrow_receiver : {T : Type 0} (by_sender by_receiver : List (ℕ × ℕ
 few_borrow_receiver by_sender by_receiver operations were few name =
     small _ _ _ (were.each_receiver name) (le-count (borrows_receiver name) operations) few
 
--- ---- who borrows what, behind each change
+-- ---- who borrows what, after each change
 
 module _ {T : Type 0} (op : ℕ) (operations operations' : List (ℕ × Started T)) (operation : Started T) where
   -- an operation was started

@@ -10,7 +10,7 @@ use Rattle.channel_model.specs.View.{View}
 use Rattle.channel_run.specs.StandsFor.{StandsFor}
 use Rattle.channel_model.proofs.Conserved.{accepted_messages-IsLegal}
 
--- one step more, answered behind the past that the others left
+-- one step more, answered after the past that the others left
 pub AreAnswers-more : {T : Type 0} (kind : Kind) (past : Past T) (steps : List (Step T)) (replies : List (Reply T))
     (after : Past T) (step : Step T) (reply : Reply T)
     → AreAnswers kind past steps replies after → IsAnswer kind after step reply

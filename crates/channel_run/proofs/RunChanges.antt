@@ -1,4 +1,4 @@
--- What a run's core and tables come to behind each change: they fit together, and show these rosters.
+-- What a run's core and tables come to after each change: they fit together, and show these rosters.
 use Rattle.std.proofs.Common.{◌≡◌, ℕ, zero, suc, ◌-◌, ◌==◌, List, [], ◌∷◌, ◌++◌, Bool, true, false, not, cond, Some, None, Ok, Option, refl, sym, ◌∙◌, ap, subst, length, drop, arith}
 use Rattle.std.proofs.lemmas.Bool.{eqb-true, eq-eqb, ne_eqb}
 use Rattle.std.specs.Prelude.{slice_get}

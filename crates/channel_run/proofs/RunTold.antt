@@ -319,7 +319,7 @@ module _ {T : Type 0} (run : View T) (sound : AreSound run.rosters) where
   polled-stream receiver Pending told = let on = wait-told receiver run.rosters.streams sound.streams told in
       let names = on.names in omega arith
 
--- No more wait behind the poll than before, and one fewer where it was ready.
+-- No more wait after the poll than before, and one fewer where it was ready.
 abbrev pub Lowers : {T : Type 0} → View T → Reply T → View T → Type 0
 Lowers before reply after = waiting_in after.rosters + (if is_ready reply then 1 else 0) ≤ waiting_in before.rosters
 

@@ -20,7 +20,7 @@ use Rattle.channel_run.specs.RunSteps.{Answers, IsMade, IsRefused}
 use Rattle.channel_model.proofs.WhoWaits.{AreLive-IsLegal}
 use Rattle.channel_run.proofs.WholeSteps.{Answers-StepsTo, StepsTo-made, StepsTo-wants, StepsTo-refused, not_refused}
 
--- ---- the three outcomes, behind a past
+-- ---- the three outcomes, after a past
 
 pub Answers-made : {T : Type 0} (kind : Kind) (past : Past T) (before after : View T) (step : Step T)
     (reply : Reply T) → StandsFor kind past before → refusal_in before step ≡ None → IsMade before step reply after

@@ -232,7 +232,7 @@ module _ {T : Type 0} (kind : Kind) (past : Past T) (legal : IsLegal kind past) 
 
 -- ---- poll by poll
 
--- These polls were made behind the past, so many of them, and these ones were ready.
+-- These polls were made after the past, this is their number, and these ones were ready.
 pub record SettlesSoFar {T : Type 0} (kind : Kind) (past : Past T) (count : ℕ) (finished : List (Who × Reply T))
     (run : View T) : Type 0 where
   pub polls : Past T

@@ -1,4 +1,4 @@
--- Where a past stands for a run, the past longer by a step stands for what the run shows behind it.
+-- Where a past stands for a run, the past longer by a step stands for what the run shows after it.
 use Rattle.std.proofs.Common.{◌≡◌, ℕ, ◌<◌, inl, inr, List, [], ◌∷◌, Bool, true, false, not, ◌||◌, cond, Some, None, Ok, Option, refl, sym, ◌∙◌, ap, subst, length, drop, arith}
 use Rattle.std.specs.Prelude.{option_and_then}
 use Rattle.futures.specs.declared.task.Poll.TheVariants.{Ready, Pending}
@@ -179,7 +179,7 @@ some_if_positive : (names : List ℕ) → 0 < length names → has_none names �
 some_if_positive [] some = absurd (omega arith)
 some_if_positive (first ∷ names) some = refl
 
--- whom the closing tells, behind a step with the reply that is due
+-- whom the closing tells, after a step with the reply that is due
 Closing : {T : Type 0} → Past T → View T → Step T → Reply T → Rosters → Type 0
 Closing past run step reply all =
     closing_in run step all ≡ after_last_receiver (has_no_receiver past) (has_no_receiver ((step, reply) ∷ past))

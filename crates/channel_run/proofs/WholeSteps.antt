@@ -54,7 +54,7 @@ AreAlike-trans run other third same more = record {
   rosters = same.rosters ∙ more.rosters;
 }
 
--- a run that shows the same behind the step has made it too
+-- a run that shows the same after the step has made it too
 pub IsMade-AreAlike : {T : Type 0} (before after other : View T) (step : Step T) (reply : Reply T)
     → IsMade before step reply after → AreAlike other after → IsMade before step reply other
 IsMade-AreAlike before after other step reply is alike =

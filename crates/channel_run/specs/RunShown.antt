@@ -113,7 +113,7 @@ abbrev pub IsHolder : (ticket_of : ℕ → Option ℕ) → ℕ → Option ℕ �
 IsHolder ticket_of key found =
     MatchOption found ((name : ℕ) → ticket_of name ≢ Some key) (λ name. ticket_of name ≡ Some key)
 
--- the core behind an operation that was given up, by what stood under its name
+-- the core after an operation that was given up, by what stood under its name
 abbrev pub dropped : {T W : Type 0} → Channel T W → Option (Started T) → Channel T W
 dropped core found = record core {
   sends = handed_on (option_and_then send_ticket found) core.sends;

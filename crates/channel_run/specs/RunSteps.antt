@@ -32,7 +32,7 @@ use Rattle.channel_model.specs.Memory.{may_want_memory_in, polls_newcomer}
 use Rattle.channel_model.specs.Refusals.{refusal_in}
 use Rattle.channel_run.specs.StandsFor.{StandsFor}
 
--- ---- what it shows behind a step with this reply
+-- ---- what it shows after a step with this reply
 
 -- without the first, if one was taken
 abbrev pub without_first : {T : Type 0} → Option T → List T → List T
@@ -150,7 +150,7 @@ abbrev pub IsNext : {T : Type 0} → View T → Option Who → Type 0
 IsNext {T} run next =
     MatchOption next (IsQuiet run.rosters) (λ who. slice_get (told_polls {T = T} run.rosters) 0 ≡ Some (poll_of who))
 
--- What a run promises of a step, behind a past that stands for it: the reply is an answer, and the past after it stands
+-- What a run promises of a step, after a past that stands for it: the reply is an answer, and the past after it stands
 -- for the run after it.
 pub record Answers {T : Type 0} (kind : Kind) (past : Past T) (step : Step T) (reply : Reply T)
     (after : View T) : Type 0 where

@@ -11,7 +11,7 @@ use Rattle.channel_model.specs.Polling.{Settles}
 use Rattle.channel_model.specs.View.{View}
 use Rattle.channel_run.specs.StandsFor.{StandsFor}
 
--- There is a past of these steps: each reply is an answer behind the past of the steps before it, and the last past
+-- There is a past of these steps: each reply is an answer after the past of the steps before it, and the last past
 -- stands for the run at the end. What was accepted is what was taken, followed by what the run holds, in order.
 pub record ComesTo {T : Type 0} (kind : Kind) (steps : List (Step T)) (replies : List (Reply T))
     (run : View T) : Type 0 where
@@ -20,7 +20,7 @@ pub record ComesTo {T : Type 0} (kind : Kind) (steps : List (Step T)) (replies :
   pub stands : StandsFor kind past run
   pub conserved : accepted_messages past ≡ taken_messages past ++ run.messages
 
--- There are polls behind this past that settled the channel, so many of them, with these ones ready, and the past
+-- There are polls after this past that settled the channel, in this number, with these ones ready, and the past
 -- that is longer by them stands for the run now.
 pub record SettlesTo {T : Type 0} (kind : Kind) (past : Past T) (count : ℕ) (finished : List (Who × Reply T))
     (run : View T) : Type 0 where

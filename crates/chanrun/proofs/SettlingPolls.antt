@@ -19,7 +19,7 @@ pub text-Settles : (kind : Kind) (past polls : Past ℕ) (count : ℕ) (finished
 text-Settles kind past polls count finished legal settles =
     rw (settling_polls-Settles kind past polls count finished legal settles, settles.counted, settles.listed) refl
 
--- and the past behind them is the one that the model decides
+-- and the past after them is the one that the model decides
 pub settled_behind : (kind : Kind) (past : Past ℕ) (count : ℕ) (finished : List (Who × Reply ℕ)) (run : View ℕ)
     → IsLegal kind past → SettlesTo kind past count finished run
     → StandsFor kind (settling_polls kind past ++ past) run

@@ -15,7 +15,7 @@ use Rattle.chanrun.specs.declared.script.ScriptError.{ScriptError}
 use Rattle.chanrun.specs.declared.script.ScriptError.TheVariants.{Fault as FaultAt, Read, Write, OutOfMemory, TooLong}
 use Rattle.chanrun.proofs.Known.{front_more, front_behind, appends_more, nothing_left}
 
--- the text that is due for lines behind a past
+-- the text that is due for lines after a past
 abbrev pub due_text : Kind → Past ℕ → List (List ℕ) → List ℕ
 due_text kind past lines = texts_after kind past (commands_of lines)
 

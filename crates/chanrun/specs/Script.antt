@@ -33,25 +33,25 @@ settled_line polls finished = codes "settled " ++ (decimal polls ++ (codes " " +
 abbrev pub settled_text : (polls : ℕ) (finished : List (Who × Reply ℕ)) → List ℕ
 settled_text polls finished = settled_line polls (length finished) ++ flat_map finished_line finished
 
--- the text that a command is answered by, behind this past
+-- the text that a command is answered by, after this past
 abbrev pub command_text : Kind → Past ℕ → Command → List ℕ
 command_text kind past (Make step) = as_line (reply_text (answer_of kind past step))
 command_text kind past (Notice who) = as_line (notice_text (notice_of past who))
 command_text kind past Settle =
     settled_text (length (settling_polls kind past)) (finished_polls (settling_polls kind past))
 
--- the past behind a command
+-- the past after a command
 abbrev pub past_behind : Kind → Past ℕ → Command → Past ℕ
 past_behind kind past (Make step) = past_made kind past step
 past_behind kind past (Notice who) = past
 past_behind kind past Settle = settling_polls kind past ++ past
 
--- the past behind commands, in order
+-- the past after commands, in order
 abbrev pub past_behind_all : Kind → Past ℕ → List Command → Past ℕ
 past_behind_all kind past [] = past
 past_behind_all kind past (command ∷ commands) = past_behind_all kind (past_behind kind past command) commands
 
--- the texts that commands are answered by, in order, behind this past
+-- the texts that commands are answered by, in order, after this past
 abbrev pub texts_after : Kind → Past ℕ → List Command → List ℕ
 texts_after kind past [] = []
 texts_after kind past (command ∷ commands) =

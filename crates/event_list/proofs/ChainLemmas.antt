@@ -10,7 +10,7 @@ use Rattle.event_list.specs.Entries.{with_behind, with_before, with_notice, Rewr
 use Rattle.event_list.specs.Chain.{first_key, last_key, IsChain, walk, untold_of, told_item, untold_item, items, shown, Keeps}
 use Rattle.event_list.specs.declared.entries.Entry.{Entry}
 use Rattle.event_list.specs.declared.ends.Ends.{Ends}
-use Rattle.event_list.specs.declared.entries.Notice.{Notice}
+use Rattle.event_list.specs.declared.entries.EntryState.{EntryState}
 use Rattle.event_list.proofs.Splits.{eqb_same, Midst, different-push, different_left, different_right, apart, apart_back}
 
 module _ {A : Type 0} where
@@ -32,33 +32,33 @@ module _ {A : Type 0} where
       (last_among y ys key h)
 
 module _ {W : Type 0} where
-  abbrev pub keys_of : List (ℕ × Notice W) → List ℕ
+  abbrev pub keys_of : List (ℕ × EntryState W) → List ℕ
   keys_of xs = map (λ item. item.0) xs
 
   -- every other slot is as it was
   abbrev pub SameOthers : Slab (Entry W) → Slab (Entry W) → ℕ → Type 0
   SameOthers old new key = (other : ℕ) → other ≢ key → get new other ≡ get old other
 
-  pub chain_append : (slab : Slab (Entry W)) (before behind : Option ℕ) (xs ys : List (ℕ × Notice W))
+  pub chain_append : (slab : Slab (Entry W)) (before behind : Option ℕ) (xs ys : List (ℕ × EntryState W))
       → IsChain slab before xs (first_key ys behind) → IsChain slab (last_key before xs) ys behind
       → IsChain slab before (xs ++ ys) behind
   chain_append slab before behind [] ys h i = i
   chain_append slab before behind (x ∷ xs) ys h i =
       (rw (first_key-append xs ys behind) h.0, chain_append slab (Some x.0) behind xs ys h.1 i)
 
-  pub chain_front : (slab : Slab (Entry W)) (before behind : Option ℕ) (xs ys : List (ℕ × Notice W))
+  pub chain_front : (slab : Slab (Entry W)) (before behind : Option ℕ) (xs ys : List (ℕ × EntryState W))
       → IsChain slab before (xs ++ ys) behind → IsChain slab before xs (first_key ys behind)
   chain_front slab before behind [] ys h = tt
   chain_front slab before behind (x ∷ xs) ys h =
       (rw (← first_key-append xs ys behind) h.0, chain_front slab (Some x.0) behind xs ys h.1)
 
-  pub chain_back : (slab : Slab (Entry W)) (before behind : Option ℕ) (xs ys : List (ℕ × Notice W))
+  pub chain_back : (slab : Slab (Entry W)) (before behind : Option ℕ) (xs ys : List (ℕ × EntryState W))
       → IsChain slab before (xs ++ ys) behind → IsChain slab (last_key before xs) ys behind
   chain_back slab before behind [] ys h = h
   chain_back slab before behind (x ∷ xs) ys h = chain_back slab (Some x.0) behind xs ys h.1
 
   -- a chain that a write doesn't reach
-  pub chain_kept : (old new : Slab (Entry W)) (key : ℕ) (before behind : Option ℕ) (xs : List (ℕ × Notice W))
+  pub chain_kept : (old new : Slab (Entry W)) (key : ℕ) (before behind : Option ℕ) (xs : List (ℕ × EntryState W))
       → SameOthers old new key → is_among key (keys_of xs) ≡ false → IsChain old before xs behind
       → IsChain new before xs behind
   chain_kept old new key before behind [] same absent h = tt
@@ -67,8 +67,8 @@ module _ {W : Type 0} where
       (same x.0 (eqb-false x.0 key parts.0) ∙ h.0, chain_kept old new key (Some x.0) behind xs same parts.1 h.1)
 
   -- the neighbour behind the last item
-  pub chain_end : (old new : Slab (Entry W)) (key : ℕ) (before behind next : Option ℕ) (x : ℕ × Notice W)
-      (xs : List (ℕ × Notice W)) → last_key (Some x.0) xs ≡ Some key → AreDifferent (x.0 ∷ keys_of xs)
+  pub chain_end : (old new : Slab (Entry W)) (key : ℕ) (before behind next : Option ℕ) (x : ℕ × EntryState W)
+      (xs : List (ℕ × EntryState W)) → last_key (Some x.0) xs ≡ Some key → AreDifferent (x.0 ∷ keys_of xs)
       → get new key ≡ option_map (with_behind next) (get old key) → SameOthers old new key
       → IsChain old before (x ∷ xs) behind → IsChain new before (x ∷ xs) next
   chain_end old new key before behind next x [] last different written same h =
@@ -80,23 +80,23 @@ module _ {W : Type 0} where
       (same x.0 apart ∙ h.0, chain_end old new key (Some x.0) behind next y ys last different.1 written same h.1)
 
   -- the neighbour before the first item
-  pub chain_start : (old new : Slab (Entry W)) (before behind next : Option ℕ) (x : ℕ × Notice W)
-      (xs : List (ℕ × Notice W)) → is_among x.0 (keys_of xs) ≡ false
+  pub chain_start : (old new : Slab (Entry W)) (before behind next : Option ℕ) (x : ℕ × EntryState W)
+      (xs : List (ℕ × EntryState W)) → is_among x.0 (keys_of xs) ≡ false
       → get new x.0 ≡ option_map (with_before next) (get old x.0) → SameOthers old new x.0
       → IsChain old before (x ∷ xs) behind → IsChain new next (x ∷ xs) behind
   chain_start old new before behind next x xs absent written same h =
       (written ∙ ap (option_map (with_before next)) h.0, chain_kept old new x.0 (Some x.0) behind xs same absent h.1)
 
   -- the notice of an item
-  pub chain_notice : (old new : Slab (Entry W)) (before behind : Option ℕ) (key : ℕ) (notice changed : Notice W)
-      (xs : List (ℕ × Notice W)) → is_among key (keys_of xs) ≡ false
+  pub chain_notice : (old new : Slab (Entry W)) (before behind : Option ℕ) (key : ℕ) (notice changed : EntryState W)
+      (xs : List (ℕ × EntryState W)) → is_among key (keys_of xs) ≡ false
       → get new key ≡ option_map (with_notice changed) (get old key) → SameOthers old new key
       → IsChain old before ((key, notice) ∷ xs) behind → IsChain new before ((key, changed) ∷ xs) behind
   chain_notice old new before behind key notice changed xs absent written same h =
       (written ∙ ap (option_map (with_notice changed)) h.0, chain_kept old new key (Some key) behind xs same absent h.1)
 
   -- a walk along a chain gives its items
-  pub walk_chain : (slab : Slab (Entry W)) (before behind : Option ℕ) (xs : List (ℕ × Notice W))
+  pub walk_chain : (slab : Slab (Entry W)) (before behind : Option ℕ) (xs : List (ℕ × EntryState W))
       → IsChain slab before xs behind → walk slab (length xs) (first_key xs behind) ≡ xs
   walk_chain slab before behind [] h = refl
   walk_chain slab before behind (x ∷ xs) h = rw h.0 (ap (λ ys. x ∷ ys) (walk_chain slab (Some x.0) behind xs h.1))
@@ -121,7 +121,7 @@ module _ {W : Type 0} where
 
   pub keys_of-items : (list : Waiting W) → keys_of (items list) ≡ keys list
   keys_of-items list =
-      map-append (λ (item : ℕ × Notice W). item.0) (map told_item list.told) (map untold_item list.untold)
+      map-append (λ (item : ℕ × EntryState W). item.0) (map told_item list.told) (map untold_item list.untold)
       ∙ rw (keys_of-told W list.told, keys_of-untold list.untold) refl
 
   pub Keeps-shown : (slab : Slab (Entry W)) (ends : Ends) (len told : ℕ) (list : Waiting W)
@@ -148,12 +148,12 @@ module _ {W : Type 0} where
       ∙ untold_of-map list.untold in
       rw (told_part, untold_part) refl
 
-  pub last_some : (key : ℕ) (xs : List (ℕ × Notice W)) → (last : ℕ) × (last_key (Some key) xs ≡ Some last)
+  pub last_some : (key : ℕ) (xs : List (ℕ × EntryState W)) → (last : ℕ) × (last_key (Some key) xs ≡ Some last)
   last_some key [] = (key, refl)
   last_some key (x ∷ xs) = last_some x.0 xs
 
   -- a write of the last item's neighbour behind
-  pub rebehind : (old new : Slab (Entry W)) (behind next : Option ℕ) (xs ys : List (ℕ × Notice W))
+  pub rebehind : (old new : Slab (Entry W)) (behind next : Option ℕ) (xs ys : List (ℕ × EntryState W))
       → MayRewrite (with_behind next) old new (last_key None xs) → AreDifferent (keys_of xs ++ keys_of ys)
       → IsChain old None xs behind → IsChain new None xs next
       × ((z e : Option ℕ) → IsChain old z ys e → IsChain new z ys e)
@@ -169,7 +169,7 @@ module _ {W : Type 0} where
       )
 
   -- a write of the first item's neighbour before
-  pub rebefore : (old new : Slab (Entry W)) (before next : Option ℕ) (xs ys : List (ℕ × Notice W))
+  pub rebefore : (old new : Slab (Entry W)) (before next : Option ℕ) (xs ys : List (ℕ × EntryState W))
       → MayRewrite (with_before next) old new (first_key ys None) → AreDifferent (keys_of xs ++ keys_of ys)
       → IsChain old before ys None → IsChain new next ys None
       × ((z e : Option ℕ) → IsChain old z xs e → IsChain new z xs e)
@@ -182,7 +182,7 @@ module _ {W : Type 0} where
   )
 
   -- what is left once an item was taken out and its neighbours name one another
-  pub unlinked : (old gone mid new : Slab (Entry W)) (key : ℕ) (notice : Notice W) (xs ys : List (ℕ × Notice W))
+  pub unlinked : (old gone mid new : Slab (Entry W)) (key : ℕ) (notice : EntryState W) (xs ys : List (ℕ × EntryState W))
       → IsChain old None (xs ++ (key, notice) ∷ ys) None → Midst key (keys_of xs) (keys_of ys) → SameOthers old gone key
       → MayRewrite (with_behind (first_key ys None)) gone mid (last_key None xs)
       → MayRewrite (with_before (last_key None xs)) mid new (first_key ys None) → IsChain new None (xs ++ ys) None
@@ -197,7 +197,7 @@ module _ {W : Type 0} where
       chain_append new None None xs ys (two.1 None (first_key ys None) one.0) two.0
 
   -- a new item behind the last one
-  pub pushed : (old put new : Slab (Entry W)) (key : ℕ) (notice : Notice W) (xs : List (ℕ × Notice W))
+  pub pushed : (old put new : Slab (Entry W)) (key : ℕ) (notice : EntryState W) (xs : List (ℕ × EntryState W))
       → IsChain old None xs None → AreDifferent (keys_of xs) → is_among key (keys_of xs) ≡ false
       → Updates old put key (Some (record { before = last_key None xs; behind = None; notice = notice }))
       → MayRewrite (with_behind (Some key)) put new (last_key None xs)
@@ -218,14 +218,14 @@ module _ {W : Type 0} where
         | inr differs ↦ write.others key differs ∙ h
       ]
 
-  pub first_without : (key : ℕ) (notice : Notice W) (xs ys : List (ℕ × Notice W))
+  pub first_without : (key : ℕ) (notice : EntryState W) (xs ys : List (ℕ × EntryState W))
       → cond (is_some (last_key None xs)) (first_key (xs ++ (key, notice) ∷ ys) None) (first_key ys None)
       ≡ first_key (xs ++ ys) None
   first_without key notice [] ys = refl
   first_without key notice (x ∷ xs) ys = ap (λ b. cond b (Some x.0) (first_key ys None))
       (ap is_some (last_some x.0 xs).1)
 
-  pub last_without : (key : ℕ) (notice : Notice W) (xs ys : List (ℕ × Notice W))
+  pub last_without : (key : ℕ) (notice : EntryState W) (xs ys : List (ℕ × EntryState W))
       → cond (is_some (first_key ys None)) (last_key None (xs ++ (key, notice) ∷ ys)) (last_key None xs)
       ≡ last_key None (xs ++ ys)
   last_without key notice xs [] = ap (last_key None) (sym (append-nil xs))

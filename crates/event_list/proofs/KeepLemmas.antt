@@ -9,8 +9,8 @@ use Rattle.event_list.specs.Entries.{with_notice, is_told, payload_at, Rewrites}
 use Rattle.event_list.specs.Chain.{first_key, IsChain, untold_item, items, shown, IsLinked, Keeps}
 use Rattle.event_list.specs.declared.entries.Entry.{Entry}
 use Rattle.event_list.specs.declared.ends.Ends.{Ends}
-use Rattle.event_list.specs.declared.entries.Notice.{Notice}
-use Rattle.event_list.specs.declared.entries.Notice.TheVariants.{Told, Untold}
+use Rattle.event_list.specs.declared.entries.EntryState.{EntryState}
+use Rattle.event_list.specs.declared.entries.EntryState.TheVariants.{Told, Untold}
 use Rattle.event_list.proofs.Splits.{without_told, without_untold, without_absent, renewed_absent, loses_one, joined_waits, renewed_waits}
 use Rattle.event_list.proofs.ChainLemmas.{Keeps-shown}
 use Rattle.event_list.proofs.ListLemmas.{mark_is, told_entry, untold_entry, told_from_flag, untold_from_flag, linked_renewed, FirstUntold, first_untold, linked_told_one}
@@ -48,7 +48,7 @@ module _ {W : Type 0} where
   marked {slab} {ends} {key = key} {list = list} keeps same is = is ∙ mark_is slab ends list key keeps.links
       ∙ ap (told_flag list) same
 
-  chain_same : (old new : Slab (Entry W)) (before behind : Option ℕ) (xs : List (ℕ × Notice W))
+  chain_same : (old new : Slab (Entry W)) (before behind : Option ℕ) (xs : List (ℕ × EntryState W))
       → ((key : ℕ) → get new key ≡ get old key) → IsChain old before xs behind → IsChain new before xs behind
   chain_same old new before behind [] same h = tt
   chain_same old new before behind (x ∷ xs) same h = (same x.0 ∙ h.0, chain_same old new (Some x.0) behind xs same h.1)

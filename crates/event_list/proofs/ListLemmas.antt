@@ -10,8 +10,8 @@ use Rattle.event_list.specs.Entries.{with_behind, with_before, with_notice, is_t
 use Rattle.event_list.specs.Chain.{first_key, last_key, IsChain, told_item, untold_item, items, IsLinked}
 use Rattle.event_list.specs.declared.entries.Entry.{Entry}
 use Rattle.event_list.specs.declared.ends.Ends.{Ends}
-use Rattle.event_list.specs.declared.entries.Notice.{Notice}
-use Rattle.event_list.specs.declared.entries.Notice.TheVariants.{Told, Untold}
+use Rattle.event_list.specs.declared.entries.EntryState.{EntryState}
+use Rattle.event_list.specs.declared.entries.EntryState.TheVariants.{Told, Untold}
 use Rattle.event_list.proofs.Splits.{eqb_same, absent_left, absent_right, absent_both, Midst, different-push, cut_at, ToldCut, UntoldCut, told_midst, untold_midst, untold_is, without_told, without_untold, different_without_told, different_without_untold, repaid_cut}
 use Rattle.event_list.proofs.ChainLemmas.{keys_of, first_key-append, last_key-append, chain_append, chain_front, chain_back, chain_kept, chain_notice, unlinked, pushed, may_none, first_without, last_without, first_key-untold, keys_of-told, keys_of-untold, keys_of-items}
 
@@ -49,7 +49,7 @@ module _ {W : Type 0} where
       notice = Untold payload;
     })
 
-  entry_at : (slab : Slab (Entry W)) (list : Waiting W) (key : ℕ) (notice : Notice W) (xs ys : List (ℕ × Notice W))
+  entry_at : (slab : Slab (Entry W)) (list : Waiting W) (key : ℕ) (notice : EntryState W) (xs ys : List (ℕ × EntryState W))
       → IsChain slab None (items list) None → items list ≡ xs ++ (key, notice) ∷ ys
       → get slab key ≡ Some (record { before = last_key None xs; behind = first_key ys None; notice = notice })
   entry_at slab list key notice xs ys linked whole =
@@ -149,8 +149,8 @@ module _ {W : Type 0} where
     ],
   )
 
-  linked_left : (old gone mid new : Slab (Entry W)) (ends : Ends) (list left : Waiting W) (key : ℕ) (notice : Notice W)
-      (xs ys : List (ℕ × Notice W)) → IsLinked old ends list → items list ≡ xs ++ (key, notice) ∷ ys
+  linked_left : (old gone mid new : Slab (Entry W)) (ends : Ends) (list left : Waiting W) (key : ℕ) (notice : EntryState W)
+      (xs ys : List (ℕ × EntryState W)) → IsLinked old ends list → items list ≡ xs ++ (key, notice) ∷ ys
       → items left ≡ xs ++ ys → Midst key (keys_of xs) (keys_of ys) → Updates old gone key None
       → MayRewrite (with_behind (first_key ys None)) gone mid (last_key None xs)
       → MayRewrite (with_before (last_key None xs)) mid new (first_key ys None)
@@ -160,9 +160,9 @@ module _ {W : Type 0} where
       different =
       let chain = subst (λ es. IsChain old None es None) whole linked.linked in
       let keys_list : keys list ≡ keys_of xs ++ key ∷ keys_of ys = sym (keys_of-items list) ∙ ap keys_of whole
-      ∙ map-append (λ (item : ℕ × Notice W). item.0) xs ((key, notice) ∷ ys) in
+      ∙ map-append (λ (item : ℕ × EntryState W). item.0) xs ((key, notice) ∷ ys) in
       let keys_left : keys left ≡ keys_of xs ++ keys_of ys = sym (keys_of-items left) ∙ ap keys_of rest
-      ∙ map-append (λ (item : ℕ × Notice W). item.0) xs ys in
+      ∙ map-append (λ (item : ℕ × EntryState W). item.0) xs ys in
       let vacant : (other : ℕ) → is_among other (keys left) ≡ false → get gone other ≡ None =
       λ other absent. elim (cases_eq other key) [
         | inl same ↦ ap (get gone) same ∙ updates.changed
@@ -229,7 +229,7 @@ module _ {W : Type 0} where
             (ap (λ es. es ++ map untold_item list.untold) (map-append told_item at.front at.back)
             ∙ append_assoc xs (map told_item at.back) (map untold_item list.untold))
             (Midst-same key (keys_of xs) (keys_of ys) at.front (at.back ++ untold_keys list) (keys_of-told W at.front)
-            (map-append (λ (item : ℕ × Notice W). item.0) (map told_item at.back) (map untold_item list.untold)
+            (map-append (λ (item : ℕ × EntryState W). item.0) (map told_item at.back) (map untold_item list.untold)
             ∙ rw (keys_of-told W at.back, keys_of-untold list.untold) refl) midst)
             takes.taken
             (subst (λ (n : Entry W). MayRewrite (with_behind n.behind) gone mid n.before) is takes.before)
@@ -255,7 +255,7 @@ module _ {W : Type 0} where
               (ap (λ es. map told_item list.told ++ es) (map-append untold_item at.front at.back)
               ∙ sym (append_assoc (map told_item list.told) (map untold_item at.front) ys))
               (Midst-same key (keys_of xs) (keys_of ys) (list.told ++ map (λ entry. entry.0) at.front)
-              (map (λ entry. entry.0) at.back) (map-append (λ (item : ℕ × Notice W). item.0)
+              (map (λ entry. entry.0) at.back) (map-append (λ (item : ℕ × EntryState W). item.0)
               (map told_item list.told) (map untold_item at.front)
               ∙ rw (keys_of-told W list.told, keys_of-untold at.front) refl) (keys_of-untold at.back) midst)
               takes.taken
@@ -276,7 +276,7 @@ module _ {W : Type 0} where
     pub placed : Updates old put key (Some (record { before = last; behind = None; notice = Untold payload }))
     pub behind : MayRewrite (with_behind (Some key)) put new last
 
-  first_with : (key : ℕ) (notice : Notice W) (xs : List (ℕ × Notice W))
+  first_with : (key : ℕ) (notice : EntryState W) (xs : List (ℕ × EntryState W))
       → option_or (first_key xs None) (Some key) ≡ first_key (xs ++ (key, notice) ∷ []) None
   first_with key notice [] = refl
   first_with key notice (x ∷ xs) = refl
@@ -321,14 +321,14 @@ module _ {W : Type 0} where
         different = rw all (different-push (keys list) key absent linked.different);
       }
 
-  first_changed : (key : ℕ) (notice changed : Notice W) (xs ys : List (ℕ × Notice W))
+  first_changed : (key : ℕ) (notice changed : EntryState W) (xs ys : List (ℕ × EntryState W))
       → first_key (xs ++ (key, notice) ∷ ys) None ≡ first_key (xs ++ (key, changed) ∷ ys) None
   first_changed key notice changed [] ys = refl
   first_changed key notice changed (x ∷ xs) ys = refl
 
   -- a write of one notice
   linked_changed : (old new : Slab (Entry W)) (ends : Ends) (cursor : Option ℕ) (list left : Waiting W) (key : ℕ)
-      (notice changed : Notice W) (xs ys : List (ℕ × Notice W)) → IsLinked old ends list
+      (notice changed : EntryState W) (xs ys : List (ℕ × EntryState W)) → IsLinked old ends list
       → items list ≡ xs ++ (key, notice) ∷ ys → items left ≡ xs ++ (key, changed) ∷ ys
       → Midst key (keys_of xs) (keys_of ys) → Rewrites old new key (option_map (with_notice changed) (get old key))
       → cursor ≡ first_key left.untold None → keys left ≡ keys list
@@ -375,7 +375,7 @@ module _ {W : Type 0} where
       (ap (λ es. map told_item list.told ++ es) (map-append untold_item at.front ((key, payload) ∷ at.back))
       ∙ sym (append_assoc (map told_item list.told) (map untold_item at.front) ((key, Untold payload) ∷ ys)))
       (Midst-same key (keys_of xs) (keys_of ys) (list.told ++ map (λ entry. entry.0) at.front)
-      (map (λ entry. entry.0) at.back) (map-append (λ (item : ℕ × Notice W). item.0) (map told_item list.told)
+      (map (λ entry. entry.0) at.back) (map-append (λ (item : ℕ × EntryState W). item.0) (map told_item list.told)
       (map untold_item at.front) ∙ rw (keys_of-told W list.told, keys_of-untold at.front) refl)
       (keys_of-untold at.back) midst)
       writes

@@ -6,8 +6,8 @@ use Rattle.event_list.specs.Keys.{is_among, AreDifferent}
 use Rattle.event_list.specs.Waiting.{Waiting, keys}
 use Rattle.event_list.specs.declared.entries.Entry.{Entry}
 use Rattle.event_list.specs.declared.ends.Ends.{Ends}
-use Rattle.event_list.specs.declared.entries.Notice.{Notice}
-use Rattle.event_list.specs.declared.entries.Notice.TheVariants.{Told, Untold}
+use Rattle.event_list.specs.declared.entries.EntryState.{EntryState}
+use Rattle.event_list.specs.declared.entries.EntryState.TheVariants.{Told, Untold}
 
 module _ {A : Type 0} where
   -- the key of the first item, or this one where there is none
@@ -22,46 +22,46 @@ module _ {A : Type 0} where
 
 module _ {W : Type 0} where
   -- what the entry of a told key holds, beside its neighbours
-  abbrev pub told_item : ℕ → ℕ × Notice W
+  abbrev pub told_item : ℕ → ℕ × EntryState W
   told_item key = (key, Told)
 
   -- and the entry of an untold one
-  abbrev pub untold_item : ℕ × W → ℕ × Notice W
+  abbrev pub untold_item : ℕ × W → ℕ × EntryState W
   untold_item entry = (entry.0, Untold entry.1)
 
   -- the entries of a list: a told front, and the untold ones behind it
-  abbrev pub items : Waiting W → List (ℕ × Notice W)
+  abbrev pub items : Waiting W → List (ℕ × EntryState W)
   items list = map told_item list.told ++ map untold_item list.untold
 
   -- These items stand in the slab, one behind the other, between these two neighbours.
-  abbrev pub IsChain : Slab (Entry W) → Option ℕ → List (ℕ × Notice W) → Option ℕ → Type 0
+  abbrev pub IsChain : Slab (Entry W) → Option ℕ → List (ℕ × EntryState W) → Option ℕ → Type 0
   IsChain slab before [] behind = Unit {0}
   IsChain slab before (item ∷ rest) behind =
       (get slab item.0 ≡ Some (record { before = before; behind = first_key rest behind; notice = item.1 }))
       × IsChain slab (Some item.0) rest behind
 
   -- an entry, if there is one under this key, and what is read from its neighbour on
-  abbrev step : (Option ℕ → List (ℕ × Notice W)) → ℕ → Option (Entry W) → List (ℕ × Notice W)
+  abbrev step : (Option ℕ → List (ℕ × EntryState W)) → ℕ → Option (Entry W) → List (ℕ × EntryState W)
   step rest key None = []
   step rest key (Some entry) = (key, entry.notice) ∷ rest entry.behind
 
   -- the same, if there is a key
-  abbrev step_from : Slab (Entry W) → (Option ℕ → List (ℕ × Notice W)) → Option ℕ → List (ℕ × Notice W)
+  abbrev step_from : Slab (Entry W) → (Option ℕ → List (ℕ × EntryState W)) → Option ℕ → List (ℕ × EntryState W)
   step_from slab rest None = []
   step_from slab rest (Some key) = step rest key (get slab key)
 
-  -- so many entries, from this one on, each behind the other
-  abbrev pub walk : Slab (Entry W) → ℕ → Option ℕ → List (ℕ × Notice W)
+  -- this many entries, from this one on, each behind the other
+  abbrev pub walk : Slab (Entry W) → ℕ → Option ℕ → List (ℕ × EntryState W)
   walk slab zero = λ _. []
   walk slab (suc n) = λ start. step_from slab (walk slab n) start
 
   -- a key and its payload, where it is untold, in front of the others
-  abbrev with_payload : ℕ → Notice W → List (ℕ × W) → List (ℕ × W)
+  abbrev with_payload : ℕ → EntryState W → List (ℕ × W) → List (ℕ × W)
   with_payload key Told rest = rest
   with_payload key (Untold payload) rest = (key, payload) ∷ rest
 
   -- the items that hold a payload
-  abbrev pub untold_of : List (ℕ × Notice W) → List (ℕ × W)
+  abbrev pub untold_of : List (ℕ × EntryState W) → List (ℕ × W)
   untold_of [] = []
   untold_of (item ∷ rest) = with_payload item.0 item.1 (untold_of rest)
 

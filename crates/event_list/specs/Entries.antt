@@ -4,8 +4,8 @@ use Rattle.std.specs.Option.{option_map, option_or}
 use Rattle.slab.specs.Slab.{Slab, get, slab_len}
 use Rattle.event_list.specs.declared.entries.Entry.{Entry}
 use Rattle.event_list.specs.declared.ends.Ends.{Ends}
-use Rattle.event_list.specs.declared.entries.Notice.{Notice}
-use Rattle.event_list.specs.declared.entries.Notice.TheVariants.{Told, Untold}
+use Rattle.event_list.specs.declared.entries.EntryState.{EntryState}
+use Rattle.event_list.specs.declared.entries.EntryState.TheVariants.{Told, Untold}
 
 -- whether this is the key
 abbrev pub is_at : Option ℕ → ℕ → Bool
@@ -38,16 +38,16 @@ module _ {W : Type 0} where
   with_before before entry = record entry { before = before }
 
   -- an entry with another notice
-  abbrev pub with_notice : Notice W → Entry W → Entry W
+  abbrev pub with_notice : EntryState W → Entry W → Entry W
   with_notice notice entry = record entry { notice = notice }
 
   -- whether an entry is told
-  abbrev pub is_told : Notice W → Bool
+  abbrev pub is_told : EntryState W → Bool
   is_told Told = true
   is_told (Untold _) = false
 
   -- the payload of a notice, where it is untold, beside a key
-  abbrev payload_beside : Option ℕ → Notice W → Option (W × Option ℕ)
+  abbrev payload_beside : Option ℕ → EntryState W → Option (W × Option ℕ)
   payload_beside behind Told = None
   payload_beside behind (Untold payload) = Some (payload, behind)
 

@@ -6,7 +6,7 @@ ghost use Rattle.event_list.specs.Waiting.{Waiting, keys, told_flag, joined, wit
 ghost use Rattle.event_list.specs.Entries.{ends_with, ends_without};
 ghost use Rattle.event_list.specs.Chain.{IsLinked};
 
-use crate::entries::{Entries, Entry, Notice};
+use crate::entries::{Entries, Entry, EntryState};
 use crate::list::steps::Lookups;
 use std::sync::ledger::Ledger;
 
@@ -95,7 +95,7 @@ impl Ends {
         let entry = Entry {
             before: self.last,
             behind: None,
-            notice: Notice::Untold(payload),
+            notice: EntryState::Untold(payload),
         };
         let key = entries.insert(entry, lookups);
         entries.set_behind(self.last, Some(key), lookups);

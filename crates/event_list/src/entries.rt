@@ -13,18 +13,18 @@ use std::sync::ledger::Ledger;
 
 /// Whether an entry is told, and its payload where it isn't.
 #[derive(Drop)]
-pub enum Notice<W> {
+pub enum EntryState<W> {
     Told,
     Untold(W),
 }
 
-impl<W> Notice<W> {
+impl<W> EntryState<W> {
     pub fn is_told(&self) -> bool
         ensures { result ≡ is_told self.now }
     {
         match self {
-            Notice::Told => true,
-            Notice::Untold(_) => false,
+            EntryState::Told => true,
+            EntryState::Untold(_) => false,
         }
     }
 }
@@ -34,7 +34,7 @@ impl<W> Notice<W> {
 pub struct Entry<W> {
     pub before: Option<usize>,
     pub behind: Option<usize>,
-    pub notice: Notice<W>,
+    pub notice: EntryState<W>,
 }
 
 /// The entries, each under its key: the one way to the slab.
@@ -147,12 +147,12 @@ impl<W: Drop> Entries<W> {
     /// Makes an entry an unnotified one with this payload.
     pub fn set_payload<L: Ledger>(&mut self, key: usize, payload: W, lookups: &mut Lookups<L>)
         ensures rewrites { Rewrites self.old self.new key
-            (option_map (with_notice (Notice.Untold payload)) (get self.old key)) }
+            (option_map (with_notice (EntryState.Untold payload)) (get self.old key)) }
         ensures counted { lookups.new ≡ lookups.old + 1 }
     {
         lookups.raise();
         if let Some(entry) = self.slab.get_mut(key) {
-            entry.notice = Notice::Untold(payload);
+            entry.notice = EntryState::Untold(payload);
         }
     }
 
@@ -165,14 +165,14 @@ impl<W: Drop> Entries<W> {
     ) -> Option<(W, Option<usize>)>
         ensures answer { result ≡ option_and_then payload_at (get self.old key) }
         ensures rewrites { Rewrites self.old self.new key
-            (option_map (with_notice Notice.Told) (get self.old key)) }
+            (option_map (with_notice EntryState.Told) (get self.old key)) }
         ensures counted { lookups.new ≡ lookups.old + 1 }
     {
         lookups.raise();
         let entry = self.slab.get_mut(key)?;
-        match std::mem::replace(&mut entry.notice, Notice::Told) {
-            Notice::Untold(payload) => Some((payload, entry.behind)),
-            Notice::Told => None,
+        match std::mem::replace(&mut entry.notice, EntryState::Told) {
+            EntryState::Untold(payload) => Some((payload, entry.behind)),
+            EntryState::Told => None,
         }
     }
 

@@ -79,7 +79,7 @@ where
     Ok(())
 }
 
-/// So many messages held at once, and so many times.
+/// How many messages are held at once, and how many times.
 fn fill<R>(
     rt: &R,
     form: Form<'_>,

@@ -16,7 +16,7 @@ pub enum Form<'a> {
     Fields(&'a str),
 }
 
-/// Prints the time since `start`, in which so many units of the work were done.
+/// Prints the time since `start`, in which this many units of the work were done.
 pub fn row<R: Clock + Print>(
     rt: &R,
     form: Form<'_>,

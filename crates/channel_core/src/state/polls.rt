@@ -1,4 +1,4 @@
-//! The polls of those who may wait, and what is left behind where one gives up.
+//! The polls of those who may wait, and what they leave where one gives up.
 ghost use Rattle.std.specs.Prelude.{◌≡◌, ◌==◌, Some, None, IfOk, OnErr};
 ghost use Rattle.event_list.specs.Waiting.{RingsEach};
 ghost use Rattle.channel_model.specs.Tables.{OnReady, OnWait, send_poll, recv_poll, next_poll, closed_poll};

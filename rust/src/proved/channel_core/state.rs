@@ -9,7 +9,7 @@
 //! - where the channel was closed, all sends, receives and streams;
 //! - where the last receiver was given up, all closed operations.
 //!
-//! Why it is enough to tell one: beside a receive that is still waiting unnotified, at least as
+//! Why it is enough to tell one: beside a receive that waits and was not told, at least as
 //! many receives are told as messages are held, and beside such a send as many sends as places are
 //! free. An accepted message tells one more. A message that anybody takes lowers the number that is
 //! owed. Who was told and polls takes what it was told of, or finds it taken by somebody else and

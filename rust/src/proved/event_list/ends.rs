@@ -1,7 +1,7 @@
 // Taken out of crates/event_list/src/ends.rt by tools/erase. Change that file, not this one.
 //! The ends of a waiting list, and how an entry comes and goes.
 
-use crate::proved::event_list::entries::{Entries, Entry, Notice};
+use crate::proved::event_list::entries::{Entries, Entry, EntryState};
 use crate::proved::event_list::list::steps::Lookups;
 use crate::shim::Ledger;
 
@@ -68,7 +68,7 @@ impl Ends {
         let entry = Entry {
             before: self.last,
             behind: None,
-            notice: Notice::Untold(payload),
+            notice: EntryState::Untold(payload),
         };
         let key = entries.insert(entry, lookups);
         entries.set_behind(self.last, Some(key), lookups);

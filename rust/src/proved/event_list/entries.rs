@@ -7,17 +7,17 @@ use crate::shim::Global;
 use crate::shim::Ledger;
 
 /// Whether an entry is told, and its payload where it isn't.
-pub enum Notice<W> {
+pub enum EntryState<W> {
     Told,
     Untold(W),
 }
 
-impl<W> Notice<W> {
+impl<W> EntryState<W> {
     #[inline]
     pub fn is_told(&self) -> bool {
         match self {
-            Notice::Told => true,
-            Notice::Untold(_) => false,
+            EntryState::Told => true,
+            EntryState::Untold(_) => false,
         }
     }
 }
@@ -26,7 +26,7 @@ impl<W> Notice<W> {
 pub struct Entry<W> {
     pub before: Option<usize>,
     pub behind: Option<usize>,
-    pub notice: Notice<W>,
+    pub notice: EntryState<W>,
 }
 
 /// The entries, each under its key: the one way to the slab.
@@ -108,7 +108,7 @@ impl<W> Entries<W> {
     pub fn set_payload<L: Ledger>(&mut self, key: usize, payload: W, lookups: &mut Lookups<L>) {
         lookups.raise();
         if let Some(entry) = self.slab.get_mut(key) {
-            entry.notice = Notice::Untold(payload);
+            entry.notice = EntryState::Untold(payload);
         }
     }
 
@@ -122,9 +122,9 @@ impl<W> Entries<W> {
     ) -> Option<(W, Option<usize>)> {
         lookups.raise();
         let entry = self.slab.get_mut(key)?;
-        match std::mem::replace(&mut entry.notice, Notice::Told) {
-            Notice::Untold(payload) => Some((payload, entry.behind)),
-            Notice::Told => None,
+        match std::mem::replace(&mut entry.notice, EntryState::Told) {
+            EntryState::Untold(payload) => Some((payload, entry.behind)),
+            EntryState::Told => None,
         }
     }
 

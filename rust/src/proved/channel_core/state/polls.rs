@@ -1,5 +1,5 @@
 // Taken out of crates/channel_core/src/state/polls.rt by tools/erase. Change that file, not this one.
-//! The polls of those who may wait, and what is left behind where one gives up.
+//! The polls of those who may wait, and what they leave where one gives up.
 
 use crate::proved::channel_core::state::Core;
 use crate::proved::channel_core::waiting::{hand_on, leave, wait};

@@ -2,7 +2,7 @@ use Rattle.std.proofs.Common.{◌≡◌, ◌+◌, length}
 use Rattle.event_list.specs.Waiting.{payloads, told_all, RingsEach}
 use Rattle.event_list.proofs.links.Links.tell_all.Given as goal
 
--- so many are told by now, and what is rung from here on completes the whole
+-- this many are told by now, and what is rung from here on completes the whole
 abbrev pub invariant-loop-turn : goal.invariant-loop-turn
 invariant-loop-turn g l =
     record {
