@@ -268,6 +268,6 @@ impl<T: Drop, R: Wait> Drop for Locked<'_, T, R> {
             bell,
             shared: _,
         } = self;
-        bell.wake_behind(MutexGuard::unlock(core));
+        bell.wake_after(MutexGuard::unlock(core));
     }
 }

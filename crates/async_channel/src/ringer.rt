@@ -54,7 +54,7 @@ impl<'a, R: Wait> Ringer<'a, R> {
 
     /// Wakes the first one. The lock is free: only its guard gives it back.
     #[inline(always)]
-    pub(crate) fn wake_behind<T>(self, _lock: &Mutex<Core<T, Mark>>) {
+    pub(crate) fn wake_after<T>(self, _lock: &Mutex<Core<T, Mark>>) {
         let Self { rt, first, log: _ } = self;
         if let Some(mark) = first {
             mark.wake(rt);

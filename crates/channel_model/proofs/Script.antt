@@ -29,12 +29,12 @@ answered kind past (settles expected finished ∷ lines) =
     ∷ answered kind (settling_polls kind past ++ past) lines
 
 -- the past after the lines
-abbrev pub past_behind : Kind → Past ℕ → List Line → Past ℕ
-past_behind kind past [] = past
-past_behind kind past (does step expected ∷ lines) =
-    past_behind kind (past_made kind past step) lines
-past_behind kind past (notes who expected ∷ lines) = past_behind kind past lines
-past_behind kind past (settles expected finished ∷ lines) = past_behind kind (settling_polls kind past ++ past) lines
+abbrev pub past_after_lines : Kind → Past ℕ → List Line → Past ℕ
+past_after_lines kind past [] = past
+past_after_lines kind past (does step expected ∷ lines) =
+    past_after_lines kind (past_made kind past step) lines
+past_after_lines kind past (notes who expected ∷ lines) = past_after_lines kind past lines
+past_after_lines kind past (settles expected finished ∷ lines) = past_after_lines kind (settling_polls kind past ++ past) lines
 
 -- A row: the kind of the channel, and the lines.
 pub record Row : Type 0 where
@@ -47,4 +47,4 @@ IsRow row = answered row.kind [] row.lines ≡ row.lines
 
 -- The past after the lines is one that can come about.
 abbrev pub EndsLegal : Row → Type 0
-EndsLegal row = IsLegal row.kind (past_behind row.kind [] row.lines)
+EndsLegal row = IsLegal row.kind (past_after_lines row.kind [] row.lines)

@@ -18,7 +18,7 @@ use Rattle.channel_model.specs.Legal.{IsLegal}
 use Rattle.channel_model.specs.Polling.{settling_polls}
 use Rattle.channel_model.proofs.LegalAnswers.{IsLegal-IsAnswer}
 use Rattle.channel_model.proofs.Settling.{IsComplete-IsLegal}
-use Rattle.channel_model.proofs.Script.{Line, does, notes, settles, past_behind, Row, EndsLegal}
+use Rattle.channel_model.proofs.Script.{Line, does, notes, settles, past_after_lines, Row, EndsLegal}
 
 -- what a line answers is an answer
 pub answer-IsAnswer : (kind : Kind) (past : Past ℕ) (step : Step ℕ) → IsAnswer kind past step (answer_of kind past step)
@@ -32,15 +32,15 @@ answer-IsAnswer kind past step = go (refusal_of kind past step)
     go (Some refusal) = refl
     go None = inl refl
 
-pub IsLegal-past_behind : (kind : Kind) (past : Past ℕ) (lines : List Line) → IsLegal kind past
-    → IsLegal kind (past_behind kind past lines)
-IsLegal-past_behind kind past [] legal = legal
-IsLegal-past_behind kind past (does step expected ∷ lines) legal =
-    IsLegal-past_behind kind (past_made kind past step) lines
+pub IsLegal-past_after_lines : (kind : Kind) (past : Past ℕ) (lines : List Line) → IsLegal kind past
+    → IsLegal kind (past_after_lines kind past lines)
+IsLegal-past_after_lines kind past [] legal = legal
+IsLegal-past_after_lines kind past (does step expected ∷ lines) legal =
+    IsLegal-past_after_lines kind (past_made kind past step) lines
     (IsLegal-IsAnswer kind past step (answer_of kind past step) legal (answer-IsAnswer kind past step))
-IsLegal-past_behind kind past (notes who expected ∷ lines) legal = IsLegal-past_behind kind past lines legal
-IsLegal-past_behind kind past (settles expected finished ∷ lines) legal =
-    IsLegal-past_behind kind (settling_polls kind past ++ past) lines (IsComplete-IsLegal kind past legal).legal
+IsLegal-past_after_lines kind past (notes who expected ∷ lines) legal = IsLegal-past_after_lines kind past lines legal
+IsLegal-past_after_lines kind past (settles expected finished ∷ lines) legal =
+    IsLegal-past_after_lines kind (settling_polls kind past ++ past) lines (IsComplete-IsLegal kind past legal).legal
 
 -- the capacity is positive, by a test that computes
 abbrev pub is_positive : Kind → Bool
@@ -55,4 +55,4 @@ HasPositiveCapacity-is_positive (Bounded capacity) positive most e =
 HasPositiveCapacity-is_positive Unbounded positive most e = cc
 
 pub legal : (row : Row) → is_positive row.kind ≡ true → EndsLegal row
-legal row positive = IsLegal-past_behind row.kind [] row.lines (HasPositiveCapacity-is_positive row.kind positive)
+legal row positive = IsLegal-past_after_lines row.kind [] row.lines (HasPositiveCapacity-is_positive row.kind positive)

@@ -33,8 +33,8 @@ answered kind past step reply answer not =
     answered_by (refusal_of kind past step) step (due_reply kind past step) reply (may_want_memory kind past step) answer not
 
 -- so the past after it is the one that the model decides
-pub made_behind : (kind : Kind) (past : Past ℕ) (step : Step ℕ) (reply : Reply ℕ) (run : View ℕ)
+pub made_after : (kind : Kind) (past : Past ℕ) (step : Step ℕ) (reply : Reply ℕ) (run : View ℕ)
     → reply ≡ answer_of kind past step
     → StandsFor kind (past_after past step reply) run → StandsFor kind (past_after past step (answer_of kind past step)) run
-made_behind kind past step reply run is stands =
+made_after kind past step reply run is stands =
     subst (λ (answer : Reply ℕ). StandsFor kind (past_after past step answer) run) is stands

@@ -15,7 +15,7 @@ use Rattle.channel_model.specs.Legal.{IsLegal}
 use Rattle.channel_model.specs.Polling.{EndsWell, IsFreePolling, IsSettling, Settles, finished_polls, settling_polls, told_polls}
 use Rattle.chanrun.specs.declared.grammar.command.Command.{Command}
 use Rattle.chanrun.specs.declared.grammar.command.Command.TheVariants.{Make, Notice, Settle}
-use Rattle.chanrun.specs.Script.{past_behind, past_behind_all}
+use Rattle.chanrun.specs.Script.{past_after_command, past_after_all}
 use Rattle.channel_model.proofs.Settling.{settling_polls-Settles}
 
 -- the laws of pasts, for the messages of a script
@@ -61,18 +61,18 @@ settled law kind past legal =
     subst (λ (polls : Past ℕ). Settles kind past polls (length polls) (finished_polls polls))
     (sym (settling_polls-Settles kind past found.0 _ _ legal found.1)) found.1
 
-legal-behind : AnswersMakeLegalPasts → EndsInAnyOrder → CanBeSettled
+legal-after : AnswersMakeLegalPasts → EndsInAnyOrder → CanBeSettled
     → (kind : Kind) (past : Past ℕ) (command : Command) → IsLegal kind past
-    → IsLegal kind (past_behind kind past command)
-legal-behind answers ends can kind past (Make step) legal = legal-step answers kind past step legal
-legal-behind answers ends can kind past (Notice who) legal = legal
-legal-behind answers ends can kind past Settle legal =
+    → IsLegal kind (past_after_command kind past command)
+legal-after answers ends can kind past (Make step) legal = legal-step answers kind past step legal
+legal-after answers ends can kind past (Notice who) legal = legal
+legal-after answers ends can kind past Settle legal =
     let settles = settled can kind past legal in
     (ends kind past (settling_polls kind past) legal (free-IsSettling kind past (settling_polls kind past) settles.each)).legal
 
-pub legal-behind_all : AnswersMakeLegalPasts → EndsInAnyOrder → CanBeSettled
+pub legal-after_all : AnswersMakeLegalPasts → EndsInAnyOrder → CanBeSettled
     → (kind : Kind) (past : Past ℕ) (commands : List Command) → IsLegal kind past
-    → IsLegal kind (past_behind_all kind past commands)
-legal-behind_all answers ends can kind past [] legal = legal
-legal-behind_all answers ends can kind past (command ∷ commands) legal =
-    legal-behind_all answers ends can kind (past_behind kind past command) commands (legal-behind answers ends can kind past command legal)
+    → IsLegal kind (past_after_all kind past commands)
+legal-after_all answers ends can kind past [] legal = legal
+legal-after_all answers ends can kind past (command ∷ commands) legal =
+    legal-after_all answers ends can kind (past_after_command kind past command) commands (legal-after answers ends can kind past command legal)

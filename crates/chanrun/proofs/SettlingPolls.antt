@@ -20,9 +20,9 @@ text-Settles kind past polls count finished legal settles =
     rw (settling_polls-Settles kind past polls count finished legal settles, settles.counted, settles.listed) refl
 
 -- and the past after them is the one that the model decides
-pub settled_behind : (kind : Kind) (past : Past ℕ) (count : ℕ) (finished : List (Who × Reply ℕ)) (run : View ℕ)
+pub settled_after : (kind : Kind) (past : Past ℕ) (count : ℕ) (finished : List (Who × Reply ℕ)) (run : View ℕ)
     → IsLegal kind past → SettlesTo kind past count finished run
     → StandsFor kind (settling_polls kind past ++ past) run
-settled_behind kind past count finished run legal to =
+settled_after kind past count finished run legal to =
     subst (λ (polls : Past ℕ). StandsFor kind (polls ++ past) run)
     (sym (settling_polls-Settles kind past to.polls count finished legal to.settles)) to.stands

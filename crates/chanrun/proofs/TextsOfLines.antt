@@ -7,7 +7,7 @@ use Rattle.channel_model.specs.declared.step.Kind.{Kind}
 use Rattle.channel_model.specs.Past.{Past}
 use Rattle.chanrun.specs.Device.{AppendsFront, one_more}
 use Rattle.chanrun.specs.Grammar.{command_of, lines_of}
-use Rattle.chanrun.specs.Script.{command_text, commands_of, fault_from, past_behind, texts_after}
+use Rattle.chanrun.specs.Script.{command_text, commands_of, fault_from, past_after_command, texts_after}
 use Rattle.chanrun.specs.Stages.{IsAnswered}
 use Rattle.chanrun.specs.declared.grammar.command.Command.{Command}
 use Rattle.chanrun.specs.declared.grammar.fault.Fault.{Fault}
@@ -21,7 +21,7 @@ due_text kind past lines = texts_after kind past (commands_of lines)
 
 pub text_more : (kind : Kind) (past : Past ℕ) (line : List ℕ) (lines : List (List ℕ)) (command : Command)
     → command_of line ≡ Ok command
-    → due_text kind past (line ∷ lines) ≡ command_text kind past command ++ due_text kind (past_behind kind past command) lines
+    → due_text kind past (line ∷ lines) ≡ command_text kind past command ++ due_text kind (past_after_command kind past command) lines
 text_more kind past line lines command is = rw is refl
 
 pub fault_more : (number : ℕ) (line : List ℕ) (lines : List (List ℕ)) (command : Command)
@@ -35,21 +35,21 @@ pub line_front : (a b : Option (List ℕ)) (kind : Kind) (past : Past ℕ) (line
 line_front a b kind past line lines command is h = rw (text_more kind past line lines command is) (front_more a b _ _ h)
 
 -- behind what was written already, an end at a line is an end of the whole
-pub answered_behind : (fault : Option (ℕ × Fault)) (e : ScriptError) (a b c : Option (List ℕ)) (xs ys : List ℕ) (f g h : ℕ)
+pub answered_after : (fault : Option (ℕ × Fault)) (e : ScriptError) (a b c : Option (List ℕ)) (xs ys : List ℕ) (f g h : ℕ)
     → Appends a b xs → g ≡ f
     → IsAnswered fault ys (Err e) b c g h → IsAnswered fault (xs ++ ys) (Err e) a c f h
-answered_behind fault (FaultAt line what) a b c xs ys f g h done well k =
+answered_after fault (FaultAt line what) a b c xs ys f g h done well k =
     (k.0, appends_more a b c xs ys done k.1, k.2 ∙ well)
-answered_behind fault Write a b c xs ys f g h done well k = (front_behind a b c xs ys done k.0, k.1 ∙ ap one_more well)
-answered_behind fault OutOfMemory a b c xs ys f g h done well k = front_behind a b c xs ys done k
-answered_behind fault Read a b c xs ys f g h done well k = absurd k
-answered_behind fault TooLong a b c xs ys f g h done well k = absurd k
+answered_after fault Write a b c xs ys f g h done well k = (front_behind a b c xs ys done k.0, k.1 ∙ ap one_more well)
+answered_after fault OutOfMemory a b c xs ys f g h done well k = front_behind a b c xs ys done k
+answered_after fault Read a b c xs ys f g h done well k = absurd k
+answered_after fault TooLong a b c xs ys f g h done well k = absurd k
 
 pub end_at_line : (whole_fault fault : Option (ℕ × Fault)) (whole done text : List ℕ) (e : ScriptError) (a b c : Option (List ℕ)) (f g h : ℕ)
     → fault ≡ whole_fault → done ++ text ≡ whole → Appends a b done → g ≡ f
     → IsAnswered fault text (Err e) b c g h → IsAnswered whole_fault whole (Err e) a c f h
 end_at_line whole_fault fault whole done text e a b c f g h same is written well k =
-    let behind = answered_behind fault e a b c done text f g h written well k in
+    let behind = answered_after fault e a b c done text f g h written well k in
     subst (λ (first : Option (ℕ × Fault)). IsAnswered first whole (Err e) a c f h) same
     (subst (λ (zs : List ℕ). IsAnswered fault zs (Err e) a c f h) is behind)
 

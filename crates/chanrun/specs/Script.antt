@@ -41,21 +41,21 @@ command_text kind past Settle =
     settled_text (length (settling_polls kind past)) (finished_polls (settling_polls kind past))
 
 -- the past after a command
-abbrev pub past_behind : Kind → Past ℕ → Command → Past ℕ
-past_behind kind past (Make step) = past_made kind past step
-past_behind kind past (Notice who) = past
-past_behind kind past Settle = settling_polls kind past ++ past
+abbrev pub past_after_command : Kind → Past ℕ → Command → Past ℕ
+past_after_command kind past (Make step) = past_made kind past step
+past_after_command kind past (Notice who) = past
+past_after_command kind past Settle = settling_polls kind past ++ past
 
 -- the past after commands, in order
-abbrev pub past_behind_all : Kind → Past ℕ → List Command → Past ℕ
-past_behind_all kind past [] = past
-past_behind_all kind past (command ∷ commands) = past_behind_all kind (past_behind kind past command) commands
+abbrev pub past_after_all : Kind → Past ℕ → List Command → Past ℕ
+past_after_all kind past [] = past
+past_after_all kind past (command ∷ commands) = past_after_all kind (past_after_command kind past command) commands
 
 -- the texts that commands are answered by, in order, after this past
 abbrev pub texts_after : Kind → Past ℕ → List Command → List ℕ
 texts_after kind past [] = []
 texts_after kind past (command ∷ commands) =
-    command_text kind past command ++ texts_after kind (past_behind kind past command) commands
+    command_text kind past command ++ texts_after kind (past_after_command kind past command) commands
 
 -- ---- scripts
 

@@ -8,7 +8,7 @@ ghost use Rattle.channel_model.specs.Past.{Past};
 ghost use Rattle.channel_model.specs.Capacity.{HasPositiveCapacity};
 ghost use Rattle.channel_model.specs.Legal.{IsLegal};
 ghost use Rattle.channel_model.specs.Polling.{Settles, finished_polls, settling_polls};
-ghost use Rattle.chanrun.specs.Script.{past_behind_all};
+ghost use Rattle.chanrun.specs.Script.{past_after_all};
 ghost use Rattle.chanrun.specs.declared.grammar.command.Command.{Command};
 
 use channel_model::laws;
@@ -17,7 +17,7 @@ use channel_model::laws;
 /// which a script settles the channel there are a complete settling.
 pub fn scripts_settle()
     ensures legal { (kind : Kind) (commands : List Command) → HasPositiveCapacity kind
-        → IsLegal kind (past_behind_all kind [] commands) }
+        → IsLegal kind (past_after_all kind [] commands) }
     ensures settled { (kind : Kind) (past : Past ℕ) → IsLegal kind past
         → Settles kind past (settling_polls kind past) (length (settling_polls kind past))
         (finished_polls (settling_polls kind past)) }

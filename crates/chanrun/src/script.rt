@@ -20,7 +20,7 @@ ghost use Rattle.channel_model.specs.Capacity.{HasPositiveCapacity};
 ghost use Rattle.channel_run.specs.StandsFor.{StandsFor};
 ghost use Rattle.chanrun.specs.Device.{one_more, AppendsFront};
 ghost use Rattle.chanrun.specs.Grammar.{lines_of, command_of};
-ghost use Rattle.chanrun.specs.Script.{as_line, command_text, past_behind, settled_line, finished_line, settled_text, fault_from, texts_after, commands_of, script_text, script_fault};
+ghost use Rattle.chanrun.specs.Script.{as_line, command_text, past_after_command, settled_line, finished_line, settled_text, fault_from, texts_after, commands_of, script_text, script_fault};
 ghost use Rattle.chanrun.specs.Texts.{reply_text};
 ghost use Rattle.chanrun.specs.Wants.{wants_memory};
 ghost use Rattle.chanrun.specs.Outcome.{HasRead, IsDone, IsBegun, ending};
@@ -177,7 +177,7 @@ fn answer_command(
 ) -> Result<String, ScriptError>
     ensures ok { (kind : Kind) (past : Past ℕ) → StandsFor kind past run.old → IfOk result (λ text.
         (string_bytes text ≡ command_text kind past command)
-        × StandsFor kind (past_behind kind past command) run.new) }
+        × StandsFor kind (past_after_command kind past command) run.new) }
     ensures err { IfErr result (λ e. e ≡ ScriptError.OutOfMemory) }
 {
     match command {
@@ -206,7 +206,7 @@ fn answer_line<W: Sink>(
 ) -> Result<(), ScriptError>
     ensures ok { (kind : Kind) (past : Past ℕ) → StandsFor kind past run.old
         → OnOk result ((command : Command) × (command_of line.now ≡ Ok command)
-        × StandsFor kind (past_behind kind past command) run.new
+        × StandsFor kind (past_after_command kind past command) run.new
         × Appends (W.written writer.old) (W.written writer.new) (command_text kind past command)
         × (W.failures writer.new ≡ W.failures writer.old)) }
     ensures err { (kind : Kind) (past : Past ℕ) (others : List (List ℕ))

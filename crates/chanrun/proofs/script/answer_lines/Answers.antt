@@ -2,7 +2,7 @@ use Rattle.std.proofs.Common.{[], ◌++◌, refl, sym, ap, ◌∙◌, ◌+◌, a
 use Rattle.std.proofs.lemmas.List.{append_assoc}
 use Rattle.std.proofs.lemmas.Result.{err_from_is_err_and}
 use Rattle.chanrun.specs.Grammar.{lines_of}
-use Rattle.chanrun.specs.Script.{command_text, fault_from, past_behind}
+use Rattle.chanrun.specs.Script.{command_text, fault_from, past_after_command}
 use Rattle.chanrun.proofs.Known.{appends_none, appends_more}
 use Rattle.chanrun.proofs.TextsOfLines.{due_text, end_at_line, end_of_lines, text_more, fault_more}
 use Rattle.chanrun.proofs.script.answer_lines.Goals as goal
@@ -32,7 +32,7 @@ loop-rest-preserved g c =
     let line = c.split_line.result.0.now in
     let others = lines_of c.split_line.result.1.now in
     let k = c.in_ok-answer_line.ensures.ok kind i.0 i.2 in (
-      past_behind kind i.0 k.0,
+      past_after_command kind i.0 k.0,
       i.1 ++ command_text kind i.0 k.0,
       k.2,
       append_assoc i.1 (command_text kind i.0 k.0) _
