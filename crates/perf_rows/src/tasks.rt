@@ -112,6 +112,42 @@ impl<'a, R: Wait + Clone + Drop> Future for Player<'a, R> {
     }
 }
 
+/// Does the same again and again: it sends, or it receives.
+#[derive(Drop)]
+struct Member<'a, R: Wait + Clone + Drop> {
+    sender: &'a Sender<u64, R>,
+    receiver: &'a Receiver<u64, R>,
+    doing: Doing<'a, R>,
+    left: u64,
+}
+
+impl<'a, R: Wait + Clone + Drop> Future for Member<'a, R> {
+    type Output = ();
+
+    fn poll(&mut self, cx: &mut Context<'_>) -> Poll<()> {
+        for _ in 0..u64::MAX {
+            if self.left == 0 {
+                return Poll::Ready(());
+            }
+            let (sender, receiver) = (self.sender, self.receiver);
+            let left = self.left;
+            let next = match &mut self.doing {
+                Doing::Sends(send) => match send.poll(cx) {
+                    Poll::Ready(_) => Doing::Sends(sender.send(left)),
+                    Poll::Pending => return Poll::Pending,
+                },
+                Doing::Receives(recv) => match recv.poll(cx) {
+                    Poll::Ready(_) => Doing::Receives(receiver.recv()),
+                    Poll::Pending => return Poll::Pending,
+                },
+            };
+            self.doing = next;
+            self.left = left - 1;
+        }
+        Poll::Ready(())
+    }
+}
+
 pub fn all<R>(rt: &R, form: Form<'_>) -> Result<()>
 where
     R: Wait + Clone + Drop + AllocGlobal + Clock + Print + RandomSource,
@@ -151,7 +187,8 @@ where
         start,
         0,
     )?;
-    pooled(rt, form)
+    pooled(rt, form)?;
+    crowd(rt, form)
 }
 
 fn pooled<R>(rt: &R, form: Form<'_>) -> Result<()>
@@ -174,5 +211,42 @@ where
         2 * ROUNDS,
         start,
         both,
+    )
+}
+
+/// A thousand tasks that receive from one channel, and one that sends.
+fn crowd<R>(rt: &R, form: Form<'_>) -> Result<()>
+where
+    R: Wait + Clone + Drop + AllocGlobal + Clock + Print + RandomSource,
+{
+    const TASKS: u64 = 1_000;
+    const EACH: u64 = 100;
+    let (sender, receiver) = channel(rt, Some(16))?;
+    let mut pool = LocalPool::new(rt)?;
+    let spawner = pool.spawner()?;
+    let start = Instant::now(rt)?;
+    let mut spawned = 0u64;
+    for number in 0..=TASKS {
+        let (doing, left) = if number < TASKS {
+            (Doing::Receives(receiver.recv()), EACH)
+        } else {
+            (Doing::Sends(sender.send(0)), TASKS * EACH)
+        };
+        let member = Member {
+            sender: &sender,
+            receiver: &receiver,
+            doing,
+            left,
+        };
+        spawned = spawned.wrapping_add(u64::from(spawner.spawn(member).is_ok()));
+    }
+    pool.run(rt);
+    row(
+        rt,
+        form,
+        "5 executor LocalPool, 1,000 tasks on one channel",
+        TASKS * EACH,
+        start,
+        spawned,
     )
 }

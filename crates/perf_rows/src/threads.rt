@@ -106,5 +106,7 @@ where
 {
     between_threads(rt, form, "4 mpmc 4x4 bounded(1)", Some(1), 4, 20_000)?;
     between_threads(rt, form, "4 mpmc 4x4 bounded(128)", Some(128), 4, 100_000)?;
-    between_threads(rt, form, "4 mpmc 4x4 unbounded", None, 4, 100_000)
+    between_threads(rt, form, "4 mpmc 4x4 unbounded", None, 4, 100_000)?;
+    between_threads(rt, form, "4 mpmc 8x8 bounded(128)", Some(128), 8, 100_000)?;
+    between_threads(rt, form, "4 mpmc 32x32 bounded(128)", Some(128), 32, 96_000)
 }
