@@ -1,2 +1,4 @@
 mod Kept
-mod Marks
+mod Lists
+mod Claims
+mod Written

@@ -1,5 +1,5 @@
--- What a call answers and leaves, by the channel before it. A private function promises it, and what a history
--- decides follows from it; no public clause has to cite this module.
+-- What a call answers and leaves, by the channel before it. A private function promises it, and what
+-- a history decides follows from it; no public clause has to cite this module.
 use Rattle.std.specs.Prelude.{not, length}
 use Rattle.channel_core.specs.Channel.{Channel, closing, force_sent, is_channel_full, oldest, received, sent}
 use Rattle.channel_model.specs.Tables.{force_send_answer, try_recv_answer, try_send_answer}
@@ -10,7 +10,8 @@ use Rattle.channel_record.specs.declared.calls.Outcome.TheVariants.{TrySent, For
 
 module _ {T W : Type 0} where
   abbrev pub outcome_at : Channel T W → Call T → Outcome T
-  outcome_at channel (TrySend message) = TrySent (try_send_answer channel.closed (is_channel_full channel) message)
+  outcome_at channel (TrySend message) =
+      TrySent (try_send_answer channel.closed (is_channel_full channel) message)
   outcome_at channel (ForceSend message) =
       Forced (force_send_answer channel.closed (is_channel_full channel) (oldest channel) message)
   outcome_at channel TryRecv = Received (try_recv_answer (oldest channel) channel.closed)

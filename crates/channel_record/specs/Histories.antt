@@ -17,7 +17,8 @@ use Rattle.channel_record.specs.declared.calls.Call.TheVariants.{TrySend, ForceS
 use Rattle.channel_record.specs.declared.calls.Outcome.{Outcome}
 use Rattle.channel_record.specs.declared.calls.Outcome.TheVariants.{TrySent, Forced, Received, Flag, Count}
 
--- A call is the step of the same name of sender 0, or of receiver 0. A recorded channel has these two for good.
+-- A call is the step of the same name of sender 0, or of receiver 0. A recorded channel has these two
+-- for good.
 abbrev pub step_of_call : {T : Type 0} → Call T → Step T
 step_of_call (TrySend message) = TrySend 0 message
 step_of_call (ForceSend message) = ForceSend 0 message
@@ -42,7 +43,8 @@ pair_of entry = (step_of_call entry.0, reply_of_outcome entry.1)
 abbrev pub past_of : {T : Type 0} → List (Call T × Outcome T) → Past T
 past_of history = map pair_of (reverse history)
 
--- A channel of this kind could have this history: each outcome is the one that the calls before it decide.
+-- A channel of this kind could have this history: each outcome is the one that the calls before it
+-- decide.
 abbrev pub IsLegalHistory : {T : Type 0} → Kind → List (Call T × Outcome T) → Type 0
 IsLegalHistory kind history = IsLegal kind (past_of history)
 
@@ -53,7 +55,8 @@ pub record JournalView (T : Type 0) : Type 0 where
   pub clerks : ℕ
 
 -- The past is legal, and the channel is as it leaves it.
-pub record IsKept {T W : Type 0} (kind : Kind) (past : Past T) (channel : Channel T W) : Type 0 where
+pub record IsKept {T W : Type 0} (kind : Kind) (past : Past T)
+    (channel : Channel T W) : Type 0 where
   pub legal : IsLegal kind past
   pub capacity : channel.capacity ≡ capacity_of kind
   pub messages : channel.messages ≡ held_messages past

@@ -1,3 +1,4 @@
 pub mod Histories
 pub mod CallSteps
 pub mod Shares
+pub mod Claims

@@ -8,7 +8,7 @@ use Rattle.channel_record.specs.declared.calls.Call.{Call}
 use Rattle.channel_record.specs.declared.calls.Outcome.{Outcome}
 use Rattle.channel_record.specs.declared.finish.FinishError.{FinishError}
 use Rattle.channel_record.specs.declared.finish.FinishError.TheVariants.{Stranger, Missing, Mismatch, OutOfMemory}
-use Rattle.channel_record.specs.Histories.{IsLegalHistory}
+use Rattle.channel_record.specs.Histories.{IsLegalHistory, JournalView}
 
 -- What a recorder shows: its stamp, and the kind of its channel.
 pub record RecorderView : Type 0 where
@@ -20,8 +20,8 @@ pub record IsRecorderOf (drawn : Option ℕ) (asked : Kind) (recorder : Recorder
   pub is_drawn : drawn ≡ Some recorder.stamp
   pub is_asked : recorder.kind ≡ asked
 
--- What a clerk shows: the stamp of its recorder, and its entries, the oldest first. Each has the place in the
--- history, the call and the outcome.
+-- What a clerk shows: the stamp of its recorder, and its entries, the oldest first. Each has the place
+-- in the history, the call and the outcome.
 pub record ClerkView (T : Type 0) : Type 0 where
   pub stamp : ℕ
   pub entries : List (ℕ × Call T × Outcome T)
@@ -50,7 +50,8 @@ AgreesWith history clerk = All (IsAt history) clerk.entries
 abbrev pub holds : ℕ → List ℕ → Bool
 holds place places = list_any (λ other. other == place) places
 
--- Each of this many places lies in exactly one of the lists, no other place lies in any, and each list rises.
+-- Each place below the count lies in exactly one of the lists, no other place lies in any, and each
+-- list rises.
 pub record AreShares (count : ℕ) (lists : List (List ℕ)) : Type 0 where
   pub in_one : (place : ℕ) → count_by (holds place) lists ≡ (if nat_lt place count then 1 else 0)
   pub rising : All IsStrictlyIncreasing lists
@@ -59,21 +60,34 @@ pub record AreShares (count : ℕ) (lists : List (List ℕ)) : Type 0 where
 abbrev pub lists_of : List (Vec ℕ Global) → List (List ℕ)
 lists_of lists = map (λ list. list.items) lists
 
--- What a book shows: the kind of the channel, the history, and the places of each clerk's calls in it.
+-- What a book shows: the kind of the channel, the history, and the places of each clerk's calls in
+-- it.
 pub record BookView (T : Type 0) : Type 0 where
   pub kind : Kind
   pub history : List (Call T × Outcome T)
   pub places : List (List ℕ)
 
--- The book of a recorder and of these clerks: one history that a channel of the recorder's kind could have, and
--- each clerk's own calls in it.
-pub record IsBookOf {T : Type 0} (recorder : RecorderView) (clerks : List (ClerkView T))
+-- The history is what the clerks wrote down: each of its calls stands in one clerk's list, once, with
+-- its own place and outcome, nothing else stands in any, and each list is in the order of the history.
+pub record IsWrittenDown {T : Type 0} (history : List (Call T × Outcome T))
+    (clerks : List (ClerkView T)) : Type 0 where
+  pub shares : AreShares (length history) (map places_of clerks)
+  pub agree : All (AgreesWith history) clerks
+
+-- The journal is of the kind asked for, and its history is what the clerks wrote down.
+pub record Matches {T : Type 0} (asked : Kind) (clerks : List (ClerkView T))
+    (journal : JournalView T) : Type 0 where
+  pub is_asked : journal.kind ≡ asked
+  pub written : IsWrittenDown journal.history clerks
+
+-- The book of a channel of this kind and of these clerks: one history that such a channel could have,
+-- which is what the clerks wrote down, and the places of each clerk's own calls in it.
+pub record IsBookOf {T : Type 0} (asked : Kind) (clerks : List (ClerkView T))
     (book : BookView T) : Type 0 where
-  pub kind : book.kind ≡ recorder.kind
+  pub is_asked : book.kind ≡ asked
   pub legal : IsLegalHistory book.kind book.history
+  pub written : IsWrittenDown book.history clerks
   pub places : book.places ≡ map places_of clerks
-  pub shares : AreShares (length book.history) book.places
-  pub agree : All (AgreesWith book.history) clerks
 
 -- what `Display` writes where there is no book
 abbrev pub finish_text : FinishError → List ℕ

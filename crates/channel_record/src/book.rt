@@ -34,7 +34,11 @@ impl<T> Model for Book<T> {
 
     ghost Value = { BookView T };
 
-    ghost view = { λ book. record { kind = book.kind; history = book.history.items; places = lists_of book.places.items } };
+    ghost view = { λ book. record {
+      kind = book.kind;
+      history = book.history.items;
+      places = lists_of book.places.items;
+    } };
 }
 
 impl<T> Book<T> {
@@ -59,8 +63,9 @@ impl<T> Book<T> {
         self.places.len()
     }
 
-    /// The places in the history of the calls of clerk `i`, in the order in which the clerks were handed in.
-    #[tactic(auto, using(crate::proofs::Marks::get_list))]
+    /// The places in the history of the calls of clerk `i`, in the order in which the clerks were
+    /// handed in.
+    #[tactic(auto, using(crate::proofs::Lists::get_list))]
     pub fn places(&self, i: usize) -> Option<&[usize]>
         ensures { option_map (λ places. places.now) result ≡ slice_get self.now.places i }
     {

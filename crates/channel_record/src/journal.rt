@@ -12,7 +12,8 @@ use std::marker::Model;
 
 /// A channel with all calls that were made on it, in order.
 ///
-/// What it holds is always what its history leaves, and its history is one that the channel could have.
+/// What it holds is always what its history leaves, and its history is one that the channel could
+/// have.
 ///
 /// # Examples
 ///
@@ -25,9 +26,13 @@ use std::marker::Model;
 /// ```
 #[derive(Drop)]
 pub struct Journal<T> {
+    // The kind that was asked for.
     kind: Kind,
+    // The channel itself, as the calls so far have left it. Nobody waits on it.
     core: Core<T, ()>,
+    // Every call with its outcome, the oldest first. A call's index is its place.
     history: Vec<(Call<T>, Outcome<T>)>,
+    // How many clerks were made, up to the greatest number.
     clerks: usize,
 }
 
@@ -37,9 +42,14 @@ impl<T> Model for Journal<T> {
 
     ghost Value = { JournalView T };
 
-    ghost view = { λ journal. record { kind = journal.kind; history = journal.history.items; clerks = journal.clerks } };
+    ghost view = { λ journal. record {
+      kind = journal.kind;
+      history = journal.history.items;
+      clerks = journal.clerks;
+    } };
 
-    ghost invariant = { λ journal. IsKept journal.kind (past_of journal.history.items) journal.core };
+    ghost invariant = { λ journal.
+        IsKept journal.kind (past_of journal.history.items) journal.core };
 }
 
 // Makes a call, as one step of a channel on which nobody waits.
@@ -68,7 +78,8 @@ impl<T: Copy> Journal<T> {
     /// A new channel of this kind, on which nothing was called.
     pub fn new(alloc: Global, kind: Kind) -> Result<Journal<T>, OutOfMemory>
         requires { HasPositiveCapacity kind }
-        ensures { IfOk result (λ journal. journal ≡ record { kind = kind; history = []; clerks = 0 }) }
+        ensures { IfOk result (λ journal.
+            journal ≡ record { kind = kind; history = []; clerks = 0 }) }
     {
         let core = match kind {
             Kind::Bounded(cap) => Core::bounded(alloc, cap)?,
@@ -95,7 +106,8 @@ impl<T: Copy> Journal<T> {
     /// Room is taken first. Where memory is refused nothing was called and nothing recorded.
     pub fn call(&mut self, call: Call<T>) -> Result<(usize, Outcome<T>), OutOfMemory>
         ensures place { IfOk result (λ made. made.0 ≡ length self.old.history) }
-        ensures recorded { IfOk result (λ made. self.new ≡ record self.old { history = self.old.history ++ (call, made.1) ∷ [] }) }
+        ensures recorded { IfOk result (λ made.
+            self.new ≡ record self.old { history = self.old.history ++ (call, made.1) ∷ [] }) }
         ensures unchanged { OnErr result (self.new ≡ self.old) }
     {
         self.history.reserve(1).map_err(|_| OutOfMemory)?;

@@ -1,9 +1,10 @@
-//! A channel that any number of threads call through a shared reference, and whose calls are afterwards one
-//! history.
+//! A channel that any number of threads call through a shared reference, and whose calls are
+//! afterwards one history.
 //!
-//! Each thread writes down its own calls in a [`Clerk`]. [`Recorder::finish`] compares what the clerks wrote down
-//! with the history that was made under the lock, and its [`Book`] has both: a history that one thread alone could
-//! have made, and for each clerk the places of its own calls in it, in order.
+//! Each thread writes down its own calls in a [`Clerk`]. [`Recorder::finish`] compares what the
+//! clerks wrote down with the history that was made under the lock, and its [`Book`] has both: a
+//! history that one thread alone could have made, and for each clerk the places of its own calls in
+//! it, in order.
 #![tactic(auto)]
 
 mod book;

@@ -16,7 +16,8 @@ use std::alloc::Global;
 use std::marker::Model;
 use std::sync::{Mutex, Wait};
 
-/// A channel that any number of threads call through a shared reference, each with a clerk of its own.
+/// A channel that any number of threads call through a shared reference, each with a clerk of its
+/// own.
 ///
 /// # Examples
 ///
@@ -49,6 +50,16 @@ impl<T> Model for Recorder<T> {
 
 impl<T: Copy + Exact> Recorder<T> {
     /// A recorder of a bounded channel, which holds at most `cap` messages at a time.
+    ///
+    /// # Examples
+    ///
+    /// ```
+    /// let recorder = Recorder::bounded(rt.alloc(), 1, &mut maker)?;
+    /// let mut clerk = recorder.clerk(&rt)?;
+    /// recorder.call(&rt, &mut clerk, Call::TrySend(1u64))?;
+    /// let outcome = recorder.call(&rt, &mut clerk, Call::TrySend(2))?;
+    /// assert_eq!(rt; outcome, Outcome::TrySent(Err(TrySendError::Full(2))));
+    /// ```
     pub fn bounded(
         alloc: Global,
         cap: usize,
@@ -108,6 +119,20 @@ impl<T: Copy + Exact> Recorder<T> {
     }
 
     /// One clerk more, with no entries. [`Recorder::finish`] wants all of them back.
+    ///
+    /// # Examples
+    ///
+    /// ```
+    /// let recorder: Recorder<u64> = Recorder::unbounded(rt.alloc(), &mut maker)?;
+    /// let mut one = recorder.clerk(&rt)?;
+    /// let mut other = recorder.clerk(&rt)?;
+    /// recorder.call(&rt, &mut one, Call::TrySend(7))?;
+    /// recorder.call(&rt, &mut other, Call::TryRecv)?;
+    ///
+    /// let book = recorder.finish(vec![in rt.alloc(); one, other]?)?;
+    /// assert!(rt; matches!(book.places(0), Some([0])));
+    /// assert!(rt; matches!(book.places(1), Some([1])));
+    /// ```
     pub fn clerk(&self, rt: &impl Wait) -> Result<Clerk<T>, OutOfMemory>
         ensures { IfOk result (λ clerk. clerk ≡ record { stamp = self.now.stamp; entries = [] }) }
     {
@@ -116,9 +141,20 @@ impl<T: Copy + Exact> Recorder<T> {
         Ok(clerk)
     }
 
-    /// Whether the clerk has this recorder's stamp. It may have it from a recorder of another maker.
+    /// Whether the clerk has this recorder's stamp. It may have it from a recorder of another
+    /// maker.
     ///
     /// It takes no lock and never waits.
+    ///
+    /// # Examples
+    ///
+    /// ```
+    /// let recorder: Recorder<u64> = Recorder::unbounded(rt.alloc(), &mut maker)?;
+    /// let other: Recorder<u64> = Recorder::unbounded(rt.alloc(), &mut maker)?;
+    /// let clerk = recorder.clerk(&rt)?;
+    /// assert!(rt; recorder.owns(&clerk));
+    /// assert!(rt; !other.owns(&clerk));
+    /// ```
     pub fn owns(&self, clerk: &Clerk<T>) -> bool
         ensures { IsTrue result ↔ (clerk.now.stamp ≡ self.now.stamp) }
     {
@@ -128,6 +164,17 @@ impl<T: Copy + Exact> Recorder<T> {
     /// Makes a call, and writes it down in the clerk's list with what came of it.
     ///
     /// Where memory is refused nothing was called and nothing recorded.
+    ///
+    /// # Examples
+    ///
+    /// ```
+    /// let recorder: Recorder<u64> = Recorder::unbounded(rt.alloc(), &mut maker)?;
+    /// let mut clerk = recorder.clerk(&rt)?;
+    /// recorder.call(&rt, &mut clerk, Call::ForceSend(7))?;
+    /// let outcome = recorder.call(&rt, &mut clerk, Call::TryRecv)?;
+    /// assert_eq!(rt; outcome, Outcome::Received(Ok(7)));
+    /// assert_eq!(rt; clerk.entry(1), Some((1, Call::TryRecv, outcome)));
+    /// ```
     pub fn call(
         &self,
         rt: &impl Wait,
@@ -135,7 +182,8 @@ impl<T: Copy + Exact> Recorder<T> {
         call: Call<T>,
     ) -> Result<Outcome<T>, OutOfMemory>
         requires { clerk.old.stamp ≡ self.now.stamp }
-        ensures entry { IfOk result (λ outcome. (place : ℕ) × (clerk.new.entries ≡ clerk.old.entries ++ (place, call, outcome) ∷ [])) }
+        ensures entry { IfOk result (λ outcome. (place : ℕ)
+            × (clerk.new.entries ≡ clerk.old.entries ++ (place, call, outcome) ∷ [])) }
         ensures stamp { clerk.new.stamp ≡ clerk.old.stamp }
         ensures unchanged { OnErr result (clerk.new ≡ clerk.old) }
     {

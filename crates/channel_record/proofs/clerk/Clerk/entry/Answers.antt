@@ -2,7 +2,7 @@ use Rattle.std.proofs.Common.{◌∙◌, ℕ, List, ap}
 use Rattle.std.specs.Prelude.{slice_get}
 use Rattle.channel_record.specs.declared.calls.Call.{Call}
 use Rattle.channel_record.specs.declared.calls.Outcome.{Outcome}
-use Rattle.channel_record.proofs.Marks.{copied_at}
+use Rattle.channel_record.proofs.Lists.{copied_at}
 use Rattle.channel_record.proofs.clerk.Clerk.entry.Goals as goal
 
 pub returns : goal.returns

@@ -1,6 +1,6 @@
 use Rattle.std.proofs.Common.{sym, subst, ℕ, Option}
 use Rattle.std.specs.Prelude.{IsSome}
-use Rattle.channel_record.proofs.Marks.{is_left}
+use Rattle.channel_record.proofs.Lists.{is_left}
 use Rattle.channel_record.proofs.recorder.Recorder.of_kind.Goals as goal
 
 pub unwrap-requires : goal.unwrap-requires
