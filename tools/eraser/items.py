@@ -161,6 +161,8 @@ class Eraser:
         first, _, others = path.partition('::')
         if first == 'crate':
             return f'crate::proved::{self.source.crate}::{others}'
+        if first == 'super':
+            return path
         if path in LEFT_OUT or first in self.modules:
             return path if first in self.modules else None
         if first in CRATES:

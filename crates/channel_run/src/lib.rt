@@ -4,6 +4,7 @@
 //! is what its past decides.
 #![tactic(auto)]
 
+mod holders;
 mod names;
 mod operations;
 mod run;

@@ -14,7 +14,8 @@
 //!
 //! Who waits is known to the core by a key, and to the run by a name; the ticket joins the two. To
 //! ask whether a name was told is to look its ticket up in the list of its kind. To find whom to
-//! poll next is to take the first told key of a list, and to look for the ticket that has it.
+//! poll next is to take the first told key of a list, and to look for the ticket that has it. A
+//! settling that takes a second poll notes who holds which ticket, and looks for no further one.
 ghost use Rattle.std.specs.Prelude.{◌≡◌, [], length, IfOk, IfErr};
 ghost use Rattle.event_list.specs.Keys.{is_among};
 ghost use Rattle.channel_model.specs.declared.step.Kind.{Kind};

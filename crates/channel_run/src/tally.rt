@@ -44,7 +44,8 @@ impl Tally {
     /// Raises the number of a name by 1.
     pub(crate) fn raise(&mut self, name: u64) -> Result<(), OutOfMemory>
         requires { number_at self.old name + 1 < 2 ^ 64 }
-        ensures raised { OnOk result (IsSetAt name (number_at self.old name + 1) self.old self.new) }
+        ensures raised { OnOk result
+            (IsSetAt name (number_at self.old name + 1) self.old self.new) }
         ensures unchanged { OnErr result (self.new ≡ self.old) }
     {
         let number = self.get(name);

@@ -17,24 +17,66 @@ pub(crate) fn has_key(ticket: &Option<Ticket>, key: usize) -> bool
     }
 }
 
-/// The name of the operation that waits in the group by a ticket of this key.
+/// The name of the operation that waits in the group by a ticket of this key. It is looked up where
+/// the guess is right, and else walked for.
 pub(crate) fn operation_with<T>(
     operations: &BTreeMap<u64, Operation<T>>,
     group: Group,
     key: usize,
+    guess: Option<u64>,
 ) -> Option<u64>
     ensures { IsHolder (ticket_at (ticket_in group) operations.now.entries) key result }
 {
+    if let Some(name) = guess {
+        if waits_with(operations, name, group, key) {
+            return Some(name);
+        }
+    }
     let (name, _operation) = operations
         .iter()
         .find(|(_, operation)| operation.waits_with(group, key))?;
     Some(*name)
 }
 
-/// The name of the receiver whose stream waits by a ticket of this key.
-pub(crate) fn receiver_with(receivers: &BTreeMap<u64, Option<Ticket>>, key: usize) -> Option<u64>
+// Whether the operation of this name waits in the group by a ticket of this key.
+fn waits_with<T>(
+    operations: &BTreeMap<u64, Operation<T>>,
+    name: u64,
+    group: Group,
+    key: usize,
+) -> bool
+    ensures { result ≡ has_key key (ticket_at (ticket_in group) operations.now.entries name) }
+{
+    match operations.get(&name) {
+        Some(operation) => operation.waits_with(group, key),
+        None => false,
+    }
+}
+
+/// The name of the receiver whose stream waits by a ticket of this key. It is looked up where the
+/// guess is right, and else walked for.
+pub(crate) fn receiver_with(
+    receivers: &BTreeMap<u64, Option<Ticket>>,
+    key: usize,
+    guess: Option<u64>,
+) -> Option<u64>
     ensures { IsHolder (ticket_at stream_ticket receivers.now.entries) key result }
 {
+    if let Some(name) = guess {
+        if streams_with(receivers, name, key) {
+            return Some(name);
+        }
+    }
     let (name, _ticket) = receivers.iter().find(|(_, ticket)| has_key(ticket, key))?;
     Some(*name)
+}
+
+// Whether the stream of the receiver of this name waits by a ticket of this key.
+fn streams_with(receivers: &BTreeMap<u64, Option<Ticket>>, name: u64, key: usize) -> bool
+    ensures { result ≡ has_key key (ticket_at stream_ticket receivers.now.entries name) }
+{
+    match receivers.get(&name) {
+        Some(ticket) => has_key(ticket, key),
+        None => false,
+    }
 }

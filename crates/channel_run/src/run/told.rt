@@ -5,6 +5,7 @@ ghost use Rattle.channel_model.specs.Polling.{waiting_in};
 ghost use Rattle.channel_model.specs.Rosters.{told_names};
 ghost use Rattle.channel_run.specs.RunSteps.{is_ready, roster_in, IsNext, PollsTo};
 
+use crate::holders::Holders;
 use crate::run::Run;
 use crate::tickets::{operation_with, receiver_with};
 use channel_core::Group;
@@ -23,21 +24,29 @@ impl<T: Drop> Run<T> {
         }
     }
 
+    /// Who holds which ticket, as far as there is memory to note it.
+    pub(crate) fn holders(&self) -> Holders {
+        let mut holders = Holders::new(self.alloc);
+        // whoever finds no memory is walked for
+        let _ = holders.add_all(&self.operations.by_name, &self.receivers);
+        holders
+    }
+
     /// Who is polled next: the first told receive, else the first told stream, else the first told
-    /// send, else the first told closed operation.
-    pub(crate) fn first_told(&self) -> Option<Who>
+    /// send, else the first told closed operation. It is the same whatever is known of the holders.
+    pub(crate) fn first_told(&self, holders: Option<&Holders>) -> Option<Who>
         ensures { IsNext self.now result }
     {
-        if let Some(op) = self.first_in(Group::Receives) {
+        if let Some(op) = self.first_in(Group::Receives, holders) {
             return Some(Who::Op(op));
         }
-        if let Some(receiver) = self.first_in(Group::Streams) {
+        if let Some(receiver) = self.first_in(Group::Streams, holders) {
             return Some(Who::Receiver(receiver));
         }
-        if let Some(op) = self.first_in(Group::Sends) {
+        if let Some(op) = self.first_in(Group::Sends, holders) {
             return Some(Who::Op(op));
         }
-        let op = self.first_in(Group::Closeds)?;
+        let op = self.first_in(Group::Closeds, holders)?;
         Some(Who::Op(op))
     }
 
@@ -70,14 +79,18 @@ impl<T: Drop> Run<T> {
     }
 
     // The name of the first who was told in the group.
-    fn first_in(&self, group: Group) -> Option<u64>
+    fn first_in(&self, group: Group, holders: Option<&Holders>) -> Option<u64>
         ensures first { result ≡ slice_get (told_names (roster_in group self.now.rosters)) 0 }
         ensures none { result ≡ None → (roster_in group self.now.rosters).told ≡ 0 }
     {
         let key = self.core.first_told(group)?;
+        let guess = match holders {
+            Some(holders) => holders.get(group, key),
+            None => None,
+        };
         match group {
-            Group::Streams => receiver_with(&self.receivers, key),
-            _ => operation_with(&self.operations.by_name, group, key),
+            Group::Streams => receiver_with(&self.receivers, key, guess),
+            _ => operation_with(&self.operations.by_name, group, key, guess),
         }
     }
 }

@@ -4,6 +4,7 @@
 //! A [`Step`] is a call of a channel by a named party, and a [`Run`] makes it. What a run answers
 //! is what its past decides.
 
+mod holders;
 mod names;
 mod operations;
 mod run;

@@ -31,8 +31,9 @@ impl<T> Run<T> {
     /// send, then closed operation. A told stream is polled also where a live receive borrows its
     /// receiver. Where `w` wait, it takes `w * (w + 1) / 2` polls at the most.
     ///
-    /// Memory is wanted before the first poll alone, for as many replies as there are waiting
-    /// entries.
+    /// Memory has to be had before the first poll alone, for as many replies as there are waiting
+    /// entries. A settling of several polls asks for more later on, which only speeds it up and may
+    /// be refused without a trace.
     ///
     /// # Examples
     ///
@@ -50,10 +51,15 @@ impl<T> Run<T> {
     #[inline]
     pub fn settle(&mut self) -> Result<Settled<T>, OutOfMemory> {
         let mut finished = self.room_for_replies()?;
+        let mut holders = None;
         for polls in 0..u128::MAX {
-            let Some(who) = self.first_told() else {
+            let Some(who) = self.first_told(holders.as_ref()) else {
                 return Ok(Settled { polls, finished });
             };
+            if polls == 1 {
+                // more than one was told: from here on nobody is walked for
+                holders = Some(self.holders());
+            }
             let reply = self.poll_told(who);
             keep_ready(&mut finished, who, reply);
         }

@@ -15,22 +15,62 @@ pub(crate) fn has_key(ticket: &Option<Ticket>, key: usize) -> bool {
     }
 }
 
-/// The name of the operation that waits in the group by a ticket of this key.
+/// The name of the operation that waits in the group by a ticket of this key. It is looked up where
+/// the guess is right, and else walked for.
 #[inline]
 pub(crate) fn operation_with<T>(
     operations: &BTreeMap<u64, Operation<T>>,
     group: Group,
     key: usize,
+    guess: Option<u64>,
 ) -> Option<u64> {
+    if let Some(name) = guess {
+        if waits_with(operations, name, group, key) {
+            return Some(name);
+        }
+    }
     let (name, _operation) = operations
         .iter()
         .find(|(_, operation)| operation.waits_with(group, key))?;
     Some(*name)
 }
 
-/// The name of the receiver whose stream waits by a ticket of this key.
+// Whether the operation of this name waits in the group by a ticket of this key.
 #[inline]
-pub(crate) fn receiver_with(receivers: &BTreeMap<u64, Option<Ticket>>, key: usize) -> Option<u64> {
+fn waits_with<T>(
+    operations: &BTreeMap<u64, Operation<T>>,
+    name: u64,
+    group: Group,
+    key: usize,
+) -> bool {
+    match operations.get(&name) {
+        Some(operation) => operation.waits_with(group, key),
+        None => false,
+    }
+}
+
+/// The name of the receiver whose stream waits by a ticket of this key. It is looked up where the
+/// guess is right, and else walked for.
+#[inline]
+pub(crate) fn receiver_with(
+    receivers: &BTreeMap<u64, Option<Ticket>>,
+    key: usize,
+    guess: Option<u64>,
+) -> Option<u64> {
+    if let Some(name) = guess {
+        if streams_with(receivers, name, key) {
+            return Some(name);
+        }
+    }
     let (name, _ticket) = receivers.iter().find(|(_, ticket)| has_key(ticket, key))?;
     Some(*name)
+}
+
+// Whether the stream of the receiver of this name waits by a ticket of this key.
+#[inline]
+fn streams_with(receivers: &BTreeMap<u64, Option<Ticket>>, name: u64, key: usize) -> bool {
+    match receivers.get(&name) {
+        Some(ticket) => has_key(ticket, key),
+        None => false,
+    }
 }

@@ -1,11 +1,18 @@
-use Rattle.std.proofs.Common.{rules}
+use Rattle.std.proofs.Common.{◌∙◌, rules, sym}
 use Rattle.std.proofs.lemmas.Iterator.Search.{find_from_yields_List}
 use Rattle.std.proofs.lemmas.Iterator.Consumers.{YieldsList-from_rest}
 use borrow.Author.Tests.{tests}
-use Rattle.channel_run.specs.RunShown.{ticket_in}
+use Rattle.channel_run.specs.RunShown.{ticket_at, ticket_in}
 use Rattle.channel_run.proofs.Entries.{AreDifferent-sorted}
 use Rattle.channel_run.proofs.FirstTold.{holds, none_found, one_found}
+use Rattle.channel_run.proofs.Holding.{has_key-is}
 use Rattle.channel_run.proofs.tickets.operation_with.Goals as goal
+
+pub returns-then-waits_with : goal.returns-then-waits_with
+returns-then-waits_with g c =
+    let ticket = ticket_in {T = g.row.T.Denot} c.args.group in
+    has_key-is c.args.key (ticket_at ticket c.args.operations.now.entries c.in-Some.name)
+    (sym c.waits_with.ensures ∙ c.if-waits_with.true)
 
 pub returns-in_err-name : goal.returns-in_err-name
 returns-in_err-name g c =

@@ -1,11 +1,17 @@
-use Rattle.std.proofs.Common.{rules}
+use Rattle.std.proofs.Common.{◌∙◌, rules, sym}
 use Rattle.std.proofs.lemmas.Iterator.Search.{find_from_yields_List}
 use Rattle.std.proofs.lemmas.Iterator.Consumers.{YieldsList-from_rest}
 use borrow.Author.Tests.{tests}
-use Rattle.channel_run.specs.RunShown.{stream_ticket}
+use Rattle.channel_run.specs.RunShown.{stream_ticket, ticket_at}
 use Rattle.channel_run.proofs.Entries.{AreDifferent-sorted}
 use Rattle.channel_run.proofs.FirstTold.{holds, none_found, one_found}
+use Rattle.channel_run.proofs.Holding.{has_key-is}
 use Rattle.channel_run.proofs.tickets.receiver_with.Goals as goal
+
+pub returns-then-streams_with : goal.returns-then-streams_with
+returns-then-streams_with c =
+    has_key-is c.args.key (ticket_at stream_ticket c.args.receivers.now.entries c.in-Some.name)
+    (sym c.streams_with.ensures ∙ c.if-streams_with.true)
 
 pub returns-in_err-name : goal.returns-in_err-name
 returns-in_err-name c =

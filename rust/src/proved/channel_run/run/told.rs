@@ -3,6 +3,7 @@
 
 use crate::shim::Vec;
 
+use crate::proved::channel_run::holders::Holders;
 use crate::proved::channel_run::run::Run;
 use crate::proved::channel_run::tickets::{operation_with, receiver_with};
 use crate::proved::channel_core::Group;
@@ -18,20 +19,29 @@ impl<T> Run<T> {
         }
     }
 
-    /// Who is polled next: the first told receive, else the first told stream, else the first told
-    /// send, else the first told closed operation.
+    /// Who holds which ticket, as far as there is memory to note it.
     #[inline]
-    pub(crate) fn first_told(&self) -> Option<Who> {
-        if let Some(op) = self.first_in(Group::Receives) {
+    pub(crate) fn holders(&self) -> Holders {
+        let mut holders = Holders::new(self.alloc);
+        // whoever finds no memory is walked for
+        let _ = holders.add_all(&self.operations.by_name, &self.receivers);
+        holders
+    }
+
+    /// Who is polled next: the first told receive, else the first told stream, else the first told
+    /// send, else the first told closed operation. It is the same whatever is known of the holders.
+    #[inline]
+    pub(crate) fn first_told(&self, holders: Option<&Holders>) -> Option<Who> {
+        if let Some(op) = self.first_in(Group::Receives, holders) {
             return Some(Who::Op(op));
         }
-        if let Some(receiver) = self.first_in(Group::Streams) {
+        if let Some(receiver) = self.first_in(Group::Streams, holders) {
             return Some(Who::Receiver(receiver));
         }
-        if let Some(op) = self.first_in(Group::Sends) {
+        if let Some(op) = self.first_in(Group::Sends, holders) {
             return Some(Who::Op(op));
         }
-        let op = self.first_in(Group::Closeds)?;
+        let op = self.first_in(Group::Closeds, holders)?;
         Some(Who::Op(op))
     }
 
@@ -60,11 +70,15 @@ impl<T> Run<T> {
 
     // The name of the first who was told in the group.
     #[inline]
-    fn first_in(&self, group: Group) -> Option<u64> {
+    fn first_in(&self, group: Group, holders: Option<&Holders>) -> Option<u64> {
         let key = self.core.first_told(group)?;
+        let guess = match holders {
+            Some(holders) => holders.get(group, key),
+            None => None,
+        };
         match group {
-            Group::Streams => receiver_with(&self.receivers, key),
-            _ => operation_with(&self.operations.by_name, group, key),
+            Group::Streams => receiver_with(&self.receivers, key, guess),
+            _ => operation_with(&self.operations.by_name, group, key, guess),
         }
     }
 }
