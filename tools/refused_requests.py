@@ -29,7 +29,7 @@ from concurrent.futures import ThreadPoolExecutor
 
 TOOLS = pathlib.Path(__file__).resolve().parent
 CRATES = TOOLS.parent / "crates"
-ROWS = CRATES / "chanrun_tests" / "src"
+ROWS = CRATES / "worked_rows" / "src"
 CASES = TOOLS / "chanrun_runs"
 # How many requests of a long script are refused, from either end.
 ENDS = 50
@@ -183,7 +183,7 @@ def as_lines(lines):
 
 
 def worked_rows():
-    """The rows of the tests of runs: their names, and their lines with the replies."""
+    """The worked rows: their names, and their lines with the replies."""
     texts = [path.read_text(encoding="utf-8") for path in sorted(ROWS.glob("*.rt"))]
     pattern = re.compile(r'name: "([^"]+)",\s*lines: "\\\n(.*?)",', re.DOTALL)
     found = [row for text in texts for row in pattern.findall(text)]

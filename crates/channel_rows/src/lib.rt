@@ -1,9 +1,11 @@
-//! Worked rows: lists of steps on a channel, with the reply to each.
+//! The worked rows made as steps on a run, and lists of a hundred thousand.
 #![tactic(auto)]
 
 #[cfg(test)]
+mod asked;
+#[cfg(test)]
 mod large;
 #[cfg(test)]
-mod settling;
+mod log;
 #[cfg(test)]
-mod tests;
+mod steps;

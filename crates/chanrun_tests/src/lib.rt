@@ -11,6 +11,4 @@ mod hostile;
 #[cfg(test)]
 mod replay;
 #[cfg(test)]
-mod rows;
-#[cfg(test)]
 mod scripts;

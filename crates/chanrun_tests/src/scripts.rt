@@ -1,12 +1,12 @@
 //! Scripts over memory: what is written, and how they end.
 use crate::devices::OneByte;
-use crate::rows::ROWS;
 use chanrun::device::FromStd;
 use chanrun::grammar::Fault;
 use chanrun::script::{ScriptError, run_script};
-use std::alloc::{AllocError, Global};
+use std::alloc::Global;
 use std::process::Abort;
 use std::test::Fail;
+use worked_rows::TOPICS;
 
 /// Runs a script over memory, and again with devices that pass one byte a call.
 pub fn gives(
@@ -38,37 +38,14 @@ pub fn gives(
     );
 }
 
-/// The script of a row, and its text.
-pub fn parts(alloc: Global, lines: &str) -> Result<(String, String), AllocError> {
-    let mut script = String::new(alloc);
-    let mut text = String::new(alloc);
-    for line in lines.lines() {
-        match line.split_once("=> ") {
-            Some((command, reply)) => {
-                let command = command.trim_ascii_end();
-                if !command.is_empty() {
-                    script.push_str(command)?;
-                    script.push_str("\n")?;
-                }
-                text.push_str(reply)?;
-                text.push_str("\n")?;
-            }
-            None => {
-                script.push_str(line)?;
-                script.push_str("\n")?;
-            }
-        }
-    }
-    Ok((script, text))
-}
-
 #[test]
-fn worked_rows(rt: HostRuntime) -> Result<(), Fail> {
+fn rows_as_scripts(rt: HostRuntime) -> Result<(), Fail> {
     let alloc = rt.alloc();
-    for row in ROWS {
+    for row in TOPICS.into_iter().flatten() {
         let name = row.name;
         println!(rt; "{name}")?;
-        let (script, text) = parts(alloc, row.lines)?;
+        let script = row.script(alloc)?;
+        let text = row.replies(alloc)?;
         gives(&rt, alloc, script.as_bytes(), text.as_bytes(), Ok(()));
     }
     Ok(())

@@ -1,0 +1,192 @@
+//! The rows as steps on a run: one by one, or those that a row begins with as one list.
+ghost use Rattle.std.specs.Prelude.{IfOk};
+ghost use Rattle.channel_model.specs.Capacity.{HasPositiveCapacity};
+
+use crate::asked::Asked;
+use crate::log::Log;
+use channel_run::{End, Kind, Run, Step, run_all};
+use chanrun::grammar::{Command, command_of, kind_of};
+use std::alloc::{AllocError, Global};
+use std::process::Abort;
+use std::test::Fail;
+use worked_rows::{Row, TOPICS};
+
+/// How a row is made.
+#[derive(Clone, Copy)]
+enum Way {
+    StepByStep,
+    /// The steps that the row begins with are one list.
+    AsList,
+}
+
+/// The channel of the first line.
+fn kind_in(alloc: Global, line: &str) -> Result<Kind, Fail>
+    ensures { IfOk result HasPositiveCapacity }
+{
+    match kind_of(alloc, line.as_bytes())? {
+        Ok(kind) => Ok(kind),
+        Err(_) => Err("the first line is faulty".into()),
+    }
+}
+
+fn command(alloc: Global, line: &str) -> Result<Command, Fail> {
+    match command_of(alloc, line.as_bytes())? {
+        Ok(command) => Ok(command),
+        Err(_) => Err("a line is faulty".into()),
+    }
+}
+
+/// What the lines behind the first one ask for.
+fn commands(alloc: Global, lines: &str) -> Result<Vec<Command>, Fail> {
+    let mut commands = Vec::new(alloc);
+    for line in lines.lines() {
+        commands.push(command(alloc, line)?)?;
+    }
+    Ok(commands)
+}
+
+/// Makes one step, sees one notice, or settles.
+fn make(
+    rt: &impl Abort,
+    run: &mut Run<u64>,
+    command: Command,
+    log: &mut Log,
+) -> Result<(), AllocError> {
+    match command {
+        Command::Make(step) => {
+            let asked = Asked::of(&step);
+            log.replied(rt, asked, run.step(step))
+        }
+        Command::Notice(who) => log.noticed(run.notice_of(who)),
+        Command::Settle => match run.settle() {
+            Ok(settled) => log.settled(rt, settled),
+            Err(_) => Err(AllocError),
+        },
+    }
+}
+
+fn make_all(
+    rt: &impl Abort,
+    run: &mut Run<u64>,
+    commands: Vec<Command>,
+    log: &mut Log,
+) -> Result<(), AllocError> {
+    for command in commands {
+        make(rt, run, command, log)?;
+    }
+    Ok(())
+}
+
+fn step_by_step(
+    rt: &impl Abort,
+    alloc: Global,
+    kind: Kind,
+    commands: Vec<Command>,
+    log: &mut Log,
+) -> Result<(), Fail>
+    requires { HasPositiveCapacity kind }
+{
+    let mut run = Run::new(alloc, kind)?;
+    Ok(make_all(rt, &mut run, commands, log)?)
+}
+
+/// The steps that the commands begin with, what is known of each, and the commands behind them.
+#[derive(Drop)]
+struct Beginning {
+    steps: Vec<Step<u64>>,
+    asked: Vec<Asked>,
+    others: Vec<Command>,
+}
+
+impl Beginning {
+    fn of(alloc: Global, commands: Vec<Command>) -> Result<Beginning, AllocError> {
+        let mut beginning = Beginning {
+            steps: Vec::new(alloc),
+            asked: Vec::new(alloc),
+            others: Vec::new(alloc),
+        };
+        for command in commands {
+            beginning.take(command)?;
+        }
+        Ok(beginning)
+    }
+
+    fn take(&mut self, command: Command) -> Result<(), AllocError> {
+        match command {
+            Command::Make(step) if self.others.is_empty() => {
+                self.asked.push(Asked::of(&step))?;
+                self.steps.push(step)?;
+            }
+            other => self.others.push(other)?,
+        }
+        Ok(())
+    }
+}
+
+fn as_list(
+    rt: &impl Abort,
+    alloc: Global,
+    kind: Kind,
+    commands: Vec<Command>,
+    log: &mut Log,
+) -> Result<(), Fail>
+    requires { HasPositiveCapacity kind }
+{
+    let Beginning {
+        steps,
+        asked,
+        others,
+    } = Beginning::of(alloc, commands)?;
+    let Ok(End { replies, mut run }) = run_all(alloc, kind, steps) else {
+        return Err("memory was refused".into());
+    };
+    log.replied_all(rt, asked, replies).expect(rt, "memory");
+    Ok(make_all(rt, &mut run, others, log)?)
+}
+
+/// Makes the script in this way.
+fn make_script(
+    rt: &impl Abort,
+    alloc: Global,
+    script: &str,
+    way: Way,
+    log: &mut Log,
+) -> Result<(), Fail> {
+    let (first, others) = script.split_once("\n").ok_or("a script of no lines")?;
+    let kind = kind_in(alloc, first)?;
+    let commands = commands(alloc, others)?;
+    match way {
+        Way::StepByStep => step_by_step(rt, alloc, kind, commands, log),
+        Way::AsList => as_list(rt, alloc, kind, commands, log),
+    }
+}
+
+fn holds(rt: &impl Abort, alloc: Global, row: Row, way: Way) -> Result<(), Fail> {
+    let script = row.script(alloc)?;
+    let replies = row.replies(alloc)?;
+    let mut log = Log::new(alloc);
+    make_script(rt, alloc, script.as_str(), way, &mut log)?;
+    let (name, text) = (row.name, log.text);
+    assert!(rt; text == replies, "{name}: {text:?} in place of {replies:?}");
+    Ok(())
+}
+
+#[test]
+fn rows_step_by_step(rt: HostRuntime) -> Result<(), Fail> {
+    for row in TOPICS.into_iter().flatten() {
+        let name = row.name;
+        println!(rt; "{name}")?;
+        holds(&rt, rt.alloc(), *row, Way::StepByStep)?;
+    }
+    Ok(())
+}
+
+#[test]
+fn rows_as_lists(rt: HostRuntime) -> Result<(), Fail> {
+    for row in TOPICS.into_iter().flatten() {
+        let name = row.name;
+        println!(rt; "{name}")?;
+        holds(&rt, rt.alloc(), *row, Way::AsList)?;
+    }
+    Ok(())
+}
