@@ -8,7 +8,7 @@ help:
 	@echo 'make test   the gate: proofs from nothing, must-fail edits, tests and programs; make rust'
 	@echo 'make rust   builds and tests the Rust crate, and compares it with the proved chanrun'
 	@echo 'make check  every crate, lowest first, over what earlier checks kept'
-	@echo 'make bench  measures the waiting list, the handles and the parallel map'
+	@echo 'make bench  measures the waiting list, the handles, the parallel map, scripts and runs'
 
 run:
 	cd crates/trysend && rt run
@@ -36,3 +36,6 @@ bench:
 	cd crates/bench_waiters && rt run -- measure
 	cd crates/perf_rows && rt run -- measure
 	cd crates/bench_map && rt run -- measure
+	cd crates/chanrun_program && rt run < ../../examples/tour.chan > /dev/null
+	tools/script_times.py
+	. tools/rust_cargo.sh && cd rust && cargo run --quiet --release --features run --example run_steps
