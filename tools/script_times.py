@@ -5,7 +5,7 @@
 
 Each script is at most a megabyte, the limit. The time is the best of five runs, and is that of the
 whole program, reading and writing too. A script's ratio is its time a line, to that of the cheap
-script. Settling is what the script with it takes beyond the one that ends before it.
+script.
 """
 
 import pathlib
@@ -15,7 +15,8 @@ import time
 
 CRATE = pathlib.Path(__file__).resolve().parent.parent / "crates" / "chanrun_program"
 ROUNDS = 5
-SENDERS = 40_000
+SENDERS = 60_000
+WEAK = 50_000
 BESIDE = 20_000
 
 
@@ -24,9 +25,13 @@ def cheap():
 
 
 def copies():
-    """Senders are copied, and weak ones made."""
-    lines = [f"clone s0 s{name}" for name in range(1, SENDERS + 1)]
-    return lines + [f"downgrade s0 ws{name}" for name in range(SENDERS // 4)]
+    """Senders are copied."""
+    return [f"clone s0 s{name}" for name in range(1, SENDERS + 1)]
+
+
+def weak_handles():
+    """Weak senders are made."""
+    return [f"downgrade s0 ws{name}" for name in range(WEAK)]
 
 
 def given_up():
@@ -41,10 +46,10 @@ def streams():
     return lines + ["clone r0 r1"] + ["next r1"] * 60_000
 
 
-def waiting(number):
-    """This many receives wait, and the channel is closed."""
+def settled(number):
+    """This many receives wait, the channel is closed, and all are settled."""
     lines = [line for op in range(number) for line in (f"recv o{op} r0", f"poll o{op}")]
-    return lines + ["close s0"]
+    return [*lines, "close s0", "settle"]
 
 
 def seconds(program, lines):
@@ -61,26 +66,23 @@ def seconds(program, lines):
 
 def main():
     program = sys.argv[1] if len(sys.argv) > 1 else CRATE / "out" / "chanrun_program"
-    base = seconds(program, cheap()) / len(cheap())
     print("| Script | lines | ms | a line, to the cheap one |")
     print("|---|---|---|---|")
     works = [
-        ("a message in and out", cheap),
-        (f"{SENDERS:,} senders copied, {SENDERS // 4:,} weak ones made", copies),
-        (f"a sender given up beside {BESIDE:,} operations", given_up),
-        (f"a stream polled beside {BESIDE:,} receives", streams),
+        ("a message in and out", cheap()),
+        (f"{SENDERS:,} senders copied", copies()),
+        (f"{WEAK:,} weak senders made", weak_handles()),
+        (f"a sender given up beside {BESIDE:,} operations", given_up()),
+        (f"a stream polled beside {BESIDE:,} receives", streams()),
+        ("10,000 receives wait, and are settled", settled(10_000)),
+        ("20,000 receives wait, and are settled", settled(20_000)),
     ]
-    for work, make in works:
-        lines = make()
-        taken = seconds(program, lines)
-        ratio = taken / len(lines) / base
-        print(f"| {work} | {len(lines):,} | {1000 * taken:.0f} | {ratio:.1f} |")
-    settling = []
-    for number in (10_000, 20_000):
-        before = seconds(program, waiting(number))
-        settling.append(seconds(program, [*waiting(number), "settle"]) - before)
-        print(f"| settling {number:,} receives | 1 | {1000 * settling[-1]:.0f} | |")
-    print(f"\nSettling twice as many takes {settling[1] / settling[0]:.1f} times as long.")
+    taken = []
+    for work, lines in works:
+        taken.append(seconds(program, lines))
+        ratio = taken[-1] / len(lines) / (taken[0] / len(works[0][1]))
+        print(f"| {work} | {len(lines):,} | {1000 * taken[-1]:.0f} | {ratio:.1f} |")
+    print(f"\nWith twice as many to settle it takes {taken[-1] / taken[-2]:.1f} times as long.")
 
 
 if __name__ == "__main__":
