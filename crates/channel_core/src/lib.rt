@@ -5,8 +5,6 @@
 
 mod queue;
 mod state;
-#[cfg(test)]
-mod tests;
 mod waiting;
 
 pub use channel_model::{

@@ -14,8 +14,6 @@ mod ends;
 mod entries;
 mod links;
 mod list;
-#[cfg(test)]
-mod tests;
 mod ticket;
 
 pub use bell::{Bell, Quiet};

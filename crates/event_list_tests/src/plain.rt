@@ -1,6 +1,6 @@
 // The waiting list in its plain form, a vector of entries and a number told: the judge of the
 // linked one.
-use crate::bell::Bell;
+use event_list::Bell;
 use std::alloc::{AllocError, Global};
 
 #[derive(Drop)]

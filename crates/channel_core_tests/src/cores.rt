@@ -1,9 +1,10 @@
 //! Calls of a core and of a queue, as rows of calls and answers.
-mod log;
 
-use super::*;
+use channel_core::{
+    Core, Group, Queue, Quiet, RecvError, SendError, Ticket, TryRecvError, TrySendError, Upgrade,
+};
+use event_list_tests::log::Log;
 use futures::task::Poll;
-use log::Log;
 use std::alloc::Global;
 use std::process::Abort;
 use std::test::Fail;

@@ -1,57 +1,13 @@
-ghost use Rattle.std.specs.Prelude.{◌≡◌, ℕ, List, [], ◌∷◌, ◌++◌, ◌≤◌, nat_lt, length, take, if◌then◌else◌};
+//! The calls of a waiting list, by hand and a thousand at a time.
 ghost use Rattle.event_list.specs.Opens.{Opens};
 
-mod plain;
-mod plain_agrees;
-
-use super::*;
-use std::marker::{Brand, Model};
+use crate::log::Log;
+use event_list::{Quiet, Steps, Ticket, WaitList};
+use std::marker::Brand;
 use std::sync::ledger::{Blank, Ledger};
 use std::test::Fail;
 
-// A bell that stores payloads while there are places.
-#[derive(Drop)]
-struct Log<const N: usize> {
-    places: [u64; N],
-    len: usize,
-}
-
-impl<const N: usize> Model for Log<N> {
-    ghost Value = { List ℕ };
-
-    ghost view = { λ log. take log.len log.places };
-
-    ghost invariant = { λ log. log.len ≤ N };
-}
-
-impl<const N: usize> Bell<u64> for Log<N> {
-    ghost rings = { λ before payload after. after ≡
-        (if nat_lt (length before) N then before ++ payload ∷ [] else before) };
-
-    fn ring(&mut self, w: u64) {
-        if self.len < N {
-            self.places[self.len] = w;
-            self.len += 1;
-        }
-    }
-}
-
-impl<const N: usize> Log<N> {
-    fn new() -> Self
-        ensures { result ≡ [] }
-    {
-        Log {
-            places: [0; N],
-            len: 0,
-        }
-    }
-
-    fn stored(&self) -> &[u64] {
-        &self.places[..self.len]
-    }
-}
-
-fn listen(list: &mut WaitList<u64>, payload: u64) -> Result<Ticket, Fail> {
+pub fn listen(list: &mut WaitList<u64>, payload: u64) -> Result<Ticket, Fail> {
     Ok(
         list.listen(payload)
             .map_err(|_| "there is memory for an entry")?,

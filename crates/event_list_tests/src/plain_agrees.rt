@@ -1,8 +1,8 @@
 // The same calls go to the linked list and to the plain one, and both do the same.
-use super::plain::PlainList;
-use super::{Log, listen};
-use crate::list::WaitList;
-use crate::ticket::Ticket;
+use crate::lists::listen;
+use crate::log::Log;
+use crate::plain::PlainList;
+use event_list::{Ticket, WaitList};
 use std::alloc::Global;
 use std::test::Fail;
 
