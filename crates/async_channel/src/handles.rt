@@ -230,7 +230,8 @@ impl<T: Drop, R: Wait + Clone + Drop> Sender<T, R> {
     #[inline(always)]
     #[tactic(auto, using(crate::proofs::Refusals::try_send_hands_back))]
     pub fn try_send(&self, msg: T) -> Result<Result<(), TrySendError<T>>, NoMemory<T>>
-        ensures handed_back { IfOk result (λ answer. IfErr answer (λ error. message_of error ≡ msg)) }
+        ensures handed_back { IfOk result (λ answer. IfErr answer (λ error.
+            message_of error ≡ msg)) }
         ensures unsent { IfErr result (λ error. error.0 ≡ msg) }
     {
         self.link.lock().try_send(msg)

@@ -16,8 +16,8 @@ pub struct Waiters {
 
 /// Who waits in the group, as one step of the channel. A blocked call counts as its operation does.
 ///
-/// It looks by a weak handle, which counts for nothing at the channel: what is seen is what would be
-/// there without the look. Others may change it before the answer is read.
+/// It looks by a weak handle, which counts for nothing at the channel: what is seen is what would
+/// be there without the look. Others may change it before the answer is read.
 ///
 /// # Examples
 ///

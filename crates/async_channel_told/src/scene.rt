@@ -171,13 +171,44 @@ impl<R: Wait + Clone + Drop + RandomSource + AllocGlobal> Ends<R> {
     fn copy_and_drop(&self) -> Result<Answer, Fail> {
         let sender = self.sender.as_ref().ok_or("a sender")?;
         let receiver = self.receiver.as_ref().ok_or("a receiver")?;
-        drop((sender.try_clone()?, receiver.try_clone()?));
-        drop((
-            sender.downgrade()?.upgrade()?,
-            receiver.downgrade()?.upgrade()?,
-        ));
+        drop(sender.try_clone()?);
+        drop(receiver.try_clone()?);
+        upgrade_sender(sender)?;
+        upgrade_receiver(receiver)?;
         Ok(Answer::Done)
     }
+}
+
+/// Makes a weak sender, upgrades it, and gives both up.
+fn upgrade_sender<R: Wait + Clone + Drop>(sender: &Sender<u64, R>) -> Result<(), Fail> {
+    let weak = sender.downgrade()?;
+    drop(weak.upgrade()?);
+    Ok(())
+}
+
+/// Makes a weak receiver, upgrades it, and gives both up.
+fn upgrade_receiver<R: Wait + Clone + Drop>(receiver: &Receiver<u64, R>) -> Result<(), Fail> {
+    let weak = receiver.downgrade()?;
+    drop(weak.upgrade()?);
+    Ok(())
+}
+
+/// Polls once in a task of its own, and gives up what waits.
+fn polled_once<R: Wait + Clone + Drop + RandomSource + AllocGlobal>(
+    rt: &R,
+    mut waiter: Waiter<'_, R>,
+) -> Result<Answer, Fail> {
+    let task = MockTask::new(rt)?;
+    waiter.poll(&task)
+}
+
+/// Polls the stream once in a task of its own.
+fn next_once<R: Wait + Clone + Drop + RandomSource + AllocGlobal>(
+    rt: &R,
+    receiver: &mut Receiver<u64, R>,
+) -> Result<Answer, Fail> {
+    let task = MockTask::new(rt)?;
+    next(&task, receiver)
 }
 
 fn sent<R: Wait + Clone + Drop + RandomSource + AllocGlobal>(
@@ -185,13 +216,12 @@ fn sent<R: Wait + Clone + Drop + RandomSource + AllocGlobal>(
     sender: &Sender<u64, R>,
     call: Call,
 ) -> Result<Answer, Fail> {
-    let task = MockTask::new(rt)?;
     Ok(match call {
         Call::TrySend(m) => Answer::TrySent(sender.try_send(m)?),
         Call::ForceSend(m) => Answer::Forced(sender.force_send(m)?),
-        Call::Send(m) => Waiter::Sending(sender.send(m)).poll(&task)?,
+        Call::Send(m) => polled_once(rt, Waiter::Sending(sender.send(m)))?,
         Call::SendBlocking(m) => Answer::Sent(sender.send_blocking(m)?),
-        Call::AwaitClosed => Waiter::AwaitingClose(sender.closed()).poll(&task)?,
+        Call::AwaitClosed => polled_once(rt, Waiter::AwaitingClose(sender.closed()))?,
         _ => Answer::Flag(sender.close()),
     })
 }
@@ -201,13 +231,26 @@ fn received<R: Wait + Clone + Drop + RandomSource + AllocGlobal>(
     receiver: &mut Receiver<u64, R>,
     call: Call,
 ) -> Result<Answer, Fail> {
-    let task = MockTask::new(rt)?;
     Ok(match call {
         Call::TryRecv => Answer::Received(receiver.try_recv()),
-        Call::Recv => Waiter::Receiving(receiver.recv()).poll(&task)?,
-        Call::Next => next(&task, receiver)?,
+        Call::Recv => polled_once(rt, Waiter::Receiving(receiver.recv()))?,
+        Call::Next => next_once(rt, receiver)?,
         Call::RecvBlocking => Answer::Got(receiver.recv_blocking()?),
         _ => Answer::Flag(receiver.close()),
+    })
+}
+
+/// One of the kind, which hasn't been polled.
+fn waiter<'a, R: Wait + Clone + Drop>(
+    kind: Kind,
+    sender: Option<&'a Sender<u64, R>>,
+    receiver: Option<&'a Receiver<u64, R>>,
+) -> Result<Waiter<'a, R>, Fail> {
+    Ok(match kind {
+        Kind::Sending(m) => Waiter::Sending(sender.ok_or("a sender")?.send(m)),
+        Kind::Receiving => Waiter::Receiving(receiver.ok_or("a receiver")?.recv()),
+        Kind::Streaming => Waiter::Streaming(receiver.ok_or("a receiver")?.try_clone()?),
+        Kind::AwaitingClose => Waiter::AwaitingClose(sender.ok_or("a sender")?.closed()),
     })
 }
 
@@ -218,19 +261,13 @@ fn start<'a, R: Wait + Clone + Drop + RandomSource + AllocGlobal + Abort>(
     sender: Option<&'a Sender<u64, R>>,
     receiver: Option<&'a Receiver<u64, R>>,
 ) -> Result<Watched<'a, R>, Fail> {
-    let task = MockTask::new(rt)?;
-    let mut waiter = match kind {
-        Kind::Sending(m) => Waiter::Sending(sender.ok_or("a sender")?.send(m)),
-        Kind::Receiving => Waiter::Receiving(receiver.ok_or("a receiver")?.recv()),
-        Kind::Streaming => Waiter::Streaming(receiver.ok_or("a receiver")?.try_clone()?),
-        Kind::AwaitingClose => Waiter::AwaitingClose(sender.ok_or("a sender")?.closed()),
+    let mut watched = Watched {
+        task: MockTask::new(rt)?,
+        waiter: Some(waiter(kind, sender, receiver)?),
     };
-    let first = waiter.poll(&task)?;
+    let first = watched.answer(Call::Poll(0))?;
     assert!(rt; first == Answer::Pending, "{kind:?} answers {first:?}");
-    Ok(Watched {
-        task,
-        waiter: Some(waiter),
-    })
+    Ok(watched)
 }
 
 /// The numbers of those that are woken.

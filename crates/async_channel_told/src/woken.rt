@@ -1,13 +1,18 @@
 //! Threads that are woken: by a message, a free place or the close, in a task or a blocking call.
 use crate::waiting::{TURNS, are_waiting, channel, waiting};
-use async_channel::{Group, RecvError, SendError, TryRecvError, TrySendError};
+use async_channel::{
+    Group, Receiver, RecvError, SendError, Sender, TryRecvError, TrySendError, WeakSender,
+};
 use futures::Future;
 use futures::executor::block_on;
 use futures::future::join;
 use futures::task::{Context, Poll};
+use std::process::Abort;
+use std::sync::Wait;
 use std::sync::atomic::{AtomicBool, AtomicU64, Ordering};
 use std::test::Fail;
 use std::thread;
+use std::thread::Threads;
 
 /// Takes turns until the flag is set.
 fn is_set(flag: &AtomicBool) -> bool {
@@ -130,7 +135,39 @@ fn send(rt: HostRuntime) -> Result<(), Fail> {
     Ok(())
 }
 
-/// Blocks four threads in a receive, and closes the channel by one of its sides.
+/// Blocks four threads in a receive, and closes the channel by one of its sides. The answer is how
+/// many of them were told so.
+fn close_receives<R>(
+    rt: &R,
+    sender: &Sender<u8, R>,
+    receiver: &Receiver<u8, R>,
+    weak: &WeakSender<u8, R>,
+    by_sender: bool,
+) -> u64
+where
+    R: Threads + Wait + Clone + Drop + Abort + std::marker::Send + Sync,
+{
+    let ended = AtomicU64::new(0);
+    let count = &ended;
+    thread::scope(thread::scope_env(), rt, |scope| {
+        for _ in 0..4u8 {
+            let started = scope.spawn(move || {
+                assert_eq!(rt; receiver.recv_blocking(), Ok(Err(RecvError)));
+                count.fetch_add(1, Ordering::SeqCst);
+            });
+            assert!(rt; started.is_ok());
+        }
+        assert!(rt; are_waiting(weak, Group::Receives, 4));
+        let is_closed = if by_sender {
+            sender.close()
+        } else {
+            receiver.close()
+        };
+        assert!(rt; is_closed);
+    });
+    ended.load(Ordering::SeqCst)
+}
+
 #[test]
 fn blocked_receives_are_closed(rt: HostRuntime) -> Result<(), Fail> {
     for (capacity, by_sender) in [
@@ -139,51 +176,49 @@ fn blocked_receives_are_closed(rt: HostRuntime) -> Result<(), Fail> {
         (Some(1), true),
         (Some(1), false),
     ] {
-        let (s, r) = channel::<u8, _>(&rt, rt.alloc(), capacity)?;
+        let (s, r) = channel(&rt, rt.alloc(), capacity)?;
         let weak = s.downgrade()?;
-        let ended = AtomicU64::new(0);
-        let (count, receiver) = (&ended, &r);
-        thread::scope(thread::scope_env(), &rt, |scope| {
-            for _ in 0..4u8 {
-                let started = scope.spawn(move || {
-                    assert_eq!(rt; receiver.recv_blocking(), Ok(Err(RecvError)));
-                    count.fetch_add(1, Ordering::SeqCst);
-                });
-                assert!(rt; started.is_ok());
-            }
-            assert!(rt; are_waiting(&weak, Group::Receives, 4));
-            let is_closed = if by_sender {
-                s.close()
-            } else {
-                receiver.close()
-            };
-            assert!(rt; is_closed);
-        });
-        assert_eq!(rt; ended.load(Ordering::SeqCst), 4);
+        assert_eq!(rt; close_receives(&rt, &s, &r, &weak, by_sender), 4);
         assert_eq!(rt; waiting(&weak), [0; 4]);
     }
     Ok(())
 }
 
-/// Blocks four threads in sends into a channel that holds 0, and closes it by one of its sides.
+/// Blocks four threads in sends into a full channel, and closes it by one of its sides.
+fn close_sends<R>(
+    rt: &R,
+    sender: &Sender<u8, R>,
+    receiver: &Receiver<u8, R>,
+    weak: &WeakSender<u8, R>,
+    by_sender: bool,
+)
+where
+    R: Threads + Wait + Clone + Drop + Abort + std::marker::Send + Sync,
+{
+    thread::scope(thread::scope_env(), rt, |scope| {
+        for n in 1..=4u8 {
+            let started = scope.spawn(move || {
+                assert_eq!(rt; sender.send_blocking(n), Ok(Err(SendError(n))));
+            });
+            assert!(rt; started.is_ok());
+        }
+        assert!(rt; are_waiting(weak, Group::Sends, 4));
+        let is_closed = if by_sender {
+            sender.close()
+        } else {
+            receiver.close()
+        };
+        assert!(rt; is_closed);
+    });
+}
+
 #[test]
 fn blocked_sends_are_closed(rt: HostRuntime) -> Result<(), Fail> {
     for by_sender in [true, false] {
         let (s, r) = channel(&rt, rt.alloc(), Some(1))?;
         let weak = s.downgrade()?;
         assert_eq!(rt; s.try_send(0u8)?, Ok(()));
-        let sender = &s;
-        thread::scope(thread::scope_env(), &rt, |scope| {
-            for n in 1..=4u8 {
-                let started = scope.spawn(move || {
-                    assert_eq!(rt; sender.send_blocking(n), Ok(Err(SendError(n))));
-                });
-                assert!(rt; started.is_ok());
-            }
-            assert!(rt; are_waiting(&weak, Group::Sends, 4));
-            let is_closed = if by_sender { sender.close() } else { r.close() };
-            assert!(rt; is_closed);
-        });
+        close_sends(&rt, &s, &r, &weak, by_sender);
         assert_eq!(rt; s.len(), 1);
         assert_eq!(rt; waiting(&weak), [0; 4]);
     }

@@ -109,7 +109,8 @@ pub fn waits_once<T>()
 /// assert_eq!(rt; run.notice_of(Who::Op(0)), Notice::Told);
 /// ```
 pub fn nobody_waits_in_vain<T>()
-    ensures { (kind : Kind) (past : Past T) → IsLegal kind past → IsCovered (standing_of kind past) }
+    ensures { (kind : Kind) (past : Past T) → IsLegal kind past
+        → IsCovered (standing_of kind past) }
 {}
 
 /// In whatever order those who were told are polled, it ends after at most `w * (w + 1) / 2` polls
@@ -129,8 +130,8 @@ pub fn nobody_waits_in_vain<T>()
 /// assert_eq!(rt; run.settle()?.polls, 2);
 /// ```
 pub fn any_order<T>()
-    ensures { (kind : Kind) (past polls : Past T) → IsLegal kind past → IsFreePolling kind past polls
-        → EndsWell kind past polls }
+    ensures { (kind : Kind) (past polls : Past T) → IsLegal kind past
+        → IsFreePolling kind past polls → EndsWell kind past polls }
 {}
 
 /// Every channel can be settled: there are polls, each of the first who was told, after which
@@ -164,7 +165,8 @@ pub fn can_be_settled<T>()
 /// assert_eq!(rt; run.notice_of(Who::Receiver(0)), Notice::Absent);
 /// ```
 pub fn settled_is_done<T>()
-    ensures { (kind : Kind) (past : Past T) → IsLegal kind past → IsQuiet (rosters past) → IsDone past }
+    ensures { (kind : Kind) (past : Past T) → IsLegal kind past → IsQuiet (rosters past)
+        → IsDone past }
 {}
 
 /// Closing by hand answers true exactly where the channel was open. After it the channel is closed.
@@ -196,8 +198,8 @@ pub fn closes_once<T>()
 /// assert_eq!(rt; reply, Reply::TrySent(Err(TrySendError::Closed(1))));
 /// ```
 pub fn closed_stays_closed<T>()
-    ensures { (kind : Kind) (past later : Past T) → IsLegal kind (later ++ past) → is_closed past ≡ true
-        → StaysClosed past later }
+    ensures { (kind : Kind) (past later : Past T) → IsLegal kind (later ++ past)
+        → is_closed past ≡ true → StaysClosed past later }
 {}
 
 /// A closed channel gives the oldest message that is left, and where none is left the error or the

@@ -210,7 +210,8 @@ fn answer_line<W: Sink>(
         × Appends (W.written writer.old) (W.written writer.new) (command_text kind past command)
         × (W.failures writer.new ≡ W.failures writer.old)) }
     ensures err { (kind : Kind) (past : Past ℕ) (others : List (List ℕ))
-        → StandsFor kind past run.old → IfErr result (λ e. IsAnswered (fault_from number (line.now ∷ others))
+        → StandsFor kind past run.old → IfErr result (λ e. IsAnswered
+        (fault_from number (line.now ∷ others))
         (texts_after kind past (commands_of (line.now ∷ others))) (Err e)
         (W.written writer.old) (W.written writer.new)
         (W.failures writer.old) (W.failures writer.new)) }

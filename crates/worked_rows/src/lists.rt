@@ -1,5 +1,5 @@
-//! Steps that may be made as one list, and what the run at its end shows: a list ends where a notice is
-//! asked for.
+//! Steps that may be made as one list, and what the run at its end shows: a list ends where a
+//! notice is asked for.
 use crate::Row;
 
 pub const ROWS: [Row; 2] = [
