@@ -19,7 +19,7 @@ try:
 	@cd crates/chanrun_program && rt try < ../../examples/tour.chan 2> /dev/null
 
 test:
-	rt ci
+	RT_JOBS=$$(nproc) rt ci
 	tools/examples
 	python3 tools/chanrun_runs.py
 	python3 tools/explorations/check.py

@@ -70,9 +70,9 @@ fn weak(rt: HostRuntime) -> Result<(), Fail> {
         let (s, r) = channel(&rt, rt.alloc(), capacity)?;
         let (weak_s, weak_r) = (s.downgrade()?, r.downgrade()?);
         let upgraded = weak_s.upgrade()?.ok_or("a sender")?;
-        assert_eq!(rt; upgraded.send_blocking(3u64)?, Ok(()));
+        assert_eq!(rt; upgraded.send_blocking(3u64), Ok(Ok(())));
         let receiver = weak_r.upgrade()?.ok_or("a receiver")?;
-        assert_eq!(rt; receiver.recv_blocking()?, Ok(3));
+        assert_eq!(rt; receiver.recv_blocking(), Ok(Ok(3)));
         drop((upgraded, receiver));
         drop((s, r));
         assert!(rt; weak_s.upgrade()?.is_none());

@@ -68,7 +68,7 @@ fn calls_of_receivers(rt: HostRuntime) -> Result<(), Fail> {
     use async_channel::{OutOfMemory, Receiver, RecvError, Tag, TryRecvError, WeakReceiver};
     let mut maker = async_channel::StampMaker::starting_at(5);
     let (s, r) = async_channel::unbounded(&rt, rt.alloc(), &mut maker)?;
-    assert_eq!(rt; s.try_send(1u64)?, Ok(()));
+    assert_eq!(rt; s.try_send(1u64), Ok(Ok(())));
     let blocked: Result<Result<u64, RecvError>, OutOfMemory> = Receiver::recv_blocking(&r);
     assert_eq!(rt; blocked, Ok(Ok(1)));
     let tried: Result<u64, TryRecvError> = Receiver::try_recv(&r);

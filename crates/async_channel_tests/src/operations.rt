@@ -44,7 +44,7 @@ fn a_closed_future(rt: HostRuntime) -> Result<(), Fail> {
 fn a_finished_receive_acts_as_new(rt: HostRuntime) -> Result<(), Fail> {
     let (s, r) = channel(&rt, rt.alloc(), None)?;
     let task = MockTask::new(&rt)?;
-    assert_eq!(rt; s.try_send(1u64)?, Ok(()));
+    assert_eq!(rt; s.try_send(1u64), Ok(Ok(())));
     let mut recv = r.recv();
     assert!(rt; matches!(&task.poll(&mut recv), Poll::Ready(Ok(Ok(1)))));
     assert!(rt; recv.is_terminated());
@@ -69,7 +69,7 @@ fn a_second_pending_poll_wakes_nobody(rt: HostRuntime) -> Result<(), Fail> {
 fn a_ready_poll_wakes_nobody(rt: HostRuntime) -> Result<(), Fail> {
     let (s, r) = channel(&rt, rt.alloc(), None)?;
     let task = MockTask::new(&rt)?;
-    assert_eq!(rt; s.try_send(1u64)?, Ok(()));
+    assert_eq!(rt; s.try_send(1u64), Ok(Ok(())));
     let mut recv = r.recv();
     assert!(rt; matches!(&task.poll(&mut recv), Poll::Ready(Ok(Ok(1)))));
     assert!(rt; !task.is_woken());
@@ -80,7 +80,7 @@ fn a_ready_poll_wakes_nobody(rt: HostRuntime) -> Result<(), Fail> {
 fn a_stream_is_collected(rt: HostRuntime) -> Result<(), Fail> {
     let (s, r) = channel(&rt, rt.alloc(), None)?;
     for m in 0..3u64 {
-        assert_eq!(rt; s.try_send(m)?, Ok(()));
+        assert_eq!(rt; s.try_send(m), Ok(Ok(())));
     }
     drop(s);
     assert!(rt; !r.is_terminated());

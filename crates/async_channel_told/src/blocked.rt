@@ -50,7 +50,7 @@ where
     R: std::marker::Send + Sync + 'static,
 {
     let (s, r) = channel(rt, rt.alloc(), Some(1))?;
-    assert_eq!(rt; s.try_send(1u64)?, Ok(()));
+    assert_eq!(rt; s.try_send(1u64), Ok(Ok(())));
     let (weak, one, other) = (s.downgrade()?, s.try_clone()?, s.try_clone()?);
     let one = thread::spawn(rt, move || one.send_blocking(2).map(Sent))?;
     assert!(rt; are_waiting(&weak, Group::Sends, 1));
@@ -59,10 +59,10 @@ where
     let mut ends = Ends::new(s, r);
     let (call, answer, gives) = first;
     assert_eq!(rt; ends.answer(rt, call)?, answer);
-    assert_eq!(rt; one.join(rt)?, gives);
+    assert_eq!(rt; one.join(rt), Ok(gives));
     let (call, answer, gives) = second;
     assert_eq!(rt; ends.answer(rt, call)?, answer);
-    assert_eq!(rt; other.join(rt)?, gives);
+    assert_eq!(rt; other.join(rt), Ok(gives));
     assert_eq!(rt; waiting(&weak), [0; 4]);
     Ok(())
 }
@@ -149,7 +149,7 @@ fn a_task_hands_its_notice_to_a_blocked_receive(rt: HostRuntime) -> Result<(), F
     assert!(rt; matches!(&task.poll(&mut recv), Poll::Pending));
     let thread = thread::spawn(&rt, move || other.recv_blocking())?;
     assert!(rt; are_waiting(&weak, Group::Receives, 2));
-    assert_eq!(rt; s.try_send(7u64)?, Ok(()));
+    assert_eq!(rt; s.try_send(7u64), Ok(Ok(())));
     assert!(rt; task.is_woken());
     drop(recv);
     assert_eq!(rt; thread.join(&rt), Ok(Ok(7)));
@@ -165,10 +165,10 @@ fn a_blocked_receive_is_told_before_a_task(rt: HostRuntime) -> Result<(), Fail> 
     assert!(rt; are_waiting(&weak, Group::Receives, 1));
     let mut recv = r.recv();
     assert!(rt; matches!(&task.poll(&mut recv), Poll::Pending));
-    assert_eq!(rt; s.try_send(7u64)?, Ok(()));
+    assert_eq!(rt; s.try_send(7u64), Ok(Ok(())));
     assert_eq!(rt; thread.join(&rt), Ok(Ok(7)));
     assert!(rt; !task.is_woken());
-    assert_eq!(rt; s.try_send(8)?, Ok(()));
+    assert_eq!(rt; s.try_send(8), Ok(Ok(())));
     assert!(rt; task.is_woken());
     assert!(rt; matches!(&task.poll(&mut recv), Poll::Ready(Ok(Ok(8)))));
     assert_eq!(rt; waiting(&weak), [0; 4]);
@@ -178,7 +178,7 @@ fn a_blocked_receive_is_told_before_a_task(rt: HostRuntime) -> Result<(), Fail> 
 #[test]
 fn a_blocked_send_is_told_before_a_task(rt: HostRuntime) -> Result<(), Fail> {
     let (s, r) = channel(&rt, rt.alloc(), Some(1))?;
-    assert_eq!(rt; s.try_send(1u64)?, Ok(()));
+    assert_eq!(rt; s.try_send(1u64), Ok(Ok(())));
     let (task, weak, other) = (MockTask::new(&rt)?, s.downgrade()?, s.try_clone()?);
     let thread = thread::spawn(&rt, move || other.send_blocking(2))?;
     assert!(rt; are_waiting(&weak, Group::Sends, 1));

@@ -29,7 +29,7 @@ where
     let (mut first, mut second) = (r.recv(), r.recv());
     assert!(rt; is_pending(&task, &mut first) && is_pending(&task, &mut second));
     assert_eq!(rt; numbers(&weak, Group::Receives), (2, 0));
-    assert_eq!(rt; s.try_send(1u8)?, Ok(()));
+    assert_eq!(rt; s.try_send(1u8), Ok(Ok(())));
     assert_eq!(rt; numbers(&weak, Group::Receives), (2, 1));
     drop(first);
     assert_eq!(rt; numbers(&weak, Group::Receives), (1, 1));
@@ -44,7 +44,7 @@ where
     R: Wait + Clone + Drop + RandomSource + AllocGlobal + Abort,
 {
     let (task, weak) = (MockTask::new(rt)?, s.downgrade()?);
-    assert_eq!(rt; s.try_send(1)?, Ok(()));
+    assert_eq!(rt; s.try_send(1), Ok(Ok(())));
     let (mut first, mut second) = (s.send(2), s.send(3));
     assert!(rt; is_pending(&task, &mut first) && is_pending(&task, &mut second));
     assert_eq!(rt; numbers(&weak, Group::Sends), (2, 0));
@@ -87,7 +87,7 @@ fn dropped_futures_are_cancelled(rt: HostRuntime) -> Result<(), Fail> {
 fn a_withdrawn_send_waits_no_more(rt: HostRuntime) -> Result<(), Fail> {
     let (s, _r) = channel(&rt, rt.alloc(), Some(1))?;
     let (task, weak) = (MockTask::new(&rt)?, s.downgrade()?);
-    assert_eq!(rt; s.try_send(1u8)?, Ok(()));
+    assert_eq!(rt; s.try_send(1u8), Ok(Ok(())));
     let mut send = s.send(2);
     assert!(rt; is_pending(&task, &mut send));
     assert_eq!(rt; numbers(&weak, Group::Sends), (1, 0));

@@ -101,17 +101,17 @@ fn recv(rt: HostRuntime) -> Result<(), Fail> {
 fn try_send(rt: HostRuntime) -> Result<(), Fail> {
     let (s, r) = channel(&rt, rt.alloc(), Some(1))?;
     let weak = s.downgrade()?;
-    assert_eq!(rt; s.try_send(1u64)?, Ok(()));
-    assert_eq!(rt; s.try_send(2)?, Err(TrySendError::Full(2)));
+    assert_eq!(rt; s.try_send(1u64), Ok(Ok(())));
+    assert_eq!(rt; s.try_send(2), Ok(Err(TrySendError::Full(2))));
     let receiver = thread::spawn(&rt, move || {
         r.try_recv() == Ok(1)
             && r.try_recv() == Err(TryRecvError::Empty)
             && matches!(block_on(&rt, r.recv()), Ok(Ok(Ok(3))))
     })?;
     assert!(rt; are_waiting(&weak, Group::Receives, 1));
-    assert_eq!(rt; s.try_send(3)?, Ok(()));
+    assert_eq!(rt; s.try_send(3), Ok(Ok(())));
     assert!(rt; receiver.join(&rt));
-    assert_eq!(rt; s.try_send(4)?, Err(TrySendError::Closed(4)));
+    assert_eq!(rt; s.try_send(4), Ok(Err(TrySendError::Closed(4))));
     Ok(())
 }
 
@@ -217,7 +217,7 @@ fn blocked_sends_are_closed(rt: HostRuntime) -> Result<(), Fail> {
     for by_sender in [true, false] {
         let (s, r) = channel(&rt, rt.alloc(), Some(1))?;
         let weak = s.downgrade()?;
-        assert_eq!(rt; s.try_send(0u8)?, Ok(()));
+        assert_eq!(rt; s.try_send(0u8), Ok(Ok(())));
         close_sends(&rt, &s, &r, &weak, by_sender);
         assert_eq!(rt; s.len(), 1);
         assert_eq!(rt; waiting(&weak), [0; 4]);

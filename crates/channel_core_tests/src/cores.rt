@@ -331,10 +331,10 @@ fn counts_and_upgrades(rt: HostRuntime) -> Result<(), Fail> {
 #[test]
 fn a_queue_of_two(rt: HostRuntime) -> Result<(), Fail> {
     let mut queue: Queue<u64> = Queue::bounded(rt.alloc(), 2)?;
-    assert_eq!(rt; queue.push(1)?, Ok(()));
-    assert_eq!(rt; queue.push(2)?, Ok(()));
-    assert_eq!(rt; queue.push(3)?, Err(3));
-    assert_eq!(rt; queue.force_push(4)?, Some(1));
+    assert_eq!(rt; queue.push(1), Ok(Ok(())));
+    assert_eq!(rt; queue.push(2), Ok(Ok(())));
+    assert_eq!(rt; queue.push(3), Ok(Err(3)));
+    assert_eq!(rt; queue.force_push(4), Ok(Some(1)));
     assert_eq!(rt;
         (queue.pop(), queue.len(), queue.capacity()),
         (Some(2), 1, Some(2))
@@ -345,8 +345,8 @@ fn a_queue_of_two(rt: HostRuntime) -> Result<(), Fail> {
 #[test]
 fn a_queue_without_a_bound(rt: HostRuntime) -> Result<(), Fail> {
     let mut queue: Queue<u64> = Queue::unbounded(rt.alloc());
-    assert_eq!(rt; queue.push(1)?, Ok(()));
-    assert_eq!(rt; queue.force_push(2)?, None);
+    assert_eq!(rt; queue.push(1), Ok(Ok(())));
+    assert_eq!(rt; queue.force_push(2), Ok(None));
     assert_eq!(rt;
         (queue.pop(), queue.len(), queue.capacity()),
         (Some(1), 1, None)
