@@ -241,7 +241,7 @@ fn received<R: Wait + Clone + Drop + RandomSource + AllocGlobal>(
 }
 
 /// One of the kind, which hasn't been polled.
-fn waiter<'a, R: Wait + Clone + Drop>(
+fn unpolled<'a, R: Wait + Clone + Drop>(
     kind: Kind,
     sender: Option<&'a Sender<u64, R>>,
     receiver: Option<&'a Receiver<u64, R>>,
@@ -263,7 +263,7 @@ fn start<'a, R: Wait + Clone + Drop + RandomSource + AllocGlobal + Abort>(
 ) -> Result<Watched<'a, R>, Fail> {
     let mut watched = Watched {
         task: MockTask::new(rt)?,
-        waiter: Some(waiter(kind, sender, receiver)?),
+        waiter: Some(unpolled(kind, sender, receiver)?),
     };
     let first = watched.answer(Call::Poll(0))?;
     assert!(rt; first == Answer::Pending, "{kind:?} answers {first:?}");
