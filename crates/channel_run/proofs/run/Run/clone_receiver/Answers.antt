@@ -8,10 +8,12 @@ use Rattle.channel_model.specs.Tables.{handle_limit}
 use Rattle.channel_model.specs.View.{View}
 use Rattle.channel_core.specs.Counts.{count_added}
 use Rattle.channel_run.specs.RunShown.{Changed, shown}
-use Rattle.channel_run.proofs.Entries.{is_among-entry_at}
-use Rattle.channel_run.proofs.MadeSteps.{made-clone_receiver}
-use Rattle.channel_run.proofs.RunTables.{may_add-one, nothing_at, one_more, stepped-receiver, when_ok}
-use Rattle.channel_run.proofs.WholeSteps.{StepsTo-made, not_refused}
+use Rattle.channel_run.proofs.Tables.Entries.{is_among-entry_at}
+use Rattle.channel_run.proofs.Outcomes.Handles.{made-clone_receiver}
+use Rattle.channel_run.proofs.Tables.ShownNames.{may_add-one, one_more, when_ok}
+use Rattle.channel_run.proofs.Tables.OneEntry.{nothing_at}
+use Rattle.channel_run.proofs.Tables.MadeNames.{stepped-receiver}
+use Rattle.channel_run.proofs.Steps.Refused.{StepsTo-made, not_refused}
 use Rattle.channel_run.proofs.run.Run.clone_receiver.Goals as goal
 
 pub put-requires : goal.put-requires

@@ -3,8 +3,8 @@ use Rattle.channel_model.specs.declared.step.Step.{Step}
 use Rattle.channel_model.specs.View.{View}
 use Rattle.channel_model.specs.Refusals.{is_handle}
 use Rattle.channel_run.specs.RunShown.{shown}
-use Rattle.channel_run.proofs.WholeSteps.{StepsTo-made, not_refused}
-use Rattle.channel_run.proofs.RunChanges.{stepped-close}
+use Rattle.channel_run.proofs.Steps.Refused.{StepsTo-made, not_refused}
+use Rattle.channel_run.proofs.Tables.PlainSteps.{stepped-close}
 use Rattle.channel_run.proofs.run.Run.close.Goals as goal
 
 pub invariant_of-self : goal.invariant_of-self

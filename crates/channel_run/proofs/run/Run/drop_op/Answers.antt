@@ -4,9 +4,9 @@ use Rattle.channel_run.specs.declared.operations.Operation.{Operation as Started
 use Rattle.channel_model.specs.declared.step.Refusal.{Refusal}
 use Rattle.channel_model.specs.declared.step.Step.{Step}
 use Rattle.channel_run.specs.RunShown.{dropped, shown}
-use Rattle.channel_run.proofs.Entries.{is_some-shown}
-use Rattle.channel_run.proofs.RunTables.{stepped-drop_op}
-use Rattle.channel_run.proofs.WholeSteps.{IsRefused-unchanged, StepsTo-made, StepsTo-refused, not_refused, unknown_name}
+use Rattle.channel_run.proofs.Tables.Entries.{is_some-shown}
+use Rattle.channel_run.proofs.Tables.GivenUp.{stepped-drop_op}
+use Rattle.channel_run.proofs.Steps.Refused.{IsRefused-unchanged, StepsTo-made, StepsTo-refused, not_refused, unknown_name}
 use Rattle.channel_run.proofs.run.Run.drop_op.Goals as goal
 
 pub invariant_of-self : goal.invariant_of-self

@@ -8,9 +8,10 @@ use Rattle.channel_model.specs.declared.step.Step.{Step}
 use Rattle.channel_model.specs.View.{View}
 use Rattle.channel_model.specs.Refusals.{is_borrowed}
 use Rattle.channel_run.specs.RunShown.{entry_at, shown, stream_ticket, ticket_at}
-use Rattle.channel_run.proofs.Entries.{is_among-entry_at, list_any-shown}
-use Rattle.channel_run.proofs.RunTables.{flat, stepped-drop_receiver}
-use Rattle.channel_run.proofs.WholeSteps.{IsRefused-unchanged, StepsTo-made, StepsTo-refused, borrowed_handle, not_refused}
+use Rattle.channel_run.proofs.Tables.Entries.{is_among-entry_at, list_any-shown}
+use Rattle.channel_run.proofs.Tables.OneEntry.{flat}
+use Rattle.channel_run.proofs.Tables.GivenUp.{stepped-drop_receiver}
+use Rattle.channel_run.proofs.Steps.Refused.{IsRefused-unchanged, StepsTo-made, StepsTo-refused, borrowed_handle, not_refused}
 use Rattle.channel_run.proofs.run.Run.drop_receiver.Goals as goal
 
 pub returns-then-is_receiver_borrowed : goal.returns-then-is_receiver_borrowed

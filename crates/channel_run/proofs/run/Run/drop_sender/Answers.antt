@@ -6,9 +6,9 @@ use Rattle.channel_model.specs.declared.step.Refusal.{Refusal}
 use Rattle.channel_model.specs.declared.step.Step.{Step}
 use Rattle.channel_model.specs.Refusals.{is_borrowed}
 use Rattle.channel_run.specs.RunShown.{shown}
-use Rattle.channel_run.proofs.Entries.{list_any-shown}
-use Rattle.channel_run.proofs.RunChanges.{stepped-drop_sender}
-use Rattle.channel_run.proofs.WholeSteps.{IsRefused-unchanged, StepsTo-made, StepsTo-refused, borrowed_handle, not_refused}
+use Rattle.channel_run.proofs.Tables.Entries.{list_any-shown}
+use Rattle.channel_run.proofs.Tables.PlainSteps.{stepped-drop_sender}
+use Rattle.channel_run.proofs.Steps.Refused.{IsRefused-unchanged, StepsTo-made, StepsTo-refused, borrowed_handle, not_refused}
 use Rattle.channel_run.proofs.run.Run.drop_sender.Goals as goal
 
 pub returns-then-is_sender_borrowed : goal.returns-then-is_sender_borrowed

@@ -2,7 +2,7 @@ use Rattle.std.proofs.Common.{◌∙◌, refl, sym, ap}
 use Rattle.std.specs.Prelude.{slice_get}
 use Rattle.channel_core.specs.declared.state.Group.{Group}
 use Rattle.channel_core.specs.Channel.{list_of}
-use Rattle.channel_run.proofs.FirstTold.{IsFirst-group_nobody, IsFirst-operation, IsFirst-stream}
+use Rattle.channel_run.proofs.Told.FirstTold.{IsFirst-group_nobody, IsFirst-operation, IsFirst-stream}
 use Rattle.channel_run.proofs.run.Run.first_in.Goals as goal
 
 pub returns-in_err-key-clause-first : goal.returns-in_err-key-clause-first

@@ -3,9 +3,9 @@ use Rattle.event_list.specs.Keys.{is_among}
 use Rattle.channel_model.specs.declared.step.Refusal.{Refusal}
 use Rattle.channel_model.specs.declared.step.Step.{Step}
 use Rattle.channel_run.specs.RunShown.{shown}
-use Rattle.channel_run.proofs.RunWants.{wants-message}
-use Rattle.channel_run.proofs.WholeSteps.{IsRefused-unchanged, StepsTo-made, StepsTo-wants, not_refused}
-use Rattle.channel_run.proofs.RunChanges.{stepped-force_send}
+use Rattle.channel_run.proofs.Steps.Wanting.{wants-message}
+use Rattle.channel_run.proofs.Steps.Refused.{IsRefused-unchanged, StepsTo-made, StepsTo-wants, not_refused}
+use Rattle.channel_run.proofs.Tables.PlainSteps.{stepped-force_send}
 use Rattle.channel_run.proofs.run.Run.force_send.Goals as goal
 use Rattle.channel_run.proofs.run.Run.force_send.Goals.{in-Ok, in-Err}
 

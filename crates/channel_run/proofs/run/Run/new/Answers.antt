@@ -5,8 +5,8 @@ use Rattle.channel_model.specs.Capacity.{capacity_of}
 use Rattle.channel_model.specs.View.{AreSameNames}
 use Rattle.channel_core.specs.Channel.{new_channel}
 use Rattle.channel_run.specs.RunShown.{AreCounted, Changed}
-use Rattle.channel_run.proofs.RunNew.{stands-new, whole-new}
-use Rattle.channel_run.proofs.RunTables.{when_ok}
+use Rattle.channel_run.proofs.Tables.NewRun.{stands-new, whole-new}
+use Rattle.channel_run.proofs.Tables.ShownNames.{when_ok}
 use Rattle.channel_run.proofs.run.Run.new.Goals as goal
 use Rattle.channel_run.proofs.run.Run.new.Goals.{in-Bounded+in_ok-core-in-Bounded, in-Unbounded}
 

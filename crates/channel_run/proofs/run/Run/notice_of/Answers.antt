@@ -3,8 +3,8 @@ use Rattle.std.specs.Prelude.{option_and_then}
 use Rattle.channel_run.specs.declared.operations.Operation.{Operation as Started}
 use Rattle.channel_model.specs.declared.step.Who.TheVariants.{Op, Receiver}
 use Rattle.channel_run.specs.RunShown.{shown, stream_ticket}
-use Rattle.channel_run.proofs.RunFacts.{notice_shown-StandsFor}
-use Rattle.channel_run.proofs.RunNotices.{notice-closed, notice-none, notice-recv, notice-send, notice-stream}
+use Rattle.channel_run.proofs.Alike.SameNotices.{notice_shown-StandsFor}
+use Rattle.channel_run.proofs.Told.TicketNotices.{notice-closed, notice-none, notice-recv, notice-send, notice-stream}
 use Rattle.channel_run.proofs.run.Run.notice_of.Goals as goal
 
 pub returns-in-Some-Send : goal.returns-in-Some-Send

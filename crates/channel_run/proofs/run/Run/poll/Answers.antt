@@ -6,11 +6,14 @@ use Rattle.channel_model.specs.declared.step.Refusal.{Refusal}
 use Rattle.channel_model.specs.declared.step.Reply.TheVariants.{SendPolled, RecvPolled, ClosedPolled}
 use Rattle.channel_model.specs.declared.step.Step.{Step}
 use Rattle.channel_run.specs.RunShown.{entry_at, shown}
-use Rattle.channel_run.proofs.Entries.{is_some-shown}
-use Rattle.channel_run.proofs.RunPolls.{first_on_err, is_there, polled, polled-closed, polled-recv, polled-send}
-use Rattle.channel_run.proofs.Borrowing.{counted_set}
-use Rattle.channel_run.proofs.RunTables.{changed}
-use Rattle.channel_run.proofs.WholeSteps.{IsRefused-unchanged, StepsTo-refused, unknown_name}
+use Rattle.channel_run.proofs.Tables.Entries.{is_some-shown}
+use Rattle.channel_run.proofs.Polls.Outcome.{first_on_err, is_there, polled}
+use Rattle.channel_run.proofs.Polls.Closeds.{polled-closed}
+use Rattle.channel_run.proofs.Polls.Receives.{polled-recv}
+use Rattle.channel_run.proofs.Polls.Sends.{polled-send}
+use Rattle.channel_run.proofs.Tables.Borrowing.{counted_set}
+use Rattle.channel_run.proofs.Tables.OneEntry.{changed}
+use Rattle.channel_run.proofs.Steps.Refused.{IsRefused-unchanged, StepsTo-refused, unknown_name}
 use Rattle.channel_run.proofs.run.Run.poll.Goals as goal
 use Rattle.channel_run.proofs.run.Run.poll.Goals.{in-Ok, in-Err, in-Ok-poll_recv, in-Err-poll_recv, in-Ok-poll_closed, in-Err-poll_closed}
 

@@ -6,9 +6,9 @@ use Rattle.channel_model.specs.declared.step.Step.{Step}
 use Rattle.channel_model.specs.View.{View}
 use Rattle.channel_model.specs.Refusals.{is_borrowed, refusal_in}
 use Rattle.channel_run.specs.RunShown.{shown}
-use Rattle.channel_run.proofs.Entries.{list_any-shown}
-use Rattle.channel_run.proofs.RunStreams.{StepsTo-allowed}
-use Rattle.channel_run.proofs.WholeSteps.{IsRefused-unchanged, StepsTo-refused, borrowed_handle, not_refused}
+use Rattle.channel_run.proofs.Tables.Entries.{list_any-shown}
+use Rattle.channel_run.proofs.Polls.Streams.{StepsTo-allowed}
+use Rattle.channel_run.proofs.Steps.Refused.{IsRefused-unchanged, StepsTo-refused, borrowed_handle, not_refused}
 use Rattle.channel_run.proofs.run.Run.poll_next.Goals as goal
 
 pub returns-then-is_receiver_borrowed : goal.returns-then-is_receiver_borrowed

@@ -4,10 +4,10 @@ use Rattle.event_list.specs.Keys.{is_among}
 use Rattle.channel_model.specs.declared.step.Reply.TheVariants.{NextPolled}
 use Rattle.channel_model.specs.View.{View}
 use Rattle.channel_run.specs.RunShown.{entry_at}
-use Rattle.channel_run.proofs.Entries.{is_among-entry_at}
-use Rattle.channel_run.proofs.RunPolls.{first_on_err, is_there, polled}
-use Rattle.channel_run.proofs.RunStreams.{polled-stream}
-use Rattle.channel_run.proofs.RunTables.{changed}
+use Rattle.channel_run.proofs.Tables.Entries.{is_among-entry_at}
+use Rattle.channel_run.proofs.Polls.Outcome.{first_on_err, is_there, polled}
+use Rattle.channel_run.proofs.Polls.Streams.{polled-stream}
+use Rattle.channel_run.proofs.Tables.OneEntry.{changed}
 use Rattle.channel_run.proofs.run.Run.poll_stream.Goals as goal
 use Rattle.channel_run.proofs.run.Run.poll_stream.Goals.{in-Ok, in-Err}
 

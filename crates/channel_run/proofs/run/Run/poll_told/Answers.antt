@@ -1,5 +1,5 @@
 use Rattle.channel_model.specs.declared.step.Who.TheVariants.{Op, Receiver}
-use Rattle.channel_run.proofs.RunTold.{lowers-PollsTo, told_receiver}
+use Rattle.channel_run.proofs.Settling.FewerWait.{lowers-PollsTo, told_receiver}
 use Rattle.channel_run.proofs.run.Run.poll_told.Goals as goal
 
 pub poll_stream-requires : goal.poll_stream-requires

@@ -6,11 +6,12 @@ use Rattle.channel_model.specs.declared.step.Step.{Step}
 use Rattle.channel_model.specs.View.{View}
 use Rattle.channel_model.specs.Refusals.{is_operation}
 use Rattle.channel_run.specs.RunShown.{shown}
-use Rattle.channel_run.proofs.Entries.{is_some-shown}
-use Rattle.channel_run.proofs.MadeSteps.{made-start_send}
-use Rattle.channel_run.proofs.RunTables.{nothing_at, stepped-started}
-use Rattle.channel_run.proofs.RunWants.{wants-name}
-use Rattle.channel_run.proofs.WholeSteps.{IsRefused-unchanged, StepsTo-made, StepsTo-wants, not_refused}
+use Rattle.channel_run.proofs.Tables.Entries.{is_some-shown}
+use Rattle.channel_run.proofs.Outcomes.Operations.{made-start_send}
+use Rattle.channel_run.proofs.Tables.OneEntry.{nothing_at}
+use Rattle.channel_run.proofs.Tables.MadeNames.{stepped-started}
+use Rattle.channel_run.proofs.Steps.Wanting.{wants-name}
+use Rattle.channel_run.proofs.Steps.Refused.{IsRefused-unchanged, StepsTo-made, StepsTo-wants, not_refused}
 use Rattle.channel_run.proofs.run.Run.start_send.Goals as goal
 use Rattle.channel_run.proofs.run.Run.start_send.Goals.{in-Ok, in-Err}
 

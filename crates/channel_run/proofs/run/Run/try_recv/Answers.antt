@@ -3,8 +3,8 @@ use Rattle.event_list.specs.Keys.{is_among}
 use Rattle.channel_model.specs.declared.step.Step.{Step}
 use Rattle.channel_model.specs.View.{View}
 use Rattle.channel_run.specs.RunShown.{shown}
-use Rattle.channel_run.proofs.WholeSteps.{StepsTo-made, not_refused}
-use Rattle.channel_run.proofs.RunChanges.{stepped-try_recv}
+use Rattle.channel_run.proofs.Steps.Refused.{StepsTo-made, not_refused}
+use Rattle.channel_run.proofs.Tables.PlainSteps.{stepped-try_recv}
 use Rattle.channel_run.proofs.run.Run.try_recv.Goals as goal
 
 pub invariant_of-self : goal.invariant_of-self

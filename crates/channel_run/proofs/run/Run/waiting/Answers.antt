@@ -1,5 +1,5 @@
 use Rattle.std.proofs.Common.{arith}
-use Rattle.channel_run.proofs.RunTold.{count_waiting, few_waiting}
+use Rattle.channel_run.proofs.Told.WhoWaits.{count_waiting, few_waiting}
 use Rattle.channel_run.proofs.run.Run.waiting.Goals as goal
 
 pub overflow_add-result : goal.overflow_add-result
