@@ -1,12 +1,11 @@
 -- After the poll of a told one no more wait than before, and one fewer where it was ready.
-use Rattle.std.proofs.Common.{◌≡◌, ℕ, ◌+◌, ◌≤◌, ◌⊎◌, inl, inr, List, Bool, true, false, cond, Some, None, Option, Result, refl, ◌∙◌, ap, arith}
+use Rattle.std.proofs.Common.{◌≡◌, ℕ, ◌+◌, ◌≤◌, ◌⊎◌, inl, inr, Bool, true, false, cond, Some, None, Option, Result, refl, ◌∙◌, ap, arith}
 use Rattle.std.specs.Prelude.{if◌then◌else◌, MatchOption, slice_get}
 use Rattle.futures.specs.declared.task.Poll.{Poll as Answer}
 use Rattle.futures.specs.declared.task.Poll.TheVariants.{Ready, Pending}
 use Rattle.event_list.specs.Keys.{is_among}
 use Rattle.channel_model.specs.declared.errors.RecvError.{RecvError}
 use Rattle.channel_model.specs.declared.errors.SendError.{SendError}
-use Rattle.channel_run.specs.declared.operations.Operation.{Operation as Started}
 use Rattle.channel_model.specs.declared.step.Refusal.{Refusal}
 use Rattle.channel_model.specs.declared.step.Refusal.TheVariants.{OutOfMemory}
 use Rattle.channel_model.specs.declared.step.Step.{Step}
@@ -15,7 +14,6 @@ use Rattle.channel_model.specs.declared.step.Reply.{Reply}
 use Rattle.channel_model.specs.declared.step.Reply.TheVariants.{SendPolled, RecvPolled, ClosedPolled, NextPolled}
 use Rattle.channel_model.specs.declared.step.Who.{Who}
 use Rattle.channel_model.specs.declared.step.Who.TheVariants.{Op, Receiver}
-use Rattle.channel_core.specs.Channel.{Channel}
 use Rattle.channel_model.specs.Closing.{has_none}
 use Rattle.channel_model.specs.Messages.{received_by, accepted_by}
 use Rattle.channel_model.specs.Replies.{poll_reply, is_full_in, reply_in}
@@ -27,12 +25,12 @@ use Rattle.channel_model.specs.Rosters.{AreSound, Rosters, is_told, leave, wait}
 use Rattle.channel_model.specs.View.{View}
 use Rattle.channel_model.specs.Memory.{may_want_memory_in}
 use Rattle.channel_model.specs.Refusals.{refusal_in}
-use Rattle.channel_run.specs.RunShown.{IsWhole, shown}
 use Rattle.channel_run.specs.RunSteps.{IsMade, IsRefused, PollsTo, StepsAsAllowed, StepsTo, is_ready, poll_of, rosters_after}
 use Rattle.channel_model.proofs.MeasureFalls.{PollsTold, a_closed, a_receive, a_send, a_stream, leave-told, polls_told, told_among, waiting-accepting, waiting-receiving}
 use Rattle.channel_model.proofs.AnyOrder.{first-Contains}
 use Rattle.channel_model.proofs.Measure.{wait-told}
 use Rattle.channel_run.proofs.Told.WhoWaits.{AreSound-IsWhole, send_waits, receive_waits, closed_waits, stream_waits, is_send, is_receive, is_awaiting}
+use Rattle.channel_run.proofs.Tables.Kept.{Kept, Whole, shown_by}
 
 abbrev ready_count : {T : Type 0} → Reply T → ℕ
 ready_count reply = cond (is_ready reply) 1 0
@@ -121,14 +119,12 @@ lowers-made {T} before after step reply given made is less =
     let ready : ready_count reply ≡ ready_count given = ap (λ (r : Reply T). ready_count r) same in
     omega arith
 
-module _ {T W : Type 0} (core : Channel T W) (senders : List ℕ) (receivers : List (ℕ × Option ℕ))
-    (weak_senders weak_receivers : List ℕ) (operations : List (ℕ × Started T))
-    (whole : IsWhole core senders receivers operations) where
+module _ {T W : Type 0} (kept : Kept T W) (whole : Whole kept) where
   abbrev run : View T
-  run = shown core senders receivers weak_senders weak_receivers operations
+  run = shown_by kept
 
   sound : AreSound run.rosters
-  sound = AreSound-IsWhole core senders receivers operations whole
+  sound = AreSound-IsWhole kept whole
 
   given : (op : ℕ) (operation : Operation T) → operation_in run.operations op ≡ Some operation
       → reply_in run (Poll op) ≡ poll_reply (Some operation) run.closed (has_none run.receivers) (is_full_in run)
@@ -141,24 +137,24 @@ module _ {T W : Type 0} (core : Channel T W) (senders : List ℕ) (receivers : L
   lowers-poll op reply after (a_send other e told) made =
       let same : op ≡ other = cc in
       let told' : is_told op run.rosters.sends ≡ true = ap (λ (n : ℕ). is_told n run.rosters.sends) same ∙ told in
-      let has = send_waits core senders receivers operations whole op (told_among op run.rosters.sends told') in
-      let kind = is_send core senders receivers operations whole op has.0 has.1 in
+      let has = send_waits kept whole op (told_among op run.rosters.sends told') in
+      let kind = is_send kept whole op has.0 has.1 in
       lowers-made run after (Poll op) reply (SendPolled (send_poll kind.1 run.closed (is_full_in run))) made
       (given op (sending kind.0 kind.1) kind.2)
       (polled-send run sound op (send_poll kind.1 run.closed (is_full_in run)) told')
   lowers-poll op reply after (a_receive other e told) made =
       let same : op ≡ other = cc in
       let told' : is_told op run.rosters.receives ≡ true = ap (λ (n : ℕ). is_told n run.rosters.receives) same ∙ told in
-      let has = receive_waits core senders receivers operations whole op (told_among op run.rosters.receives told') in
-      let kind = is_receive core senders receivers operations whole op has.0 has.1 in
+      let has = receive_waits kept whole op (told_among op run.rosters.receives told') in
+      let kind = is_receive kept whole op has.0 has.1 in
       lowers-made run after (Poll op) reply (RecvPolled (recv_poll (slice_get run.messages 0) run.closed)) made
       (given op (receiving kind.0) kind.1)
       (polled-recv run sound op (recv_poll (slice_get run.messages 0) run.closed) told')
   lowers-poll op reply after (a_closed other e told) made =
       let same : op ≡ other = cc in
       let told' : is_told op run.rosters.closeds ≡ true = ap (λ (n : ℕ). is_told n run.rosters.closeds) same ∙ told in
-      let has = closed_waits core senders receivers operations whole op (told_among op run.rosters.closeds told') in
-      let kind = is_awaiting core senders receivers operations whole op has.0 has.1 in
+      let has = closed_waits kept whole op (told_among op run.rosters.closeds told') in
+      let kind = is_awaiting kept whole op has.0 has.1 in
       lowers-made run after (Poll op) reply (ClosedPolled (closed_poll (has_none run.receivers))) made
       (given op (awaiting_close kind.0) kind.1)
       (polled-closed run sound op (closed_poll (has_none run.receivers)) told')
@@ -210,5 +206,5 @@ module _ {T W : Type 0} (core : Channel T W) (senders : List ℕ) (receivers : L
   pub told_receiver : (receiver : ℕ) → slice_get (told_polls {T = T} run.rosters) 0 ≡ Some (PollNext receiver)
       → is_among receiver run.receivers ≡ true
   told_receiver receiver first =
-      stream_waits core senders receivers operations whole receiver
+      stream_waits kept whole receiver
       (told_among receiver run.rosters.streams (stream_told receiver (told_first (Receiver receiver) first)))

@@ -11,7 +11,8 @@ use Rattle.channel_model.specs.Refusals.{is_borrowed, is_known, is_one_too_many,
 use Rattle.channel_model.specs.Memory.{brings_message, makes_name, may_want_memory_in, polls_newcomer}
 use Rattle.channel_model.specs.Answers.{message_in}
 use Rattle.channel_model.specs.View.{View}
-use Rattle.channel_run.specs.RunSteps.{IsMade, IsRefused, StepsTo}
+use Rattle.channel_run.specs.RunSteps.{IsMade, IsRefused, StepsAsAllowed, StepsTo}
+use Rattle.channel_run.proofs.Steps.Wanting.{wants-wait}
 use Rattle.channel_run.proofs.Alike.SameTables.{first_refusal}
 use Rattle.channel_run.proofs.Alike.SameViews.{AreAlike-refl}
 use Rattle.channel_model.specs.declared.step.Step.TheVariants.{Poll}
@@ -80,3 +81,10 @@ pub poll_not_refused : {T : Type 0} (run : View T) (op : ℕ) (operation : Opera
     → operation_in run.operations op ≡ Some operation → refusal_in run (Poll op) ≡ None
 poll_not_refused {T} run op operation o =
     not_refused run (Poll op) (ap (λ (found : Option (Operation T)). is_some found) o) refl refl refl
+
+-- a poll that nothing refuses
+pub StepsTo-allowed : {T : Type 0} (run after : View T) (step : Step T) (reply : Reply T)
+    → refusal_in run step ≡ None → StepsAsAllowed run step reply after → StepsTo run step reply after
+StepsTo-allowed run after step reply allowed (inl made) = StepsTo-made run after step reply allowed made
+StepsTo-allowed run after step reply allowed (inr wanted) =
+    StepsTo-wants run after step reply (wants-wait run step allowed wanted.0 wanted.1) wanted.2

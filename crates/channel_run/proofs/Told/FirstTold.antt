@@ -7,17 +7,17 @@ use Rattle.std.proofs.lemmas.Bool.{eqb-true, eq-eqb}
 use Rattle.std.proofs.Math.Seq.{take-append_seam}
 use Rattle.event_list.specs.Keys.{AreDifferent, is_among}
 use Rattle.event_list.specs.Waiting.{Waiting, keys, untold_keys}
-use Rattle.channel_run.specs.declared.operations.Operation.{Operation as Started}
 use Rattle.channel_core.specs.declared.state.Group.{Group}
 use Rattle.channel_core.specs.declared.state.Group.TheVariants.{Sends, Receives, Streams, Closeds}
-use Rattle.channel_core.specs.Channel.{Channel, list_of}
+use Rattle.channel_core.specs.Channel.{list_of}
 use Rattle.channel_model.specs.Rosters.{Roster, told_names}
-use Rattle.channel_run.specs.RunShown.{AreHeld, IsHolder, IsWhole, closed_ticket, entry_at, has_key, recv_ticket, roster_of, rosters_shown, send_ticket, stream_ticket, ticket_at, ticket_in}
+use Rattle.channel_run.specs.RunShown.{AreHeld, IsHolder, closed_ticket, entry_at, has_key, recv_ticket, roster_of, send_ticket, stream_ticket, ticket_at, ticket_in}
 use Rattle.channel_run.specs.RunSteps.{roster_in}
 use Rattle.channel_run.proofs.Tables.Entries.{is_eq-nat_cmp, is_among-entry_at}
 use Rattle.channel_run.proofs.Waiting.HeldLists.{has_key-is, holds-refl, is-has_key, keyed}
 use Rattle.channel_run.proofs.Waiting.KeyLists.{key_roster}
 use Rattle.channel_run.proofs.Waiting.KeyedRosters.{AreKeyed, IsKeyed, first_told-keyed}
+use Rattle.channel_run.proofs.Tables.Kept.{Kept, Whole, rosters_by}
 
 -- ---- whoever holds the key is found
 
@@ -134,36 +134,35 @@ module _ {W : Type 0} (ticket_of : ℕ → Option ℕ) (names : List ℕ) (list 
 
 -- ---- the first of a group
 
-module _ {T W : Type 0} (core : Channel T W) (senders : List ℕ) (receivers : List (ℕ × Option ℕ))
-    (operations : List (ℕ × Started T)) (whole : IsWhole core senders receivers operations) where
-  pub IsFirst-group_nobody : (group : Group) → None ≡ slice_get (list_of group core).told 0
-      → IsFirst (roster_in group (rosters_shown core receivers operations)) None
-  IsFirst-group_nobody Sends none = IsFirst-nobody (ticket_at send_ticket operations)
-      (keys_of operations) core.sends whole.each_send none
-  IsFirst-group_nobody Receives none = IsFirst-nobody (ticket_at recv_ticket operations)
-      (keys_of operations) core.receives whole.each_receive none
-  IsFirst-group_nobody Streams none = IsFirst-nobody (ticket_at stream_ticket receivers)
-      (keys_of receivers) core.streams whole.each_stream none
-  IsFirst-group_nobody Closeds none = IsFirst-nobody (ticket_at closed_ticket operations)
-      (keys_of operations) core.closeds whole.each_closed none
+module _ {T W : Type 0} (kept : Kept T W) (whole : Whole kept) where
+  pub IsFirst-group_nobody : (group : Group) → None ≡ slice_get (list_of group kept.core).told 0
+      → IsFirst (roster_in group (rosters_by kept)) None
+  IsFirst-group_nobody Sends none = IsFirst-nobody (ticket_at send_ticket kept.operations)
+      (keys_of kept.operations) kept.core.sends whole.each_send none
+  IsFirst-group_nobody Receives none = IsFirst-nobody (ticket_at recv_ticket kept.operations)
+      (keys_of kept.operations) kept.core.receives whole.each_receive none
+  IsFirst-group_nobody Streams none = IsFirst-nobody (ticket_at stream_ticket kept.receivers)
+      (keys_of kept.receivers) kept.core.streams whole.each_stream none
+  IsFirst-group_nobody Closeds none = IsFirst-nobody (ticket_at closed_ticket kept.operations)
+      (keys_of kept.operations) kept.core.closeds whole.each_closed none
 
   pub IsFirst-operation : (group : Group) → group ≢ Streams → (key : ℕ)
-      → Some key ≡ slice_get (list_of group core).told 0 → (found : Option ℕ)
-      → IsHolder (ticket_at (ticket_in group) operations) key found
-      → IsFirst (roster_in group (rosters_shown core receivers operations)) found
+      → Some key ≡ slice_get (list_of group kept.core).told 0 → (found : Option ℕ)
+      → IsHolder (ticket_at (ticket_in group) kept.operations) key found
+      → IsFirst (roster_in group (rosters_by kept)) found
   IsFirst-operation Sends apart key told found is =
-      IsFirst-holder (ticket_at send_ticket operations)
-      (keys_of operations) core.sends whole.each_send key told found is
+      IsFirst-holder (ticket_at send_ticket kept.operations)
+      (keys_of kept.operations) kept.core.sends whole.each_send key told found is
   IsFirst-operation Receives apart key told found is =
-      IsFirst-holder (ticket_at recv_ticket operations)
-      (keys_of operations) core.receives whole.each_receive key told found is
+      IsFirst-holder (ticket_at recv_ticket kept.operations)
+      (keys_of kept.operations) kept.core.receives whole.each_receive key told found is
   IsFirst-operation Streams apart key told found is = absurd (apart refl)
   IsFirst-operation Closeds apart key told found is =
-      IsFirst-holder (ticket_at closed_ticket operations)
-      (keys_of operations) core.closeds whole.each_closed key told found is
+      IsFirst-holder (ticket_at closed_ticket kept.operations)
+      (keys_of kept.operations) kept.core.closeds whole.each_closed key told found is
 
-  pub IsFirst-stream : (key : ℕ) → Some key ≡ slice_get core.streams.told 0 → (found : Option ℕ)
-      → IsHolder (ticket_at stream_ticket receivers) key found
-      → IsFirst (rosters_shown core receivers operations).streams found
-  IsFirst-stream key told found is = IsFirst-holder (ticket_at stream_ticket receivers)
-      (keys_of receivers) core.streams whole.each_stream key told found is
+  pub IsFirst-stream : (key : ℕ) → Some key ≡ slice_get kept.core.streams.told 0 → (found : Option ℕ)
+      → IsHolder (ticket_at stream_ticket kept.receivers) key found
+      → IsFirst (rosters_by kept).streams found
+  IsFirst-stream key told found is = IsFirst-holder (ticket_at stream_ticket kept.receivers)
+      (keys_of kept.receivers) kept.core.streams whole.each_stream key told found is

@@ -5,7 +5,6 @@ use Rattle.std.specs.Map.{keys_of}
 use Rattle.channel_run.specs.declared.operations.Operation.{Operation as Started}
 use Rattle.channel_run.specs.declared.operations.Operation.TheVariants.{Send, Recv, Closed}
 use Rattle.channel_model.specs.declared.step.Who.TheVariants.{Op, Receiver}
-use Rattle.channel_core.specs.Channel.{Channel}
 use Rattle.channel_model.specs.Operations.{Operation}
 use Rattle.channel_run.specs.RunSteps.{notice_of_operation, notice_shown}
 use Rattle.channel_run.proofs.Tables.Entries.{operation_in-entry_at}
@@ -15,11 +14,12 @@ use Rattle.event_list.proofs.Splits.{is_among-append}
 use Rattle.channel_model.specs.declared.step.Notice.TheVariants.{Absent, Told, Untold}
 use Rattle.channel_model.specs.Rosters.{notice_in}
 use Rattle.channel_model.specs.View.{View}
-use Rattle.channel_run.specs.RunShown.{AreHeld, IsWhole, closed_ticket, entry_at, notice_at, notice_by_flag, operation_shown, recv_ticket, roster_of, send_ticket, shown, stream_ticket, ticket_at}
+use Rattle.channel_run.specs.RunShown.{AreHeld, closed_ticket, entry_at, notice_at, notice_by_flag, operation_shown, recv_ticket, roster_of, send_ticket, stream_ticket, ticket_at}
 use Rattle.channel_run.proofs.Waiting.HeldLists.{absent-Holds, holds-refl, keyed}
 use Rattle.channel_run.proofs.Waiting.KeyLists.{is_told-key, key_roster}
 use Rattle.channel_run.proofs.Waiting.KeyedRosters.{notice_in-keyed}
 use Rattle.channel_model.proofs.NameLists.{is_among-take}
+use Rattle.channel_run.proofs.Tables.Kept.{Kept, Whole, shown_by}
 
 -- a ticket's told flag is its name's notice
 pub notice-held : {W : Type 0} (ticket_of : ℕ → Option ℕ) (names : List ℕ) (list : Waiting W)
@@ -50,43 +50,41 @@ notice-held ticket_of names list each name (Some key) has =
 
 -- ---- what a run shows of each who may wait
 
-module _ {T W : Type 0} (core : Channel T W) (senders : List ℕ) (receivers : List (ℕ × Option ℕ))
-    (weak_senders weak_receivers : List ℕ) (operations : List (ℕ × Started T))
-    (whole : IsWhole core senders receivers operations) where
+module _ {T W : Type 0} (kept : Kept T W) (whole : Whole kept) where
   abbrev pub run : View T
-  run = shown core senders receivers weak_senders weak_receivers operations
+  run = shown_by kept
 
-  of_operation : (op : ℕ) (found : Option (Started T)) → entry_at operations op ≡ found
+  of_operation : (op : ℕ) (found : Option (Started T)) → entry_at kept.operations op ≡ found
       → notice_shown run (Op op) ≡ notice_of_operation run.rosters op (option_map operation_shown found)
   of_operation op found e = ap (λ (o : Option (Operation T)). notice_of_operation run.rosters op o)
-      (operation_in-entry_at operations op ∙ ap (λ (f : Option (Started T)). option_map operation_shown f) e)
+      (operation_in-entry_at kept.operations op ∙ ap (λ (f : Option (Started T)). option_map operation_shown f) e)
 
   pub notice-send : (op sender : ℕ) (message : Option T) (ticket : Option ℕ)
-      → entry_at operations op ≡ Some (Send sender message ticket)
-      → notice_at ticket core.sends ≡ notice_shown run (Op op)
+      → entry_at kept.operations op ≡ Some (Send sender message ticket)
+      → notice_at ticket kept.core.sends ≡ notice_shown run (Op op)
   notice-send op sender message ticket e =
-      notice-held (ticket_at send_ticket operations) (keys_of operations) core.sends whole.each_send op ticket
+      notice-held (ticket_at send_ticket kept.operations) (keys_of kept.operations) kept.core.sends whole.each_send op ticket
       (ap (λ (f : Option (Started T)). option_and_then send_ticket f) e)
       ∙ sym (of_operation op (Some (Send sender message ticket)) e)
 
-  pub notice-recv : (op receiver : ℕ) (ticket : Option ℕ) → entry_at operations op ≡ Some (Recv receiver ticket)
-      → notice_at ticket core.receives ≡ notice_shown run (Op op)
+  pub notice-recv : (op receiver : ℕ) (ticket : Option ℕ) → entry_at kept.operations op ≡ Some (Recv receiver ticket)
+      → notice_at ticket kept.core.receives ≡ notice_shown run (Op op)
   notice-recv op receiver ticket e =
-      notice-held (ticket_at recv_ticket operations) (keys_of operations) core.receives whole.each_receive op ticket
+      notice-held (ticket_at recv_ticket kept.operations) (keys_of kept.operations) kept.core.receives whole.each_receive op ticket
       (ap (λ (f : Option (Started T)). option_and_then recv_ticket f) e)
       ∙ sym (of_operation op (Some (Recv receiver ticket)) e)
 
-  pub notice-closed : (op sender : ℕ) (ticket : Option ℕ) → entry_at operations op ≡ Some (Closed sender ticket)
-      → notice_at ticket core.closeds ≡ notice_shown run (Op op)
+  pub notice-closed : (op sender : ℕ) (ticket : Option ℕ) → entry_at kept.operations op ≡ Some (Closed sender ticket)
+      → notice_at ticket kept.core.closeds ≡ notice_shown run (Op op)
   notice-closed op sender ticket e =
-      notice-held (ticket_at closed_ticket operations) (keys_of operations) core.closeds whole.each_closed op ticket
+      notice-held (ticket_at closed_ticket kept.operations) (keys_of kept.operations) kept.core.closeds whole.each_closed op ticket
       (ap (λ (f : Option (Started T)). option_and_then closed_ticket f) e)
       ∙ sym (of_operation op (Some (Closed sender ticket)) e)
 
-  pub notice-none : (op : ℕ) → entry_at operations op ≡ None → Absent ≡ notice_shown run (Op op)
+  pub notice-none : (op : ℕ) → entry_at kept.operations op ≡ None → Absent ≡ notice_shown run (Op op)
   notice-none op e = sym (of_operation op None e)
 
-  pub notice-stream : (receiver : ℕ) (ticket : Option ℕ) → ticket_at stream_ticket receivers receiver ≡ ticket
-      → notice_at ticket core.streams ≡ notice_shown run (Receiver receiver)
-  notice-stream receiver ticket e = notice-held (ticket_at stream_ticket receivers)
-      (keys_of receivers) core.streams whole.each_stream receiver ticket e
+  pub notice-stream : (receiver : ℕ) (ticket : Option ℕ) → ticket_at stream_ticket kept.receivers receiver ≡ ticket
+      → notice_at ticket kept.core.streams ≡ notice_shown run (Receiver receiver)
+  notice-stream receiver ticket e = notice-held (ticket_at stream_ticket kept.receivers)
+      (keys_of kept.receivers) kept.core.streams whole.each_stream receiver ticket e

@@ -9,16 +9,16 @@ use Rattle.event_list.specs.Waiting.{Waiting, keys, untold_keys}
 use Rattle.event_list.proofs.Splits.{is_among-append, absent_both}
 use Rattle.channel_run.specs.declared.operations.Operation.{Operation as Started}
 use Rattle.channel_run.specs.declared.operations.Operation.TheVariants.{Send, Recv, Closed}
-use Rattle.channel_core.specs.Channel.{Channel}
 use Rattle.channel_model.specs.Operations.{awaiting_close, operation_in, receiving, sending}
 use Rattle.channel_model.specs.Polling.{waiting_in}
 use Rattle.channel_model.specs.Rosters.{AreSound, IsSound, Roster, Rosters}
-use Rattle.channel_run.specs.RunShown.{AreHeld, IsWhole, closed_ticket, entry_at, operation_shown, recv_ticket, roster_of, rosters_shown, send_ticket, stream_ticket, ticket_at}
+use Rattle.channel_run.specs.RunShown.{AreHeld, closed_ticket, entry_at, operation_shown, recv_ticket, roster_of, send_ticket, stream_ticket, ticket_at}
 use Rattle.channel_run.proofs.Tables.Entries.{operation_in-entry_at}
 use Rattle.channel_run.proofs.Waiting.HeldLists.{holds-refl, keyed}
 use Rattle.channel_run.proofs.Waiting.KeyLists.{key_roster}
 use Rattle.channel_run.proofs.Waiting.KeyedRosters.{AreKeyed, IsKeyed, is_among-keyed, is_among-no_key}
 use Rattle.channel_run.proofs.Alike.SameNames.{length-within}
+use Rattle.channel_run.proofs.Tables.Kept.{Kept, Whole, rosters_by}
 
 -- ---- who waits in one list
 
@@ -81,38 +81,37 @@ not_true : (test : Bool) → (test ≡ true → ⊥) → test ≡ false
 not_true true no_more = absurd (no_more refl)
 not_true false no_more = refl
 
-module _ {T W : Type 0} (core : Channel T W) (senders : List ℕ) (receivers : List (ℕ × Option ℕ))
-    (operations : List (ℕ × Started T)) (whole : IsWhole core senders receivers operations) where
+module _ {T W : Type 0} (kept : Kept T W) (whole : Whole kept) where
   abbrev all : Rosters
-  all = rosters_shown core receivers operations
+  all = rosters_by kept
 
   pub AreSound-IsWhole : AreSound all
   AreSound-IsWhole = record {
-    sends = IsSound-AreHeld (ticket_at send_ticket operations) (keys_of operations) core.sends whole.each_send;
-    receives = IsSound-AreHeld (ticket_at recv_ticket operations) (keys_of operations) core.receives whole.each_receive;
-    streams = IsSound-AreHeld (ticket_at stream_ticket receivers) (keys_of receivers) core.streams whole.each_stream;
-    closeds = IsSound-AreHeld (ticket_at closed_ticket operations) (keys_of operations) core.closeds whole.each_closed;
+    sends = IsSound-AreHeld (ticket_at send_ticket kept.operations) (keys_of kept.operations) kept.core.sends whole.each_send;
+    receives = IsSound-AreHeld (ticket_at recv_ticket kept.operations) (keys_of kept.operations) kept.core.receives whole.each_receive;
+    streams = IsSound-AreHeld (ticket_at stream_ticket kept.receivers) (keys_of kept.receivers) kept.core.streams whole.each_stream;
+    closeds = IsSound-AreHeld (ticket_at closed_ticket kept.operations) (keys_of kept.operations) kept.core.closeds whole.each_closed;
   }
 
   -- each is of its own kind
   pub send_waits : (name : ℕ) → is_among name all.sends.names ≡ true
-      → (key : ℕ) × (ticket_at send_ticket operations name ≡ Some key)
-  send_waits = has_ticket (ticket_at send_ticket operations) (keys_of operations) core.sends whole.each_send
+      → (key : ℕ) × (ticket_at send_ticket kept.operations name ≡ Some key)
+  send_waits = has_ticket (ticket_at send_ticket kept.operations) (keys_of kept.operations) kept.core.sends whole.each_send
 
   pub receive_waits : (name : ℕ) → is_among name all.receives.names ≡ true
-      → (key : ℕ) × (ticket_at recv_ticket operations name ≡ Some key)
-  receive_waits = has_ticket (ticket_at recv_ticket operations) (keys_of operations) core.receives whole.each_receive
+      → (key : ℕ) × (ticket_at recv_ticket kept.operations name ≡ Some key)
+  receive_waits = has_ticket (ticket_at recv_ticket kept.operations) (keys_of kept.operations) kept.core.receives whole.each_receive
 
   pub closed_waits : (name : ℕ) → is_among name all.closeds.names ≡ true
-      → (key : ℕ) × (ticket_at closed_ticket operations name ≡ Some key)
-  closed_waits = has_ticket (ticket_at closed_ticket operations) (keys_of operations) core.closeds whole.each_closed
+      → (key : ℕ) × (ticket_at closed_ticket kept.operations name ≡ Some key)
+  closed_waits = has_ticket (ticket_at closed_ticket kept.operations) (keys_of kept.operations) kept.core.closeds whole.each_closed
 
-  pub stream_waits : (name : ℕ) → is_among name all.streams.names ≡ true → is_among name (keys_of receivers) ≡ true
+  pub stream_waits : (name : ℕ) → is_among name all.streams.names ≡ true → is_among name (keys_of kept.receivers) ≡ true
   stream_waits name among =
-      let has = has_ticket (ticket_at stream_ticket receivers)
-      (keys_of receivers) core.streams whole.each_stream name among in whole.each_stream.listed name has.0 has.1
+      let has = has_ticket (ticket_at stream_ticket kept.receivers)
+      (keys_of kept.receivers) kept.core.streams whole.each_stream name among in whole.each_stream.listed name has.0 has.1
 
-  no_two : (name : ℕ) (found : Option (Started T)) → entry_at operations name ≡ found → (key other : ℕ)
+  no_two : (name : ℕ) (found : Option (Started T)) → entry_at kept.operations name ≡ found → (key other : ℕ)
       → ((option_and_then send_ticket found ≡ Some key) × (option_and_then recv_ticket found ≡ Some other))
       ⊎ (((option_and_then send_ticket found ≡ Some key) × (option_and_then closed_ticket found ≡ Some other))
       ⊎ ((option_and_then recv_ticket found ≡ Some key) × (option_and_then closed_ticket found ≡ Some other))) → ⊥
@@ -136,94 +135,94 @@ module _ {T W : Type 0} (core : Channel T W) (senders : List ℕ) (receivers : L
       (different-append all.receives.names all.closeds.names sound.receives.once sound.closeds.once
       (λ name among. not_true (is_among name all.closeds.names) (λ closed.
       let a = receive_waits name among in let b = closed_waits name closed in
-      no_two name (entry_at operations name) refl a.0 b.0 (inr (inr (a.1, b.1))))))
+      no_two name (entry_at kept.operations name) refl a.0 b.0 (inr (inr (a.1, b.1))))))
       (λ name among. absent_both name all.receives.names all.closeds.names
       (not_true (is_among name all.receives.names) (λ receive.
       let a = send_waits name among in let b = receive_waits name receive in
-      no_two name (entry_at operations name) refl a.0 b.0 (inl (a.1, b.1))))
+      no_two name (entry_at kept.operations name) refl a.0 b.0 (inl (a.1, b.1))))
       (not_true (is_among name all.closeds.names) (λ closed.
       let a = send_waits name among in let b = closed_waits name closed in
-      no_two name (entry_at operations name) refl a.0 b.0 (inr (inl (a.1, b.1))))))
+      no_two name (entry_at kept.operations name) refl a.0 b.0 (inr (inl (a.1, b.1))))))
 
   -- no more operations and streams wait than have names
-  pub few_operations : length all.sends.names + length all.receives.names + length all.closeds.names ≤ length operations
+  pub few_operations : length all.sends.names + length all.receives.names + length all.closeds.names ≤ length kept.operations
   few_operations =
       let most = length-within (all.sends.names ++ (all.receives.names ++ all.closeds.names))
-      (keys_of operations) once_each
+      (keys_of kept.operations) once_each
       (λ name. among_either name all.sends.names (all.receives.names ++ all.closeds.names)
-      (is_among name (keys_of operations))
+      (is_among name (keys_of kept.operations))
       (λ send. let a = send_waits name send in whole.each_send.listed name a.0 a.1)
-      (among_either name all.receives.names all.closeds.names (is_among name (keys_of operations))
+      (among_either name all.receives.names all.closeds.names (is_among name (keys_of kept.operations))
       (λ receive. let a = receive_waits name receive in whole.each_receive.listed name a.0 a.1)
       (λ closed. let a = closed_waits name closed in whole.each_closed.listed name a.0 a.1))) in
-      let count = length-map operations (λ (entry : ℕ × Started T). entry.0) in
+      let count = length-map kept.operations (λ (entry : ℕ × Started T). entry.0) in
       let one = length-append all.sends.names (all.receives.names ++ all.closeds.names) in
       let two = length-append all.receives.names all.closeds.names in
       omega arith
 
-  pub few_streams : length all.streams.names ≤ length receivers
+  pub few_streams : length all.streams.names ≤ length kept.receivers
   few_streams =
-      let most = length-within all.streams.names (keys_of receivers) (AreSound-IsWhole).streams.once stream_waits in
-      let count = length-map receivers (λ (entry : ℕ × Option ℕ). entry.0) in
+      let most = length-within all.streams.names (keys_of kept.receivers) (AreSound-IsWhole).streams.once stream_waits in
+      let count = length-map kept.receivers (λ (entry : ℕ × Option ℕ). entry.0) in
       omega arith
 
   -- as many wait as there are keys
-  pub count_waiting : waiting_in all ≡ length (keys core.sends) + length (keys core.receives) + length
-      (keys core.streams) + length (keys core.closeds)
+  pub count_waiting : waiting_in all ≡ length (keys kept.core.sends) + length (keys kept.core.receives) + length
+      (keys kept.core.streams) + length (keys kept.core.closeds)
   count_waiting =
-      let a = as_many (ticket_at send_ticket operations) (keys_of operations) core.sends whole.each_send in
-      let b = as_many (ticket_at recv_ticket operations) (keys_of operations) core.receives whole.each_receive in
-      let c = as_many (ticket_at stream_ticket receivers) (keys_of receivers) core.streams whole.each_stream in
-      let d = as_many (ticket_at closed_ticket operations) (keys_of operations) core.closeds whole.each_closed in
+      let a = as_many (ticket_at send_ticket kept.operations) (keys_of kept.operations) kept.core.sends whole.each_send in
+      let b = as_many (ticket_at recv_ticket kept.operations) (keys_of kept.operations) kept.core.receives whole.each_receive in
+      let c = as_many (ticket_at stream_ticket kept.receivers) (keys_of kept.receivers) kept.core.streams whole.each_stream in
+      let d = as_many (ticket_at closed_ticket kept.operations) (keys_of kept.operations) kept.core.closeds whole.each_closed in
       omega arith
 
   -- so their number fits
-  pub few_waiting : length operations < 2 ^ 63 → length receivers < 2 ^ 63 → waiting_in all < 2 ^ 64
+  pub few_waiting : length kept.operations < 2 ^ 63 → length kept.receivers < 2 ^ 63 → waiting_in all < 2 ^ 64
   few_waiting few others = let a = few_operations in let b = few_streams in omega arith
 
   -- what is started under a name
-  started : (name : ℕ) (operation : Started T) → entry_at operations name ≡ Some operation
-      → operation_in (map (λ entry. (entry.0, operation_shown entry.1)) operations) name
+  started : (name : ℕ) (operation : Started T) → entry_at kept.operations name ≡ Some operation
+      → operation_in (map (λ entry. (entry.0, operation_shown entry.1)) kept.operations) name
       ≡ Some (operation_shown operation)
-  started name operation e = operation_in-entry_at operations name
+  started name operation e = operation_in-entry_at kept.operations name
       ∙ ap (λ (found : Option (Started T)). option_map operation_shown found) e
 
-  pub is_send : (name key : ℕ) → ticket_at send_ticket operations name ≡ Some key
+  pub is_send : (name key : ℕ) → ticket_at send_ticket kept.operations name ≡ Some key
       → (sender : ℕ) × (message : Option T) × (operation_in
-      (map (λ entry. (entry.0, operation_shown entry.1)) operations) name ≡ Some (sending sender message))
-  is_send name key has = go (entry_at operations name) refl has
+      (map (λ entry. (entry.0, operation_shown entry.1)) kept.operations) name ≡ Some (sending sender message))
+  is_send name key has = go (entry_at kept.operations name) refl has
     where
-      go : (found : Option (Started T)) → entry_at operations name ≡ found
+      go : (found : Option (Started T)) → entry_at kept.operations name ≡ found
           → option_and_then send_ticket found ≡ Some key
           → (sender : ℕ) × (message : Option T) × (operation_in
-          (map (λ entry. (entry.0, operation_shown entry.1)) operations) name ≡ Some (sending sender message))
+          (map (λ entry. (entry.0, operation_shown entry.1)) kept.operations) name ≡ Some (sending sender message))
       go None e h = cc
       go (Some (Send sender message ticket)) e h = (sender, message, started name (Send sender message ticket) e)
       go (Some (Recv receiver ticket)) e h = cc
       go (Some (Closed sender ticket)) e h = cc
 
-  pub is_receive : (name key : ℕ) → ticket_at recv_ticket operations name ≡ Some key
-      → (receiver : ℕ) × (operation_in (map (λ entry. (entry.0, operation_shown entry.1)) operations) name
+  pub is_receive : (name key : ℕ) → ticket_at recv_ticket kept.operations name ≡ Some key
+      → (receiver : ℕ) × (operation_in (map (λ entry. (entry.0, operation_shown entry.1)) kept.operations) name
       ≡ Some (receiving receiver))
-  is_receive name key has = go (entry_at operations name) refl has
+  is_receive name key has = go (entry_at kept.operations name) refl has
     where
-      go : (found : Option (Started T)) → entry_at operations name ≡ found
+      go : (found : Option (Started T)) → entry_at kept.operations name ≡ found
           → option_and_then recv_ticket found ≡ Some key
-          → (receiver : ℕ) × (operation_in (map (λ entry. (entry.0, operation_shown entry.1)) operations) name
+          → (receiver : ℕ) × (operation_in (map (λ entry. (entry.0, operation_shown entry.1)) kept.operations) name
           ≡ Some (receiving receiver))
       go None e h = cc
       go (Some (Send sender message ticket)) e h = cc
       go (Some (Recv receiver ticket)) e h = (receiver, started name (Recv receiver ticket) e)
       go (Some (Closed sender ticket)) e h = cc
 
-  pub is_awaiting : (name key : ℕ) → ticket_at closed_ticket operations name ≡ Some key
-      → (sender : ℕ) × (operation_in (map (λ entry. (entry.0, operation_shown entry.1)) operations) name
+  pub is_awaiting : (name key : ℕ) → ticket_at closed_ticket kept.operations name ≡ Some key
+      → (sender : ℕ) × (operation_in (map (λ entry. (entry.0, operation_shown entry.1)) kept.operations) name
       ≡ Some (awaiting_close sender))
-  is_awaiting name key has = go (entry_at operations name) refl has
+  is_awaiting name key has = go (entry_at kept.operations name) refl has
     where
-      go : (found : Option (Started T)) → entry_at operations name ≡ found
+      go : (found : Option (Started T)) → entry_at kept.operations name ≡ found
           → option_and_then closed_ticket found ≡ Some key
-          → (sender : ℕ) × (operation_in (map (λ entry. (entry.0, operation_shown entry.1)) operations) name
+          → (sender : ℕ) × (operation_in (map (λ entry. (entry.0, operation_shown entry.1)) kept.operations) name
           ≡ Some (awaiting_close sender))
       go None e h = cc
       go (Some (Send sender message ticket)) e h = cc
