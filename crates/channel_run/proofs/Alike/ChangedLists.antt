@@ -35,7 +35,8 @@ AreSameNames-inserted names others new count each =
     last false false = refl
 
 -- one name fewer, of names that stand once each
-pub AreSameNames-removed : (names others : List ℕ) (name : ℕ) → AreDifferent names → is_among name names ≡ true
+pub AreSameNames-removed : (names others : List ℕ) (name : ℕ) → AreDifferent names
+    → is_among name names ≡ true
     → length names ≡ suc (length others) → ((other : ℕ)
     → is_among other others ≡ (not (name == other) && is_among other names)) → AreSameNames others (without name names)
 AreSameNames-removed names others name once among count each =
@@ -66,7 +67,8 @@ SameLookUps-inserted {T} operations others op operation fresh here elsewhere nam
     rest apart None e = rw e (look_up-cons name (op, operation) []
         ∙ ap (λ (same : Bool). cond same (Some operation) None) apart)
 
-    added : (op == name) ≡ false → look_up name (operations ++ (op, operation) ∷ []) ≡ look_up name operations
+    added : (op == name) ≡ false
+        → look_up name (operations ++ (op, operation) ∷ []) ≡ look_up name operations
     added apart = look_up-append name operations (op, operation) ∙ rest apart (look_up name operations) refl
 
 -- an operation whose send has finished
@@ -80,7 +82,8 @@ SameLookUps-changed operations others op here elsewhere name =
     (λ apart. elsewhere name apart ∙ sym (look_up-with_finished op name operations apart))
 
 -- an operation that was given up
-pub SameLookUps-removed : {T : Type 0} (operations others : List (ℕ × Operation T)) (op : ℕ) → look_up op others ≡ None
+pub SameLookUps-removed : {T : Type 0} (operations others : List (ℕ × Operation T)) (op : ℕ)
+    → look_up op others ≡ None
     → ((name : ℕ) → (op == name) ≡ false → look_up name others ≡ look_up name operations)
     → SameLookUps others (without_operation op operations)
 SameLookUps-removed operations others op here elsewhere name =

@@ -32,8 +32,11 @@ pub live_receivers-AreDifferent : {T : Type 0} (kind : Kind) (past : Past T) →
 live_receivers-AreDifferent kind [] legal = (refl, tt)
 live_receivers-AreDifferent kind ((CloneReceiver of new, reply) ∷ past) legal =
     ((allowed (view_of kind past) (CloneReceiver of new) legal.2).fresh, live_receivers-AreDifferent kind past legal.0)
-live_receivers-AreDifferent kind ((UpgradeReceiver of new, Upgraded true) ∷ past) legal =
-    ((allowed (view_of kind past) (UpgradeReceiver of new) legal.2).fresh, live_receivers-AreDifferent kind past legal.0)
+live_receivers-AreDifferent kind ((UpgradeReceiver of new, Upgraded true) ∷ past) legal = (
+  (allowed (view_of kind past)
+      (UpgradeReceiver of new) legal.2).fresh,
+  live_receivers-AreDifferent kind past legal.0,
+)
 live_receivers-AreDifferent kind ((DropReceiver name, reply) ∷ past) legal =
     AreDifferent-without name (live_receivers past) (live_receivers-AreDifferent kind past legal.0)
 live_receivers-AreDifferent kind ((step, reply) ∷ past) legal = live_receivers-AreDifferent kind past legal.0
@@ -41,21 +44,34 @@ live_receivers-AreDifferent kind ((step, reply) ∷ past) legal = live_receivers
 pub live_weak_senders-AreDifferent : {T : Type 0} (kind : Kind) (past : Past T) → IsLegal kind past
     → AreDifferent (live_weak_senders past)
 live_weak_senders-AreDifferent kind [] legal = tt
-live_weak_senders-AreDifferent kind ((CloneWeakSender of new, reply) ∷ past) legal =
-    ((allowed (view_of kind past) (CloneWeakSender of new) legal.2).fresh, live_weak_senders-AreDifferent kind past legal.0)
-live_weak_senders-AreDifferent kind ((DowngradeSender of new, reply) ∷ past) legal =
-    ((allowed (view_of kind past) (DowngradeSender of new) legal.2).fresh, live_weak_senders-AreDifferent kind past legal.0)
+live_weak_senders-AreDifferent kind ((CloneWeakSender of new, reply) ∷ past) legal = (
+  (allowed (view_of kind past)
+      (CloneWeakSender of new) legal.2).fresh,
+  live_weak_senders-AreDifferent kind past legal.0,
+)
+live_weak_senders-AreDifferent kind ((DowngradeSender of new, reply) ∷ past) legal = (
+  (allowed (view_of kind past)
+      (DowngradeSender of new) legal.2).fresh,
+  live_weak_senders-AreDifferent kind past legal.0,
+)
 live_weak_senders-AreDifferent kind ((DropWeakSender name, reply) ∷ past) legal =
     AreDifferent-without name (live_weak_senders past) (live_weak_senders-AreDifferent kind past legal.0)
 live_weak_senders-AreDifferent kind ((step, reply) ∷ past) legal = live_weak_senders-AreDifferent kind past legal.0
 
-pub live_weak_receivers-AreDifferent : {T : Type 0} (kind : Kind) (past : Past T) → IsLegal kind past
+pub live_weak_receivers-AreDifferent : {T : Type 0} (kind : Kind) (past : Past T)
+    → IsLegal kind past
     → AreDifferent (live_weak_receivers past)
 live_weak_receivers-AreDifferent kind [] legal = tt
-live_weak_receivers-AreDifferent kind ((CloneWeakReceiver of new, reply) ∷ past) legal =
-    ((allowed (view_of kind past) (CloneWeakReceiver of new) legal.2).fresh, live_weak_receivers-AreDifferent kind past legal.0)
-live_weak_receivers-AreDifferent kind ((DowngradeReceiver of new, reply) ∷ past) legal =
-    ((allowed (view_of kind past) (DowngradeReceiver of new) legal.2).fresh, live_weak_receivers-AreDifferent kind past legal.0)
+live_weak_receivers-AreDifferent kind ((CloneWeakReceiver of new, reply) ∷ past) legal = (
+  (allowed (view_of kind past)
+      (CloneWeakReceiver of new) legal.2).fresh,
+  live_weak_receivers-AreDifferent kind past legal.0,
+)
+live_weak_receivers-AreDifferent kind ((DowngradeReceiver of new, reply) ∷ past) legal = (
+  (allowed (view_of kind past)
+      (DowngradeReceiver of new) legal.2).fresh,
+  live_weak_receivers-AreDifferent kind past legal.0,
+)
 live_weak_receivers-AreDifferent kind ((DropWeakReceiver name, reply) ∷ past) legal =
     AreDifferent-without name (live_weak_receivers past) (live_weak_receivers-AreDifferent kind past legal.0)
 live_weak_receivers-AreDifferent kind ((step, reply) ∷ past) legal = live_weak_receivers-AreDifferent kind past legal.0
@@ -91,14 +107,16 @@ pub names_of-without_operation : {T : Type 0} (op : ℕ) (operations : List (ℕ
 names_of-without_operation op [] = refl
 names_of-without_operation {T} op (entry ∷ operations) = go (entry.0 == op) (names_of-without_operation op operations)
   where
-    go : (here : Bool) → names_of (without_operation op operations) ≡ without op (names_of operations)
+    go : (here : Bool)
+        → names_of (without_operation op operations) ≡ without op (names_of operations)
         → names_of (cond (not here) (entry ∷ without_operation op operations) (without_operation op operations))
         ≡ cond (not here) (entry.0 ∷ without op (names_of operations)) (without op (names_of operations))
     go true rest = rest
     go false rest = ap (λ names. entry.0 ∷ names) rest
 
 -- a name that has no operation isn't among the names
-pub fresh_name : {T : Type 0} (past : Past T) (op : ℕ) → is_some (look_up op (live_operations past)) ≡ false
+pub fresh_name : {T : Type 0} (past : Past T) (op : ℕ)
+    → is_some (look_up op (live_operations past)) ≡ false
     → is_among op (names_of (live_operations past)) ≡ false
 fresh_name past op fresh = sym (is_some-look_up op (live_operations past)) ∙ fresh
 

@@ -63,7 +63,8 @@ length-within (first ∷ names) others once within =
     let rest = length-within names (without first others) once.1 inside in
     omega arith
   where
-    apart : (name : ℕ) → is_among name names ≡ true → (same : Bool) → (first == name) ≡ same → (first == name) ≡ false
+    apart : (name : ℕ) → is_among name names ≡ true → (same : Bool) → (first == name) ≡ same
+        → (first == name) ≡ false
     apart name among true e = let no : is_among name names ≡ false = rw (← eqb-true first name e) once.0 in cc
     apart name among false e = e
 
@@ -80,7 +81,8 @@ length-within (first ∷ names) others once within =
 pub AreSameNames-refl : (names : List ℕ) → AreSameNames names names
 AreSameNames-refl names = record { count = refl; each = λ name. refl }
 
-pub AreSameNames-trans : (names others third : List ℕ) → AreSameNames names others → AreSameNames others third
+pub AreSameNames-trans : (names others third : List ℕ) → AreSameNames names others
+    → AreSameNames others third
     → AreSameNames names third
 AreSameNames-trans names others third same more =
     record { count = same.count ∙ more.count; each = λ name. same.each name ∙ more.each name }
@@ -110,11 +112,13 @@ AreSameNames-added names others new same =
     last false false = refl
 
 -- a new name comes last here and first there, and all else is the same
-pub AreSameNames-pushed : (names : List ℕ) (new : ℕ) → AreSameNames (names ++ new ∷ []) (new ∷ names)
+pub AreSameNames-pushed : (names : List ℕ) (new : ℕ)
+    → AreSameNames (names ++ new ∷ []) (new ∷ names)
 AreSameNames-pushed names new = AreSameNames-added names names new (AreSameNames-refl names)
 
 -- a name is given up; where each stands once in one of the lists, as many are left
-pub AreSameNames-without : (names others : List ℕ) (name : ℕ) → AreDifferent others → AreSameNames names others
+pub AreSameNames-without : (names others : List ℕ) (name : ℕ) → AreDifferent others
+    → AreSameNames names others
     → AreSameNames (without name names) (without name others)
 AreSameNames-without names others name once same =
     record {
@@ -123,12 +127,14 @@ AreSameNames-without names others name once same =
           ∙ ap (λ among. not (name == other) && among) (same.each other) ∙ sym (is_among-without_is other name others);
     }
   where
-    inside : (other : ℕ) → is_among other (without name others) ≡ true → is_among other (without name names) ≡ true
+    inside : (other : ℕ) → is_among other (without name others) ≡ true
+        → is_among other (without name names) ≡ true
     inside other among = is_among-without_is other name names
         ∙ ap (λ among. not (name == other) && among) (same.each other) ∙ sym (is_among-without_is other name others)
         ∙ among
 
-    count : (among : Bool) → is_among name others ≡ among → length (without name names) ≡ length (without name others)
+    count : (among : Bool) → is_among name others ≡ among
+        → length (without name names) ≡ length (without name others)
     count true e =
         let shorter = length-without name others once e in
         let less = length-without_among name names (same.each name ∙ e) in
@@ -141,7 +147,8 @@ AreSameNames-without names others name once same =
         ∙ ap (λ rest. length rest) (sym (without-absent name others e))
 
 -- As many names as some that stand once each, and the same ones, stand once each too.
-pub AreDifferent-AreSameNames : (names others : List ℕ) → AreDifferent others → AreSameNames names others
+pub AreDifferent-AreSameNames : (names others : List ℕ) → AreDifferent others
+    → AreSameNames names others
     → AreDifferent names
 AreDifferent-AreSameNames [] others once same = tt
 AreDifferent-AreSameNames (first ∷ names) others once same =
@@ -160,10 +167,12 @@ AreDifferent-AreSameNames (first ∷ names) others once same =
     either again name among false e = sym (ap (λ here. here || is_among name names) e) ∙ same.each name ∙ among
 
     -- were it among the rest, the others would be no more than those
-    all_in_rest : is_among first names ≡ true → (name : ℕ) → is_among name others ≡ true → is_among name names ≡ true
+    all_in_rest : is_among first names ≡ true → (name : ℕ) → is_among name others ≡ true
+        → is_among name names ≡ true
     all_in_rest again name among = either again name among (first == name) refl
 
-    is_among-apart : is_among first names ≡ false → (name : ℕ) (here : Bool) → (first == name) ≡ here
+    is_among-apart : is_among first names ≡ false → (name : ℕ) (here : Bool)
+        → (first == name) ≡ here
         → is_among name names ≡ (not (first == name) && ((first == name) || is_among name names))
     is_among-apart absent name true e = rw e (rw (← eqb-true first name e) absent)
     is_among-apart absent name false e = rw e refl
@@ -186,7 +195,8 @@ AreDifferent-AreSameNames (first ∷ names) others once same =
         absurd (omega arith)
 
 -- both are empty or neither is
-pub has_none-same : (names others : List ℕ) → AreSameNames names others → has_none names ≡ has_none others
+pub has_none-same : (names others : List ℕ) → AreSameNames names others
+    → has_none names ≡ has_none others
 has_none-same names others same = go names others same.count
   where
     go : (names others : List ℕ) → length names ≡ length others → has_none names ≡ has_none others

@@ -18,7 +18,8 @@ use Rattle.channel_model.proofs.NameLists.{is_among-take}
 use Rattle.channel_model.proofs.LookUps.{look_up}
 use Rattle.channel_model.proofs.WhoWaits.{AreLive-IsLegal}
 
-notice_absent : (name : ℕ) (roster : Roster) → is_among name roster.names ≡ false → notice_in name roster ≡ Absent
+notice_absent : (name : ℕ) (roster : Roster) → is_among name roster.names ≡ false
+    → notice_in name roster ≡ Absent
 notice_absent name roster absent =
     ap (λ told. cond told Told (cond (is_among name roster.names) Untold Absent))
     (is_among-take roster.told name roster.names absent)
@@ -32,13 +33,15 @@ absent_if false is live isnt = refl
 abbrev by_roster : (sends receives : Bool) (a b c : Notice) → Notice
 by_roster sends receives a b c = cond sends a (cond receives b c)
 
-in_sends : (sends receives : Bool) (a b c : Notice) → receives ≡ false → c ≡ Absent → (sends ≡ false → a ≡ Absent)
+in_sends : (sends receives : Bool) (a b c : Notice) → receives ≡ false → c ≡ Absent
+    → (sends ≡ false → a ≡ Absent)
     → by_roster sends receives a b c ≡ a
 in_sends true receives a b c r e f = refl
 in_sends false true a b c r e f = cc
 in_sends false false a b c r e f = e ∙ sym (f refl)
 
-in_receives : (sends receives : Bool) (a b c : Notice) → sends ≡ false → c ≡ Absent → (receives ≡ false → b ≡ Absent)
+in_receives : (sends receives : Bool) (a b c : Notice) → sends ≡ false → c ≡ Absent
+    → (receives ≡ false → b ≡ Absent)
     → by_roster sends receives a b c ≡ b
 in_receives true receives a b c s e f = cc
 in_receives false true a b c s e f = refl
@@ -58,15 +61,18 @@ notice_of_op {T} kind past run op operation stands o = go operation o
     live : AreLive past (rosters past)
     live = AreLive-IsLegal kind past stands.legal
 
-    no_send : is_unsent (operation_of past op) ≡ false → is_among op (rosters past).sends.names ≡ false
+    no_send : is_unsent (operation_of past op) ≡ false
+        → is_among op (rosters past).sends.names ≡ false
     no_send isnt = absent_if (is_among op (rosters past).sends.names) (is_unsent (operation_of past op))
         (live.sends op) isnt
 
-    no_receive : is_receive (operation_of past op) ≡ false → is_among op (rosters past).receives.names ≡ false
+    no_receive : is_receive (operation_of past op) ≡ false
+        → is_among op (rosters past).receives.names ≡ false
     no_receive isnt = absent_if (is_among op (rosters past).receives.names) (is_receive (operation_of past op))
         (live.receives op) isnt
 
-    no_closed : is_awaiting (operation_of past op) ≡ false → is_among op (rosters past).closeds.names ≡ false
+    no_closed : is_awaiting (operation_of past op) ≡ false
+        → is_among op (rosters past).closeds.names ≡ false
     no_closed isnt = absent_if (is_among op (rosters past).closeds.names) (is_awaiting (operation_of past op))
         (live.closeds op) isnt
 

@@ -50,7 +50,8 @@ SameLookUps-added {T} operations others op operation fresh same name =
     one : look_up name ((op, operation) ∷ []) ≡ cond (op == name) (Some operation) None
     one = look_up-cons name (op, operation) []
 
-    go : (found : Option (Operation T)) → look_up name others ≡ found → (here : Bool) → (op == name) ≡ here
+    go : (found : Option (Operation T)) → look_up name others ≡ found → (here : Bool)
+        → (op == name) ≡ here
         → cond (is_some (look_up name others)) (look_up name others) (look_up name ((op, operation) ∷ []))
         ≡ cond (op == name) (Some operation) (look_up name others)
     go None e here h = rw e one
@@ -80,7 +81,8 @@ pub look_up-without_same : {T : Type 0} (op : ℕ) (operations : List (ℕ × Op
 look_up-without_same op [] = refl
 look_up-without_same {T} op (entry ∷ operations) = go (entry.0 == op) refl (look_up-without_same op operations)
   where
-    go : (here : Bool) → (entry.0 == op) ≡ here → look_up op (without_operation op operations) ≡ None
+    go : (here : Bool) → (entry.0 == op) ≡ here
+        → look_up op (without_operation op operations) ≡ None
         → look_up op (cond (not here) (entry ∷ without_operation op operations) (without_operation op operations))
         ≡ None
     go true e rest = rest
@@ -115,7 +117,8 @@ SameLookUps-without {T} operations others op same name =
 -- ---- who borrows
 
 -- an operation of some name passes the test
-pub record SomePasses {T : Type 0} (test : Operation T → Bool) (operations : List (ℕ × Operation T)) : Type 0 where
+pub record SomePasses {T : Type 0} (test : Operation T → Bool)
+    (operations : List (ℕ × Operation T)) : Type 0 where
   pub name : ℕ
   pub operation : Operation T
   pub found : look_up name operations ≡ Some operation
@@ -129,7 +132,8 @@ SomePasses-any test [] once any = cc
 SomePasses-any {T} test (entry ∷ operations) once any =
     go (test entry.1) refl (λ rest. SomePasses-any test operations once.1 rest)
   where
-    apart : (name : ℕ) (operation : Operation T) → look_up name operations ≡ Some operation → (same : Bool)
+    apart : (name : ℕ) (operation : Operation T) → look_up name operations ≡ Some operation
+        → (same : Bool)
         → (entry.0 == name) ≡ same → (entry.0 == name) ≡ false
     apart name operation found false e = e
     apart name operation found true e =

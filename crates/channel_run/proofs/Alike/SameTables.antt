@@ -129,7 +129,8 @@ module _ {T : Type 0} (view other : View T) (alike : AreAlike view other) where
   is_taken-AreAlike : (step : Step T) → is_taken view step ≡ is_taken other step
   is_taken-AreAlike step = ap (λ (live : Option Bool). unwrap_or live false) (new_is_live-AreAlike step)
 
-  is_one_too_many-reordered : (step : Step T) → is_one_too_many reordered step ≡ is_one_too_many other step
+  is_one_too_many-reordered : (step : Step T)
+      → is_one_too_many reordered step ≡ is_one_too_many other step
   is_one_too_many-reordered (CloneSender of new) = ap (λ count. nat_lt handle_limit count) alike.senders.count
   is_one_too_many-reordered (CloneReceiver of new) = ap (λ count. nat_lt handle_limit count) alike.receivers.count
   is_one_too_many-reordered (UpgradeSender of new) =
@@ -151,7 +152,8 @@ module _ {T : Type 0} (view other : View T) (alike : AreAlike view other) where
       (alike.operations.each op)
   brings_message-AreAlike step = refl
 
-  polls_newcomer-reordered : (step : Step T) → polls_newcomer reordered step ≡ polls_newcomer other step
+  polls_newcomer-reordered : (step : Step T)
+      → polls_newcomer reordered step ≡ polls_newcomer other step
   polls_newcomer-reordered (Poll op) =
       ap (λ (operation : Option (Operation T)). not (waits_anywhere op other.rosters)
       && not (is_finished_send operation)) (alike.operations.each op)
@@ -184,7 +186,8 @@ module _ {T : Type 0} (view other : View T) (alike : AreAlike view other) where
         ∙ ap (λ many. first_refusal (is_known other step) (is_taken other step) (is_borrowed other step) many)
         (ap (λ (shown : View T). is_one_too_many shown step) is-reordered ∙ is_one_too_many-reordered step)
 
-    pub may_want_memory_in-AreAlike : (step : Step T) → may_want_memory_in view step ≡ may_want_memory_in other step
+    pub may_want_memory_in-AreAlike : (step : Step T)
+        → may_want_memory_in view step ≡ may_want_memory_in other step
     may_want_memory_in-AreAlike step =
         ap (λ (refusal : Option Refusal). wants (is_none refusal) (makes_name view step) (brings_message view step)
         (is_none view.capacity) view.closed (polls_newcomer view step) (is_pending (reply_in view step)))

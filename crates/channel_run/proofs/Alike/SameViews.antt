@@ -25,7 +25,8 @@ AreAlike-refl run = record {
   rosters = refl;
 }
 
-pub AreAlike-trans : {T : Type 0} (run other third : View T) → AreAlike run other → AreAlike other third
+pub AreAlike-trans : {T : Type 0} (run other third : View T) → AreAlike run other
+    → AreAlike other third
     → AreAlike run third
 AreAlike-trans run other third same more = record {
   capacity = same.capacity ∙ more.capacity;
@@ -48,14 +49,16 @@ IsMade-AreAlike before after other step reply is alike =
     record { replied = is.replied; shows = AreAlike-trans other after (after_step before step reply) alike is.shows }
 
 -- what stands for a run stands for each that shows the same
-pub StandsFor-AreAlike : {T : Type 0} (kind : Kind) (past : Past T) (run other : View T) → StandsFor kind past run
+pub StandsFor-AreAlike : {T : Type 0} (kind : Kind) (past : Past T) (run other : View T)
+    → StandsFor kind past run
     → AreAlike other run → StandsFor kind past other
 StandsFor-AreAlike kind past run other stands alike =
     record { legal = stands.legal; shows = AreAlike-trans other run (view_of kind past) alike stands.shows }
 
 -- ---- views that differ in the order of one list
 
-pub alike-receivers : {T : Type 0} (run : View T) (names others : List ℕ) → AreSameNames names others
+pub alike-receivers : {T : Type 0} (run : View T) (names others : List ℕ)
+    → AreSameNames names others
     → AreAlike (record run { receivers = names }) (record run { receivers = others })
 alike-receivers run names others same = record {
   capacity = refl;
@@ -87,7 +90,8 @@ alike-operations run operations others same = record {
 -- ---- views that differ in what is told
 
 -- the flag and the rosters are these, and all else is the same
-pub told : {T : Type 0} (run : View T) (closed closed' : Bool) (all all' : Rosters) → closed ≡ closed' → all ≡ all'
+pub told : {T : Type 0} (run : View T) (closed closed' : Bool) (all all' : Rosters)
+    → closed ≡ closed' → all ≡ all'
     → AreAlike (record run { closed = closed; rosters = all }) (record run { closed = closed'; rosters = all' })
 told run closed closed' all all' c r = record {
   capacity = refl;

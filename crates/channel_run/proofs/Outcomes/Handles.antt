@@ -40,7 +40,8 @@ ending_none : (none : Bool) (all : Rosters) → all ≡ after_last_receiver none
 ending_none true all = refl
 ending_none false all = refl
 
-pub made-drop_sender : {T : Type 0} (run : View T) (name : ℕ) → has_none (without name run.senders) ≡ false
+pub made-drop_sender : {T : Type 0} (run : View T) (name : ℕ)
+    → has_none (without name run.senders) ≡ false
     → IsMade run (DropSender name) Done (record run { senders = without name run.senders })
 made-drop_sender run name left = is_made run (DropSender name) Done
     (record run { senders = without name run.senders }) refl
@@ -73,7 +74,8 @@ made-drop_last_sender run name c last = is_made run (DropSender name) Done
     (sym (ap (λ closed. after_closing closed (closed || has_none (without name run.senders)) run.rosters) c
     ∙ ap (λ none. after_closing false none run.rosters) last)))
 
-pub made-drop_receiver : {T : Type 0} (run : View T) (name : ℕ) → has_none (without name run.receivers) ≡ false
+pub made-drop_receiver : {T : Type 0} (run : View T) (name : ℕ)
+    → has_none (without name run.receivers) ≡ false
     → IsMade run (DropReceiver name) Done (record run
     { receivers = without name run.receivers; rosters = own_left name run.rosters })
 made-drop_receiver run name left = is_made run (DropReceiver name) Done

@@ -17,7 +17,8 @@ use Rattle.channel_run.proofs.Outcomes.Tellings.{is_made, accepted_told, receive
 
 -- ---- sending at once
 
-pub made-try_send_closed : {T : Type 0} (run : View T) (sender : ℕ) (message : T) → run.closed ≡ true
+pub made-try_send_closed : {T : Type 0} (run : View T) (sender : ℕ) (message : T)
+    → run.closed ≡ true
     → IsMade run (TrySend sender message) (TrySent (Err (Closed message))) run
 made-try_send_closed run sender message c =
     is_made run (TrySend sender message) (TrySent (Err (Closed message))) run
@@ -30,7 +31,8 @@ made-try_send_full run sender message c f =
     (sym (ap (λ closed. try_send_reply closed (is_full_in run) message) c
     ∙ ap (λ full. try_send_reply false full message) f)) (AreAlike-refl run)
 
-pub made-try_send_accepted : {T : Type 0} (run : View T) (sender : ℕ) (message : T) → run.closed ≡ false
+pub made-try_send_accepted : {T : Type 0} (run : View T) (sender : ℕ) (message : T)
+    → run.closed ≡ false
     → is_full_in run ≡ false → IsMade run (TrySend sender message) (TrySent (Ok tt))
     (record run { messages = run.messages ++ message ∷ []; rosters = accepted_told run.rosters })
 made-try_send_accepted run sender message c f =
@@ -40,7 +42,8 @@ made-try_send_accepted run sender message c f =
     ∙ ap (λ full. try_send_reply false full message) f))
     (AreAlike-refl (record run { messages = run.messages ++ message ∷ []; rosters = accepted_told run.rosters }))
 
-pub made-force_send_closed : {T : Type 0} (run : View T) (sender : ℕ) (message : T) → run.closed ≡ true
+pub made-force_send_closed : {T : Type 0} (run : View T) (sender : ℕ) (message : T)
+    → run.closed ≡ true
     → IsMade run (ForceSend sender message) (Forced (Err (send_error message))) run
 made-force_send_closed run sender message c =
     is_made run (ForceSend sender message) (Forced (Err (send_error message))) run
@@ -62,7 +65,8 @@ made-force_send_displacing {T} run sender message oldest c f o =
       rosters = accepted_told run.rosters;
     }))
 
-pub made-force_send_accepted : {T : Type 0} (run : View T) (sender : ℕ) (message : T) → run.closed ≡ false
+pub made-force_send_accepted : {T : Type 0} (run : View T) (sender : ℕ) (message : T)
+    → run.closed ≡ false
     → is_full_in run ≡ false → IsMade run (ForceSend sender message) (Forced (Ok None))
     (record run { messages = run.messages ++ message ∷ []; rosters = accepted_told run.rosters })
 made-force_send_accepted run sender message c f =

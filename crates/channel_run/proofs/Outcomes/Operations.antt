@@ -16,8 +16,10 @@ pub made-start_send : {T : Type 0} (run : View T) (op sender : ℕ) (message : T
     (record run { operations = run.operations ++ (op, sending sender (Some message)) ∷ [] })
 made-start_send run op sender message fresh = is_made run (StartSend op sender message) Done
     (record run { operations = run.operations ++ (op, sending sender (Some message)) ∷ [] }) refl
-    (alike-operations run (run.operations ++ (op, sending sender (Some message)) ∷ []) ((op, sending sender (Some message)) ∷ run.operations)
-    (AreSameOperations-added run.operations run.operations op (sending sender (Some message)) fresh (AreSameOperations-refl run.operations)))
+    (alike-operations run (run.operations ++ (op, sending sender (Some message)) ∷ [])
+    ((op, sending sender (Some message)) ∷ run.operations)
+    (AreSameOperations-added run.operations run.operations op (sending sender (Some message)) fresh
+    (AreSameOperations-refl run.operations)))
 
 pub made-start_recv : {T : Type 0} (run : View T) (op receiver : ℕ)
     → is_operation run op ≡ false → IsMade run (StartRecv op receiver) Done
@@ -25,15 +27,18 @@ pub made-start_recv : {T : Type 0} (run : View T) (op receiver : ℕ)
 made-start_recv run op receiver fresh = is_made run (StartRecv op receiver) Done
     (record run { operations = run.operations ++ (op, receiving receiver) ∷ [] }) refl
     (alike-operations run (run.operations ++ (op, receiving receiver) ∷ []) ((op, receiving receiver) ∷ run.operations)
-    (AreSameOperations-added run.operations run.operations op (receiving receiver) fresh (AreSameOperations-refl run.operations)))
+    (AreSameOperations-added run.operations run.operations op (receiving receiver) fresh
+    (AreSameOperations-refl run.operations)))
 
 pub made-start_closed : {T : Type 0} (run : View T) (op sender : ℕ)
     → is_operation run op ≡ false → IsMade run (StartClosed op sender) Done
     (record run { operations = run.operations ++ (op, awaiting_close sender) ∷ [] })
 made-start_closed run op sender fresh = is_made run (StartClosed op sender) Done
     (record run { operations = run.operations ++ (op, awaiting_close sender) ∷ [] }) refl
-    (alike-operations run (run.operations ++ (op, awaiting_close sender) ∷ []) ((op, awaiting_close sender) ∷ run.operations)
-    (AreSameOperations-added run.operations run.operations op (awaiting_close sender) fresh (AreSameOperations-refl run.operations)))
+    (alike-operations run (run.operations ++ (op, awaiting_close sender) ∷ [])
+    ((op, awaiting_close sender) ∷ run.operations)
+    (AreSameOperations-added run.operations run.operations op (awaiting_close sender) fresh
+    (AreSameOperations-refl run.operations)))
 
 pub made-drop_op : {T : Type 0} (run : View T) (op : ℕ)
     → IsMade run (DropOp op) Done (record run {

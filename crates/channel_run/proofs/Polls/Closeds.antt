@@ -58,7 +58,8 @@ module _ {T W : Type 0} (kept : Kept T W) (whole : Whole kept) (op : ℕ)
   is = fits-whole kept whole
 
   -- the list of closed operations is this now, and the others are as they were
-  fits-closeds : (list : Waiting W) (roster : Roster) → HoldsAt closed_ticket operations' list roster
+  fits-closeds : (list : Waiting W) (roster : Roster)
+      → HoldsAt closed_ticket operations' list roster
       → Fits (after one (record kept.core { closeds = list })) (record all { closeds = roster })
   fits-closeds list roster holds =
       fits-lists one kept.core.sends kept.core.receives list all.sends all.receives roster
@@ -68,7 +69,8 @@ module _ {T W : Type 0} (kept : Kept T W) (whole : Whole kept) (op : ℕ)
   abbrev gone : Rosters
   gone = record all { closeds = leave op all.closeds }
 
-  fits-gone : ticket' ≡ None → Fits (after one (record kept.core { closeds = left ticket kept.core.closeds })) gone
+  fits-gone : ticket' ≡ None
+      → Fits (after one (record kept.core { closeds = left ticket kept.core.closeds })) gone
   fits-gone none = fits-closeds (left ticket kept.core.closeds) (leave op all.closeds)
       (list-left one closed_ticket kept.core.closeds all.closeds is.fits_closeds none)
 
@@ -79,12 +81,14 @@ module _ {T W : Type 0} (kept : Kept T W) (whole : Whole kept) (op : ℕ)
       ∙ sym (has_none-length (keys_of kept.receivers))
 
   -- a poll that was ready
-  ready : (answer : Unit {0}) → Ready answer ≡ closed_poll (kept.core.receivers == 0) → ticket' ≡ None
+  ready : (answer : Unit {0}) → Ready answer ≡ closed_poll (kept.core.receivers == 0)
+      → ticket' ≡ None
       → Stepped run (Poll op) (ClosedPolled (Ready answer))
       (after one (record kept.core { closeds = left ticket kept.core.closeds }))
   ready answer replied none = go (kept.core.receivers == 0) refl replied
     where
-      go : (no_more : Bool) → (kept.core.receivers == 0) ≡ no_more → Ready answer ≡ closed_poll no_more
+      go : (no_more : Bool) → (kept.core.receivers == 0) ≡ no_more
+          → Ready answer ≡ closed_poll no_more
           → Stepped run (Poll op) (ClosedPolled (Ready answer))
           (after one (record kept.core { closeds = left ticket kept.core.closeds }))
       go false e replied = cc

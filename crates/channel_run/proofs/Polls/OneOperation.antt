@@ -61,22 +61,28 @@ module _ {T W : Type 0} (poll : OnePoll T W) where
 
   -- ---- the list of its kind, and those of the others
 
-  had : (ticket : Started T → Option ℕ) → ticket_at ticket poll.kept.operations poll.op ≡ ticket poll.was
+  had : (ticket : Started T → Option ℕ)
+      → ticket_at ticket poll.kept.operations poll.op ≡ ticket poll.was
   had ticket = ap (λ (found : Option (Started T)). option_and_then ticket found) poll.there
 
   module _ (ticket : Started T → Option ℕ) (list : Waiting W) (roster : Roster)
       (holds : HoldsAt ticket poll.kept.operations list roster) where
     pub list-same : ticket poll.now ≡ ticket poll.was → HoldsAt ticket poll.operations list roster
-    list-same = held-same ticket poll.op poll.kept.operations poll.operations (Some poll.now) poll.change (ticket poll.was) (had ticket)
+    list-same = held-same ticket poll.op poll.kept.operations poll.operations (Some poll.now) poll.change
+        (ticket poll.was) (had ticket)
         list roster holds
 
-    pub list-left : ticket poll.now ≡ None → HoldsAt ticket poll.operations (left (ticket poll.was) list) (leave poll.op roster)
-    list-left = held-left ticket poll.op poll.kept.operations poll.operations (Some poll.now) poll.change (ticket poll.was) (had ticket)
+    pub list-left : ticket poll.now ≡ None
+        → HoldsAt ticket poll.operations (left (ticket poll.was) list) (leave poll.op roster)
+    list-left = held-left ticket poll.op poll.kept.operations poll.operations (Some poll.now) poll.change
+        (ticket poll.was) (had ticket)
         list roster holds
 
-    pub list-waits : (payload : W) (list' : Waiting W) → Waits (ticket poll.was) list payload (ticket poll.now) list'
+    pub list-waits : (payload : W) (list' : Waiting W)
+        → Waits (ticket poll.was) list payload (ticket poll.now) list'
         → HoldsAt ticket poll.operations list' (wait poll.op roster)
-    list-waits = held-waits ticket poll.op poll.kept.operations poll.operations (Some poll.now) poll.change (ticket poll.was) (had ticket)
+    list-waits = held-waits ticket poll.op poll.kept.operations poll.operations (Some poll.now) poll.change
+        (ticket poll.was) (had ticket)
         list roster holds
 
   -- the run fits together where its three lists do
@@ -98,10 +104,12 @@ module _ {T W : Type 0} (poll : OnePoll T W) where
 
   same-shown : operation_shown poll.now ≡ operation_shown poll.was
       → AreSameOperations (operations_shown poll.operations) (operations_shown poll.kept.operations)
-  same-shown shows = operations-same poll.op poll.kept.operations poll.operations poll.was poll.now poll.there poll.change shows poll.same
+  same-shown shows = operations-same poll.op poll.kept.operations poll.operations poll.was poll.now poll.there
+      poll.change shows poll.same
 
   -- they show the same, but for a ticket
-  pub alike : (messages : List T) (rosters : Rosters) (reply : Reply T) → operation_shown poll.now ≡ operation_shown poll.was
+  pub alike : (messages : List T) (rosters : Rosters) (reply : Reply T)
+      → operation_shown poll.now ≡ operation_shown poll.was
       → IsMade run (Poll poll.op) reply (record run { messages = messages; rosters = rosters })
       → IsMade run (Poll poll.op) reply (record run
       { messages = messages; operations = operations_shown poll.operations; rosters = rosters })
@@ -114,7 +122,8 @@ module _ {T W : Type 0} (poll : OnePoll T W) where
 
   -- ---- what the poll did
 
-  pub done : {reply : Reply T} {core' : Channel T W} → Stepped run (Poll poll.op) reply (after core')
+  pub done : {reply : Reply T} {core' : Channel T W}
+      → Stepped run (Poll poll.op) reply (after core')
       → Outcome run (Poll poll.op) reply (after core')
   done {reply} {core'} stepped = record {
     whole = stepped.whole;
@@ -122,22 +131,29 @@ module _ {T W : Type 0} (poll : OnePoll T W) where
   }
 
   -- it begins to wait
-  pub newcomer : waits (send_ticket poll.was) poll.kept.core.sends ≡ false → waits (recv_ticket poll.was) poll.kept.core.receives ≡ false
-      → waits (closed_ticket poll.was) poll.kept.core.closeds ≡ false → is_finished_send (Some (operation_shown poll.was)) ≡ false
+  pub newcomer : waits (send_ticket poll.was) poll.kept.core.sends ≡ false
+      → waits (recv_ticket poll.was) poll.kept.core.receives ≡ false
+      → waits (closed_ticket poll.was) poll.kept.core.closeds ≡ false
+      → is_finished_send (Some (operation_shown poll.was)) ≡ false
       → polls_newcomer run (Poll poll.op) ≡ true
   newcomer a b c unfinished =
-      none_of (is_among poll.op all.sends.names) (is_among poll.op all.receives.names) (is_among poll.op all.closeds.names)
+      none_of (is_among poll.op all.sends.names) (is_among poll.op all.receives.names)
+      (is_among poll.op all.closeds.names)
       (is_finished_send (operation_in run.operations poll.op))
-      (held-absent send_ticket poll.kept.operations poll.op (send_ticket poll.was) (had send_ticket) poll.kept.core.sends all.sends
+      (held-absent send_ticket poll.kept.operations poll.op (send_ticket poll.was)
+      (had send_ticket) poll.kept.core.sends all.sends
       is.fits_sends a)
-      (held-absent recv_ticket poll.kept.operations poll.op (recv_ticket poll.was) (had recv_ticket) poll.kept.core.receives all.receives
+      (held-absent recv_ticket poll.kept.operations poll.op (recv_ticket poll.was)
+      (had recv_ticket) poll.kept.core.receives all.receives
       is.fits_receives b)
-      (held-absent closed_ticket poll.kept.operations poll.op (closed_ticket poll.was) (had closed_ticket) poll.kept.core.closeds
+      (held-absent closed_ticket poll.kept.operations poll.op (closed_ticket poll.was)
+      (had closed_ticket) poll.kept.core.closeds
       all.closeds is.fits_closeds c)
       (ap (λ (found : Option (Operation T)). is_finished_send found) live ∙ unfinished)
 
   -- it wanted memory, and nothing changed
-  pub wanted : send_ticket poll.now ≡ send_ticket poll.was → recv_ticket poll.now ≡ recv_ticket poll.was
+  pub wanted : send_ticket poll.now ≡ send_ticket poll.was
+      → recv_ticket poll.now ≡ recv_ticket poll.was
       → closed_ticket poll.now ≡ closed_ticket poll.was → operation_shown poll.now ≡ operation_shown poll.was
       → may_want_memory_in run (Poll poll.op) ≡ true
       → Outcome run (Poll poll.op) (Refused OutOfMemory None) (after poll.kept.core)
@@ -148,13 +164,16 @@ module _ {T W : Type 0} (poll : OnePoll T W) where
   }
     where
       fits : Fits (after poll.kept.core) all
-      fits = fits-lists poll.kept.core.sends poll.kept.core.receives poll.kept.core.closeds all.sends all.receives all.closeds
+      fits = fits-lists poll.kept.core.sends poll.kept.core.receives poll.kept.core.closeds all.sends
+          all.receives all.closeds
           (list-same send_ticket poll.kept.core.sends all.sends is.fits_sends a)
           (list-same recv_ticket poll.kept.core.receives all.receives is.fits_receives b)
           (list-same closed_ticket poll.kept.core.closeds all.closeds is.fits_closeds c)
 
       unchanged : AreAlike (shown_by (after poll.kept.core)) run
       unchanged =
-          subst (λ (r : Rosters). AreAlike (record run { operations = operations_shown poll.operations; rosters = r }) run)
+          subst (λ (r : Rosters). AreAlike
+          (record run { operations = operations_shown poll.operations; rosters = r }) run)
           (sym (shows-Fits (after poll.kept.core) all fits))
-          (alike-operations run (operations_shown poll.operations) (operations_shown poll.kept.operations) (same-shown shows))
+          (alike-operations run (operations_shown poll.operations) (operations_shown poll.kept.operations)
+          (same-shown shows))

@@ -15,12 +15,14 @@ use Rattle.channel_run.specs.RunSteps.{StepsTo}
 use Rattle.channel_run.proofs.Tables.Kept.{Kept, Whole, shown_by}
 
 -- a reply to a poll, and to want of memory
-abbrev pub polled : {T A : Type 0} → (Polled A → Reply T) → Result (Polled A) OutOfMemoryError → Reply T
+abbrev pub polled : {T A : Type 0} → (Polled A → Reply T) → Result (Polled A) OutOfMemoryError
+    → Reply T
 polled wrap (Ok poll) = wrap poll
 polled wrap (Err error) = Refused OutOfMemory None
 
 -- What a step did, and that what the run keeps fits together.
-pub record Outcome {T W : Type 0} (run : View T) (step : Step T) (reply : Reply T) (kept : Kept T W) : Type 0 where
+pub record Outcome {T W : Type 0} (run : View T) (step : Step T) (reply : Reply T)
+    (kept : Kept T W) : Type 0 where
   pub whole : Whole kept
   pub steps : StepsTo run step reply (shown_by kept)
 
@@ -29,12 +31,14 @@ pub none_of : (a b c finished : Bool) → a ≡ false → b ≡ false → c ≡ 
 none_of a b c finished e f g h = rw (e, f, g, h) refl
 
 -- the first part of what is said of an error
-pub first_on_err : {A E : Type 0} (B C : Type 0) (result : Result A E) → OnErr result (B × C) → OnErr result B
+pub first_on_err : {A E : Type 0} (B C : Type 0) (result : Result A E) → OnErr result (B × C)
+    → OnErr result B
 first_on_err B C (Ok answer) both = tt
 first_on_err B C (Err error) both = both.0
 
 -- both facts of a pending poll
-pub both_on_wait : {A E : Type 0} (B C : Type 0) (result : Result (Polled A) E) → OnWait result B → OnWait result C
+pub both_on_wait : {A E : Type 0} (B C : Type 0) (result : Result (Polled A) E) → OnWait result B
+    → OnWait result C
     → OnWait result (B × C)
 both_on_wait B C (Ok (Ready answer)) one other = tt
 both_on_wait B C (Ok Pending) one other = (one, other)

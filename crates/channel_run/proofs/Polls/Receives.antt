@@ -69,18 +69,21 @@ module _ {T W : Type 0} (kept : Kept T W) (whole : Whole kept) (op : ℕ)
   abbrev gone : Rosters
   gone = record all { receives = leave op all.receives }
 
-  fits-gone : ticket' ≡ None → Fits (after one (record kept.core { receives = left ticket kept.core.receives })) gone
+  fits-gone : ticket' ≡ None
+      → Fits (after one (record kept.core { receives = left ticket kept.core.receives })) gone
   fits-gone none = fits-receives (left ticket kept.core.receives) (leave op all.receives)
       (list-left one recv_ticket kept.core.receives all.receives
       is.fits_receives none)
 
   -- a poll that was ready
-  ready : (answer : Result T RecvError) → Ready answer ≡ recv_poll (oldest kept.core) kept.core.closed
+  ready : (answer : Result T RecvError)
+      → Ready answer ≡ recv_poll (oldest kept.core) kept.core.closed
       → ticket' ≡ None
       → Stepped run (Poll op) (RecvPolled (Ready answer)) (after one (polled_receive ticket kept.core).channel)
   ready answer replied none = go kept.core.messages refl kept.core.closed refl replied
     where
-      go : (messages : List T) → kept.core.messages ≡ messages → (closed : Bool) → kept.core.closed ≡ closed
+      go : (messages : List T) → kept.core.messages ≡ messages → (closed : Bool)
+          → kept.core.closed ≡ closed
           → Ready answer ≡ recv_poll (slice_get messages 0) closed
           → Stepped run (Poll op) (RecvPolled (Ready answer))
           (after one (taking messages (record kept.core { receives = left ticket kept.core.receives })).channel)
@@ -106,10 +109,12 @@ module _ {T W : Type 0} (kept : Kept T W) (whole : Whole kept) (op : ℕ)
 
   -- one that was pending
   pending : Pending ≡ recv_poll (oldest kept.core) kept.core.closed
-      → IsMade run (Poll op) (RecvPolled Pending) (record run { rosters = record all { receives = wait op all.receives } })
+      → IsMade run (Poll op) (RecvPolled Pending)
+      (record run { rosters = record all { receives = wait op all.receives } })
   pending replied = go kept.core.messages refl kept.core.closed refl replied
     where
-      go : (messages : List T) → kept.core.messages ≡ messages → (closed : Bool) → kept.core.closed ≡ closed
+      go : (messages : List T) → kept.core.messages ≡ messages → (closed : Bool)
+          → kept.core.closed ≡ closed
           → Pending ≡ recv_poll (slice_get messages 0) closed
           → IsMade run (Poll op) (RecvPolled Pending)
           (record run { rosters = record all { receives = wait op all.receives } })
@@ -119,7 +124,8 @@ module _ {T W : Type 0} (kept : Kept T W) (whole : Whole kept) (op : ℕ)
           made-poll_recv_pending run op receiver (live one) f
           (ap (λ (ms : List T). slice_get ms 0) e)
 
-  waited : (payload : W) (core' : Channel T W) → Pending ≡ recv_poll (oldest kept.core) kept.core.closed
+  waited : (payload : W) (core' : Channel T W)
+      → Pending ≡ recv_poll (oldest kept.core) kept.core.closed
       → RecvWaits ticket kept.core payload ticket' core' → Stepped run (Poll op) (RecvPolled Pending) (after one core')
   waited payload core' replied waits =
       subst (λ (channel : Channel T W). Stepped run (Poll op) (RecvPolled Pending) (after one channel)) (sym waits.0)

@@ -72,16 +72,19 @@ module _ {T W : Type 0} (kept : Kept T W) (whole : Whole kept) (op : ℕ)
   abbrev gone : Rosters
   gone = record all { sends = leave op all.sends }
 
-  fits-gone : ticket' ≡ None → Fits (after one (record kept.core { sends = left ticket kept.core.sends })) gone
+  fits-gone : ticket' ≡ None
+      → Fits (after one (record kept.core { sends = left ticket kept.core.sends })) gone
   fits-gone none = fits-sends (left ticket kept.core.sends) (leave op all.sends)
       (list-left one send_ticket kept.core.sends all.sends is.fits_sends none)
 
   -- the operation, by its message
-  live_with : (m : T) → message ≡ Some m → operation_in run.operations op ≡ Some (model.sending sender (Some m))
+  live_with : (m : T) → message ≡ Some m
+      → operation_in run.operations op ≡ Some (model.sending sender (Some m))
   live_with m e = live one ∙ ap (λ (x : Option T). Some (model.sending sender x)) e
 
   -- the operation has finished
-  finished : (messages : List T) (rosters : Rosters) (answer : Result (Unit {0}) (SendError T)) → message' ≡ None
+  finished : (messages : List T) (rosters : Rosters) (answer : Result (Unit {0}) (SendError T))
+      → message' ≡ None
       → IsMade run (Poll op) (SendPolled (Ready answer)) (record run
       { messages = messages; operations = with_finished op run.operations; rosters = rosters })
       → IsMade run (Poll op) (SendPolled (Ready answer)) (record run
@@ -147,7 +150,8 @@ module _ {T W : Type 0} (kept : Kept T W) (whole : Whole kept) (op : ℕ)
   waited payload core' replied now unsent =
       go message refl kept.core.closed refl (is_channel_full kept.core) refl replied now
     where
-      go : (m : Option T) → message ≡ m → (closed : Bool) → kept.core.closed ≡ closed → (full : Bool)
+      go : (m : Option T) → message ≡ m → (closed : Bool) → kept.core.closed ≡ closed
+          → (full : Bool)
           → is_channel_full kept.core ≡ full → Pending ≡ send_poll m closed full
           → SendWaits m ticket kept.core payload ticket' core'
           → Stepped run (Poll op) (SendPolled Pending) (after one core')
@@ -177,13 +181,15 @@ module _ {T W : Type 0} (kept : Kept T W) (whole : Whole kept) (op : ℕ)
   wanted-send wants held =
       wanted one held.1 refl refl (ap (λ m. model.sending sender m) held.0) (go message refl wants)
     where
-      go : (m : Option T) → message ≡ m → SendWants m ticket kept.core → may_want_memory_in run (Poll op) ≡ true
+      go : (m : Option T) → message ≡ m → SendWants m ticket kept.core
+          → may_want_memory_in run (Poll op) ≡ true
       go None e wants = absurd wants
       go (Some m) e (inl grows) = wants-message run (Poll op) (known one)
           (brings-send run op sender m (live_with m e)) grows.1 grows.0
       go (Some m) e (inr begins) = waiting kept.core.closed refl (is_channel_full kept.core) refl begins.0
         where
-          waiting : (closed : Bool) → kept.core.closed ≡ closed → (full : Bool) → is_channel_full kept.core ≡ full
+          waiting : (closed : Bool) → kept.core.closed ≡ closed → (full : Bool)
+              → is_channel_full kept.core ≡ full
               → send_poll (Some m) closed full ≡ Pending → may_want_memory_in run (Poll op) ≡ true
           waiting true f full h pending = cc
           waiting false f false h pending = cc

@@ -30,7 +30,8 @@ use Rattle.channel_run.proofs.Tables.OneTicket.{HoldsAt, held-absent, held-left,
 use Rattle.channel_run.proofs.Polls.Outcome.{polled, whole_poll}
 
 -- What a poll did, and that what the run keeps fits together.
-pub record Polls {T W : Type 0} (run : View T) (step : Step T) (reply : Reply T) (kept : Kept T W) : Type 0 where
+pub record Polls {T W : Type 0} (run : View T) (step : Step T) (reply : Reply T)
+    (kept : Kept T W) : Type 0 where
   pub whole : Whole kept
   pub polls : StepsAsAllowed run step reply (shown_by kept)
 
@@ -70,7 +71,8 @@ module _ {T W : Type 0} (kept : Kept T W) (whole : Whole kept) (name : ℕ)
   abbrev gone : Rosters
   gone = record all { streams = leave name all.streams }
 
-  fits-gone : ticket' ≡ None → Fits (after (record kept.core { streams = left ticket kept.core.streams })) gone
+  fits-gone : ticket' ≡ None
+      → Fits (after (record kept.core { streams = left ticket kept.core.streams })) gone
   fits-gone none = fits-streams (left ticket kept.core.streams) (leave name all.streams)
       (held-left stream_ticket name kept.receivers receivers' (Some ticket') change ticket had kept.core.streams
       all.streams is.fits_streams none)
@@ -95,11 +97,13 @@ module _ {T W : Type 0} (kept : Kept T W) (whole : Whole kept) (name : ℕ)
   done stepped = record { whole = stepped.whole; polls = inl stepped.made }
 
   -- a poll that was ready
-  ready : (answer : Option T) → Ready answer ≡ next_poll (oldest kept.core) kept.core.closed → ticket' ≡ None
+  ready : (answer : Option T) → Ready answer ≡ next_poll (oldest kept.core) kept.core.closed
+      → ticket' ≡ None
       → Stepped run (PollNext name) (NextPolled (Ready answer)) (after (polled_stream ticket kept.core).channel)
   ready answer replied none = go kept.core.messages refl kept.core.closed refl replied
     where
-      go : (messages : List T) → kept.core.messages ≡ messages → (closed : Bool) → kept.core.closed ≡ closed
+      go : (messages : List T) → kept.core.messages ≡ messages → (closed : Bool)
+          → kept.core.closed ≡ closed
           → Ready answer ≡ next_poll (slice_get messages 0) closed
           → Stepped run (PollNext name) (NextPolled (Ready answer))
           (after (taking messages (record kept.core { streams = left ticket kept.core.streams })).channel)
@@ -126,7 +130,8 @@ module _ {T W : Type 0} (kept : Kept T W) (whole : Whole kept) (name : ℕ)
       (record run { rosters = record all { streams = wait name all.streams } })
   pending replied = go kept.core.messages refl kept.core.closed refl replied
     where
-      go : (messages : List T) → kept.core.messages ≡ messages → (closed : Bool) → kept.core.closed ≡ closed
+      go : (messages : List T) → kept.core.messages ≡ messages → (closed : Bool)
+          → kept.core.closed ≡ closed
           → Pending ≡ next_poll (slice_get messages 0) closed
           → IsMade run (PollNext name) (NextPolled Pending)
           (record run { rosters = record all { streams = wait name all.streams } })
@@ -134,7 +139,8 @@ module _ {T W : Type 0} (kept : Kept T W) (whole : Whole kept) (name : ℕ)
       go (m ∷ rest) e closed f replied = cc
       go [] e false f replied = made-poll_next_pending run name f (ap (λ (ms : List T). slice_get ms 0) e)
 
-  waited : (payload : W) (core' : Channel T W) → Pending ≡ next_poll (oldest kept.core) kept.core.closed
+  waited : (payload : W) (core' : Channel T W)
+      → Pending ≡ next_poll (oldest kept.core) kept.core.closed
       → NextWaits ticket kept.core payload ticket' core'
       → Stepped run (PollNext name) (NextPolled Pending) (after core')
   waited payload core' replied waits =

@@ -40,10 +40,12 @@ module _ {T : Type 0} (run : View T) (sound : AreSound run.rosters) where
   others : (step : Step T) (reply : Reply T) (own : Rosters)
       → waiting_in (after_receiving (received_by reply) (after_accepting (accepted_by run.operations step reply) own))
       ≡ waiting_in own
-  others step reply own = waiting-receiving (received_by reply) (after_accepting (accepted_by run.operations step reply) own)
+  others step reply own = waiting-receiving (received_by reply)
+      (after_accepting (accepted_by run.operations step reply) own)
       ∙ waiting-accepting (accepted_by run.operations step reply) own
 
-  polled-send : (op : ℕ) (answer : Answer (Result (Unit {0}) (SendError T))) → is_told op run.rosters.sends ≡ true
+  polled-send : (op : ℕ) (answer : Answer (Result (Unit {0}) (SendError T)))
+      → is_told op run.rosters.sends ≡ true
       → waiting_in (rosters_after run (Poll op) (SendPolled answer)) + ready_count {T = T}
       (SendPolled answer) ≤ waiting_in run.rosters
   polled-send op (Ready result) told =
@@ -59,7 +61,8 @@ module _ {T : Type 0} (run : View T) (sound : AreSound run.rosters) where
       go true = omega arith
       go false = let on = wait-told op run.rosters.sends sound.sends told in let names = on.names in omega arith
 
-  polled-recv : (op : ℕ) (answer : Answer (Result T RecvError)) → is_told op run.rosters.receives ≡ true
+  polled-recv : (op : ℕ) (answer : Answer (Result T RecvError))
+      → is_told op run.rosters.receives ≡ true
       → waiting_in (rosters_after run (Poll op) (RecvPolled answer)) + ready_count {T = T}
       (RecvPolled answer) ≤ waiting_in run.rosters
   polled-recv op (Ready result) told =
@@ -83,7 +86,8 @@ module _ {T : Type 0} (run : View T) (sound : AreSound run.rosters) where
   polled-closed op Pending told = let on = wait-told op run.rosters.closeds sound.closeds told in
       let names = on.names in omega arith
 
-  polled-stream : (receiver : ℕ) (answer : Answer (Option T)) → is_told receiver run.rosters.streams ≡ true
+  polled-stream : (receiver : ℕ) (answer : Answer (Option T))
+      → is_told receiver run.rosters.streams ≡ true
       → waiting_in (rosters_after run (PollNext receiver) (NextPolled answer)) + ready_count {T = T}
       (NextPolled answer) ≤ waiting_in run.rosters
   polled-stream receiver (Ready item) told =
@@ -132,7 +136,8 @@ module _ {T W : Type 0} (kept : Kept T W) (whole : Whole kept) where
   given op operation e = ap (λ (found : Option (Operation T)). poll_reply found run.closed (has_none run.receivers)
       (is_full_in run) (slice_get run.messages 0)) e
 
-  lowers-poll : (op : ℕ) (reply : Reply T) (after : View T) → PollsTold {T = T} run.rosters (Poll op)
+  lowers-poll : (op : ℕ) (reply : Reply T) (after : View T)
+      → PollsTold {T = T} run.rosters (Poll op)
       → IsMade run (Poll op) reply after → Lowers run reply after
   lowers-poll op reply after (a_send other e told) made =
       let same : op ≡ other = cc in
@@ -160,7 +165,8 @@ module _ {T W : Type 0} (kept : Kept T W) (whole : Whole kept) where
       (polled-closed run sound op (closed_poll (has_none run.receivers)) told')
   lowers-poll op reply after (a_stream other e told) made = cc
 
-  lowers-steps : (op : ℕ) (reply : Reply T) (after : View T) → PollsTold {T = T} run.rosters (Poll op)
+  lowers-steps : (op : ℕ) (reply : Reply T) (after : View T)
+      → PollsTold {T = T} run.rosters (Poll op)
       → StepsTo run (Poll op) reply after → Lowers run reply after
   lowers-steps op reply after told steps = go (refusal_in run (Poll op)) steps
     where
@@ -203,7 +209,8 @@ module _ {T W : Type 0} (kept : Kept T W) (whole : Whole kept) where
       lowers-stream receiver reply after (told_first (Receiver receiver) first) polled
 
   -- the receiver of a told stream is live
-  pub told_receiver : (receiver : ℕ) → slice_get (told_polls {T = T} run.rosters) 0 ≡ Some (PollNext receiver)
+  pub told_receiver : (receiver : ℕ)
+      → slice_get (told_polls {T = T} run.rosters) 0 ≡ Some (PollNext receiver)
       → is_among receiver run.receivers ≡ true
   told_receiver receiver first =
       stream_waits kept whole receiver

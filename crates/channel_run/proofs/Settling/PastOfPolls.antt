@@ -19,7 +19,8 @@ use Rattle.channel_run.proofs.Alike.SameTables.{reply_in-StandsFor}
 use Rattle.channel_run.proofs.Steps.LongerPasts.{StandsFor-step}
 
 -- One poll more: the run polled the first who was told.
-pub record PollsOn {T : Type 0} (kind : Kind) (past polls : Past T) (step : Step T) (reply : Reply T)
+pub record PollsOn {T : Type 0} (kind : Kind) (past polls : Past T) (step : Step T)
+    (reply : Reply T)
     (run : View T) : Type 0 where
   pub settling : IsSettling kind past ((step, reply) ∷ polls)
   pub stands : StandsFor kind (((step, reply) ∷ polls) ++ past) (after_step run step reply)

@@ -24,7 +24,8 @@ use Rattle.channel_run.proofs.Alike.SameViews.{StandsFor-AreAlike}
 use Rattle.channel_run.proofs.Settling.ToldPolls.{due_answered, made}
 
 -- These polls were made after the past, this is their number, and these ones were ready.
-pub record SettlesSoFar {T : Type 0} (kind : Kind) (past : Past T) (count : ℕ) (finished : List (Who × Reply T))
+pub record SettlesSoFar {T : Type 0} (kind : Kind) (past : Past T) (count : ℕ)
+    (finished : List (Who × Reply T))
     (run : View T) : Type 0 where
   pub polls : Past T
   pub settling : IsSettling kind past polls
@@ -119,5 +120,6 @@ never kind past count finished before run stood so few all =
     half (waiting_in (rosters past) * (waiting_in (rosters past) + 1)) (length so.polls) most bounded
     (sym count_is ∙ all)
   where
-    half : (product polls : ℕ) → product ≤ (2 ^ 64 - 1) * 2 ^ 64 → polls ≤ product / 2 → polls ≡ 2 ^ 128 - 1 → ⊥
+    half : (product polls : ℕ) → product ≤ (2 ^ 64 - 1) * 2 ^ 64 → polls ≤ product / 2
+        → polls ≡ 2 ^ 128 - 1 → ⊥
     half product polls most few all = absurd (omega arith)

@@ -35,7 +35,8 @@ use Rattle.channel_model.proofs.WhoWaits.{AreLive-IsLegal}
 
 -- ---- it wants no memory
 
-no_wish : (refused brings endless still newcomer pending : Bool) → (brings ≡ false) ⊎ (endless ≡ false)
+no_wish : (refused brings endless still newcomer pending : Bool)
+    → (brings ≡ false) ⊎ (endless ≡ false)
     → newcomer ≡ false
     → (refused && (false || (brings && endless && still) || (newcomer && pending))) ≡ false
 no_wish false brings endless still newcomer pending which none = refl
@@ -61,7 +62,8 @@ no_message (Some (awaiting_close sender)) which = refl
 
 module _ {T : Type 0} (kind : Kind) (past : Past T) (legal : IsLegal kind past) where
   -- on an unbounded channel no send waits
-  bounded_if : (name : ℕ) → is_among name (rosters past).sends.names ≡ true → (kind' : Kind) → kind ≡ kind'
+  bounded_if : (name : ℕ) → is_among name (rosters past).sends.names ≡ true → (kind' : Kind)
+      → kind ≡ kind'
       → is_none (capacity_of kind') ≡ false
   bounded_if name among (Bounded capacity) e = refl
   bounded_if name among Unbounded e =
@@ -69,7 +71,8 @@ module _ {T : Type 0} (kind : Kind) (past : Past T) (legal : IsLegal kind past) 
       let some = some_wait name (rosters past).sends.names among in
       absurd (omega arith)
 
-  waits_here : (op : ℕ) → PollsTold {T = T} (rosters past) (Poll op) → waits_anywhere op (rosters past) ≡ true
+  waits_here : (op : ℕ) → PollsTold {T = T} (rosters past) (Poll op)
+      → waits_anywhere op (rosters past) ≡ true
   waits_here op (a_send other e told) =
       let same : other ≡ op = cc in
       let among : is_among op (rosters past).sends.names ≡ true =
@@ -124,7 +127,8 @@ module _ {T : Type 0} (kind : Kind) (past : Past T) (legal : IsLegal kind past) 
       ∙ (AreLive-IsLegal kind past legal).closeds other (told_among other (rosters past).closeds told))))
   no_message_or_bounded op (a_stream other e told) = cc
 
-  wants_nothing : (op : ℕ) → PollsTold {T = T} (rosters past) (Poll op) → may_want_memory kind past (Poll op) ≡ false
+  wants_nothing : (op : ℕ) → PollsTold {T = T} (rosters past) (Poll op)
+      → may_want_memory kind past (Poll op) ≡ false
   wants_nothing op told =
       no_wish (is_none (refusal_of kind past (Poll op))) (is_some (message_of past op)) (is_none (capacity_of kind))
       (not (is_closed past)) (polls_newcomer (view_of kind past) (Poll op)) (is_pending (due_reply kind past (Poll op)))
@@ -159,7 +163,8 @@ module _ {T : Type 0} (kind : Kind) (past : Past T) (legal : IsLegal kind past) 
   poll_answered (Some (receiving receiver)) closed no_receiver full oldest known = recv_answered _
   poll_answered (Some (awaiting_close sender)) closed no_receiver full oldest known = closed_answered _
 
-  known_told : (op : ℕ) → PollsTold {T = T} (rosters past) (Poll op) → is_some (operation_of past op) ≡ true
+  known_told : (op : ℕ) → PollsTold {T = T} (rosters past) (Poll op)
+      → is_some (operation_of past op) ≡ true
   known_told op (a_send other e told) =
       let same : other ≡ op = cc in
       ap (λ (n : ℕ). is_some (operation_of past n)) (sym same)
@@ -186,7 +191,8 @@ module _ {T : Type 0} (kind : Kind) (past : Past T) (legal : IsLegal kind past) 
   -- ---- it is made
 
   module _ (run : View T) (stands : StandsFor kind past run) where
-    made-op : (op : ℕ) (reply : Reply T) (after : View T) → PollsTold {T = T} (rosters past) (Poll op)
+    made-op : (op : ℕ) (reply : Reply T) (after : View T)
+        → PollsTold {T = T} (rosters past) (Poll op)
         → StepsTo run (Poll op) reply after → IsMade run (Poll op) reply after
     made-op op reply after told steps = go (refusal_in run (Poll op))
         (refusal_in-StandsFor kind past run (Poll op) stands ∙ told-allowed kind past (Poll op) legal told) steps
@@ -219,7 +225,8 @@ module _ {T : Type 0} (kind : Kind) (past : Past T) (legal : IsLegal kind past) 
     made-stream receiver reply after (a_receive other e told) (inr wanted) = cc
     made-stream receiver reply after (a_closed other e told) (inr wanted) = cc
 
-    pub made : (who : Who) (reply : Reply T) (after : View T) → PollsTold {T = T} (rosters past) (poll_of who)
+    pub made : (who : Who) (reply : Reply T) (after : View T)
+        → PollsTold {T = T} (rosters past) (poll_of who)
         → PollsTo run who reply after → IsMade run (poll_of who) reply after
     made (Op op) reply after told polled = made-op op reply after told polled
     made (Receiver receiver) reply after told polled = made-stream receiver reply after told polled

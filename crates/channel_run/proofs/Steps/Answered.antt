@@ -64,11 +64,13 @@ Answers-StepsTo {T} kind past before after step reply stands steps = go (refusal
         ⊎ ((may_want_memory kind past step ≡ true) × (reply ≡ Refused OutOfMemory (message_in step))))
         (λ refusal. reply ≡ Refused refusal (message_in step))
 
-    same : (found : Option Refusal) → refusal_in before step ≡ found → answers found → IsAnswer kind past step reply
+    same : (found : Option Refusal) → refusal_in before step ≡ found → answers found
+        → IsAnswer kind past step reply
     same found e answer = subst (λ (f : Option Refusal). answers f)
         (sym e ∙ refusal_in-StandsFor kind past before step stands) answer
 
-    go : (found : Option Refusal) → refusal_in before step ≡ found → Cases found → Answers kind past step reply after
+    go : (found : Option Refusal) → refusal_in before step ≡ found → Cases found
+        → Answers kind past step reply after
     go (Some refusal) e is = record {
       answer = same (Some refusal) e is.replied;
       stands = refused kind past before after step refusal reply stands is;

@@ -108,19 +108,22 @@ operations_after-same operations others step reply once same = same
 
 -- ---- whether it is closed
 
-by_hand : (before no_sender no_receiver : Bool) → (((before || true) || no_sender) || no_receiver) ≡ true
+by_hand : (before no_sender no_receiver : Bool)
+    → (((before || true) || no_sender) || no_receiver) ≡ true
 by_hand true no_sender no_receiver = refl
 by_hand false no_sender no_receiver = refl
 
 -- no sender is left, or one is and a closed channel stays so
-senders_left : (before no_sender : Bool) (receivers : List ℕ) → (before ≡ false → 0 < length receivers)
+senders_left : (before no_sender : Bool) (receivers : List ℕ)
+    → (before ≡ false → 0 < length receivers)
     → (before || no_sender) ≡ (((before || false) || no_sender) || has_none receivers)
 senders_left true no_sender receivers some = refl
 senders_left false true receivers some = refl
 senders_left false false [] some = let one : 0 < 0 = some refl in absurd (omega arith)
 senders_left false false (first ∷ receivers) some = refl
 
-receivers_left : (before no_receiver : Bool) (senders : List ℕ) → (before ≡ false → 0 < length senders)
+receivers_left : (before no_receiver : Bool) (senders : List ℕ)
+    → (before ≡ false → 0 < length senders)
     → (before || no_receiver) ≡ (((before || false) || has_none senders) || no_receiver)
 receivers_left true no_receiver senders some = refl
 receivers_left false no_receiver [] some = let one : 0 < 0 = some refl in absurd (omega arith)
@@ -187,7 +190,8 @@ Closing past run step reply all =
     (after_closing (is_closed past) (is_closed ((step, reply) ∷ past)) all)
 
 -- neither the one nor the other changed
-nothing_told : (none_before none_now closed_before closed_now : Bool) (all : Rosters) → none_now ≡ none_before
+nothing_told : (none_before none_now closed_before closed_now : Bool) (all : Rosters)
+    → none_now ≡ none_before
     → closed_now ≡ closed_before → all ≡ after_last_receiver none_before none_now
     (after_closing closed_before closed_now all)
 nothing_told none_before none_now closed_before closed_now all e f =
@@ -247,7 +251,8 @@ closing-step kind past run step all stands covered may =
     nothing_told _ _ (is_closed past) _ all refl
     (sym (closed-step kind past run step (due_reply kind past step) stands covered) ∙ stands.shows.closed)
 
-rosters-step : {T : Type 0} (kind : Kind) (past : Past T) (run : View T) (step : Step T) → StandsFor kind past run
+rosters-step : {T : Type 0} (kind : Kind) (past : Past T) (run : View T) (step : Step T)
+    → StandsFor kind past run
     → IsCovered (standing_of kind past) → Allowed (view_of kind past) step
     → rosters_after run step (due_reply kind past step) ≡ rosters ((step, due_reply kind past step) ∷ past)
 unfolding Closing
@@ -270,14 +275,16 @@ rosters-step {T} kind past run step stands covered may =
 
 -- ---- the step
 
-pub allowed_step : {T : Type 0} (view : View T) (step : Step T) → IsAllowed step (refusal_in view step)
+pub allowed_step : {T : Type 0} (view : View T) (step : Step T)
+    → IsAllowed step (refusal_in view step)
     → Allowed view step
 allowed_step view (PollNext receiver) (inl may) = allowed view (PollNext receiver) may
 allowed_step view (PollNext receiver) (inr may) =
     record { known = known_if_borrowed view (PollNext receiver) may; fresh = refl }
 allowed_step view step may = allowed view step may
 
-due-step : {T : Type 0} (kind : Kind) (past : Past T) (run : View T) (step : Step T) → StandsFor kind past run
+due-step : {T : Type 0} (kind : Kind) (past : Past T) (run : View T) (step : Step T)
+    → StandsFor kind past run
     → IsAllowed step (refusal_of kind past step)
     → StandsFor kind ((step, due_reply kind past step) ∷ past) (after_step run step (due_reply kind past step))
 due-step kind past run step stands may =

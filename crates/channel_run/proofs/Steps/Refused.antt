@@ -61,14 +61,16 @@ module _ {T : Type 0} (run : View T) (step : Step T) where
   unknown_name k = ap (λ known. first_refusal known (is_taken run step) (is_borrowed run step)
       (is_one_too_many run step)) k
 
-  pub borrowed_handle : is_known run step ≡ true → is_taken run step ≡ false → is_borrowed run step ≡ true
+  pub borrowed_handle : is_known run step ≡ true → is_taken run step ≡ false
+      → is_borrowed run step ≡ true
       → refusal_in run step ≡ Some Borrowed
   borrowed_handle k t b =
       ap (λ known. first_refusal known (is_taken run step) (is_borrowed run step) (is_one_too_many run step)) k
       ∙ ap (λ taken. first_refusal true taken (is_borrowed run step) (is_one_too_many run step)) t
       ∙ ap (λ borrowed. first_refusal true false borrowed (is_one_too_many run step)) b
 
-  pub not_refused : is_known run step ≡ true → is_taken run step ≡ false → is_borrowed run step ≡ false
+  pub not_refused : is_known run step ≡ true → is_taken run step ≡ false
+      → is_borrowed run step ≡ false
       → is_one_too_many run step ≡ false → refusal_in run step ≡ None
   not_refused k t b m =
       ap (λ known. first_refusal known (is_taken run step) (is_borrowed run step) (is_one_too_many run step)) k

@@ -35,7 +35,8 @@ length-AreAnswers kind past (first ∷ steps) (other ∷ replies) after answers 
     ap suc (length-AreAnswers kind (past_after past first other) steps replies after answers.1)
 
 -- What was accepted is what was taken, followed by what the run holds.
-pub conserved-StandsFor : {T : Type 0} (kind : Kind) (past : Past T) (run : View T) → StandsFor kind past run
+pub conserved-StandsFor : {T : Type 0} (kind : Kind) (past : Past T) (run : View T)
+    → StandsFor kind past run
     → accepted_messages past ≡ taken_messages past ++ run.messages
 conserved-StandsFor {T} kind past run stands = accepted_messages-IsLegal kind past stands.legal
     ∙ ap (λ (held : List T). taken_messages past ++ held) (sym stands.shows.messages)

@@ -37,7 +37,8 @@ module _ {T : Type 0} (test : Operation T → Bool) where
       go true rest = omega arith
       go false rest = omega arith
 
-  pub count-inserted : (op : ℕ) (operation : Started T) (entries : List (ℕ × Started T)) → entry_at entries op ≡ None
+  pub count-inserted : (op : ℕ) (operation : Started T) (entries : List (ℕ × Started T))
+      → entry_at entries op ≡ None
       → count_of test (insert_entry nat_cmp entries op operation)
       ≡ count_of test entries + one_if (test (operation_shown operation))
   count-inserted op operation [] absent = count-cons (op, operation) []
@@ -76,7 +77,8 @@ module _ {T : Type 0} (test : Operation T → Bool) where
       go false e later = swap_in _ _ _ _ _ _ (count-cons entry entries) (later e)
           (count-cons entry (remove_entry (is_at (nat_cmp op)) entries))
 
-  count-set : (op : ℕ) (was now : Started T) (entries : List (ℕ × Started T)) → entry_at entries op ≡ Some was
+  count-set : (op : ℕ) (was now : Started T) (entries : List (ℕ × Started T))
+      → entry_at entries op ≡ Some was
       → test (operation_shown now) ≡ test (operation_shown was)
       → count_of test (set_value (is_at (nat_cmp op)) entries now) ≡ count_of test entries
   count-set op was now [] there same = cc
@@ -141,7 +143,8 @@ few_borrow_receiver by_sender by_receiver operations were few name =
 module _ {T : Type 0} (op : ℕ) (operations operations' : List (ℕ × Started T))
     (operation : Started T) where
   -- an operation was started
-  pub counted_put : entry_at operations op ≡ None → operations' ≡ insert_entry nat_cmp operations op operation
+  pub counted_put : entry_at operations op ≡ None
+      → operations' ≡ insert_entry nat_cmp operations op operation
       → (by_sender by_receiver by_sender' by_receiver' : List (ℕ × ℕ)) → AreCounted by_sender by_receiver operations
       → ((name : ℕ) → number_at by_sender' name
       ≡ number_at by_sender name + one_if (borrows_sender name (operation_shown operation)))
@@ -190,7 +193,8 @@ pub counted_back : {T : Type 0} (operations : List (ℕ × Started T)) (operatio
     → ((name : ℕ) → number_at by_receiver' name
     ≡ number_at more_receivers name - one_if (borrows_receiver name (operation_shown operation)))
     → AreCounted by_sender' by_receiver' operations
-counted_back operations operation by_sender by_receiver more_senders more_receivers by_sender' by_receiver' were up up_too down down_too =
+counted_back operations operation by_sender by_receiver more_senders more_receivers by_sender' by_receiver' were
+    up up_too down down_too =
     record {
       each_sender = λ name. back_again _ _ _ _ (down name) (up name) ∙ were.each_sender name;
       each_receiver = λ name. back_again _ _ _ _ (down_too name) (up_too name) ∙ were.each_receiver name;

@@ -48,7 +48,8 @@ operation_in-entry_at {T} (entry ∷ entries) name =
     ∙ go (entry.0 == name) (is_eq (nat_cmp name entry.0)) (sym (is_eq-nat_cmp name entry.0))
     (operation_in-entry_at entries name)
   where
-    go : (a b : Bool) → a ≡ b → operation_in (map (λ entry. (entry.0, operation_shown entry.1)) entries) name
+    go : (a b : Bool) → a ≡ b
+        → operation_in (map (λ entry. (entry.0, operation_shown entry.1)) entries) name
         ≡ option_map operation_shown (entry_at entries name)
         → cond a (Some (operation_shown entry.1))
         (operation_in (map (λ entry. (entry.0, operation_shown entry.1)) entries) name)
@@ -84,13 +85,15 @@ unfolding IsStrictlySortedBy
 AreDifferent-sorted [] sorted = tt
 AreDifferent-sorted (key ∷ keys) sorted = (absent keys sorted.0, AreDifferent-sorted keys sorted.1)
   where
-    absent : (others : List ℕ) → AllByRecursion (λ other. nat_cmp key other ≡ Less) others → is_among key others ≡ false
+    absent : (others : List ℕ) → AllByRecursion (λ other. nat_cmp key other ≡ Less) others
+        → is_among key others ≡ false
     absent [] all = refl
     absent (other ∷ others) all = both_false (other == key) (is_among key others)
         (sym (is_eq-nat_cmp key other) ∙ ap is_eq all.0) (absent others all.1)
 
 -- an entry that is taken out leaves the other names
-pub keys_of-removed : {X : Type 0} (name : ℕ) (entries : List (ℕ × X)) → AreDifferent (keys_of entries)
+pub keys_of-removed : {X : Type 0} (name : ℕ) (entries : List (ℕ × X))
+    → AreDifferent (keys_of entries)
     → keys_of (remove_entry (is_at (nat_cmp name)) entries) ≡ without name (keys_of entries)
 keys_of-removed name [] once = refl
 keys_of-removed {X} name (entry ∷ entries) once =

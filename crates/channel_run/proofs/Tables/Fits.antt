@@ -56,11 +56,13 @@ module _ {T W : Type 0} where
       fits.fits_closeds.shows
 
   -- The step was made, and what the run keeps now fits together.
-  pub record Stepped (run : View T) (step : Step T) (reply : Reply T) (kept : Kept T W) : Type 0 where
+  pub record Stepped (run : View T) (step : Step T) (reply : Reply T)
+      (kept : Kept T W) : Type 0 where
     pub whole : Whole kept
     pub made : IsMade run step reply (shown_by kept)
 
-  pub stepped : (run : View T) (step : Step T) (reply : Reply T) (kept : Kept T W) (all : Rosters) → Fits kept all
+  pub stepped : (run : View T) (step : Step T) (reply : Reply T) (kept : Kept T W) (all : Rosters)
+      → Fits kept all
       → IsMade run step reply (record (shown_by kept) { rosters = all }) → Stepped run step reply kept
   stepped run step reply kept all fits made = record {
     whole = whole-Fits kept all fits;
@@ -94,7 +96,8 @@ module _ {T W : Type 0} where
       fits_closeds = fits.fits_closeds;
     }
 
-    pub fits-messages : (messages : List T) → Fits (with_core kept (record kept.core { messages = messages })) all
+    pub fits-messages : (messages : List T)
+        → Fits (with_core kept (record kept.core { messages = messages })) all
     fits-messages messages = record {
       counts_senders = fits.counts_senders;
       counts_receivers = fits.counts_receivers;

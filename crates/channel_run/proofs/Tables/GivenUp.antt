@@ -90,12 +90,14 @@ module _ {T W : Type 0} (kept : Kept T W) (receivers' : List (ℕ × Option ℕ)
   last : (kept.core.receivers == 1) ≡ true → length receivers' ≡ 0
   last e = let one = eqb-true kept.core.receivers 1 e in let counts = whole.count_receivers in omega arith
 
-  none_left : (kept.core.receivers == 1) ≡ true → has_none (without name (keys_of kept.receivers)) ≡ true
+  none_left : (kept.core.receivers == 1) ≡ true
+      → has_none (without name (keys_of kept.receivers)) ≡ true
   none_left e = sym (has_none-same (keys_of receivers') (without name (keys_of kept.receivers)) left_names)
       ∙ has_none-length (keys_of receivers') ∙ ap (λ count. count == 0)
       (length-map receivers' (λ entry. entry.0) ∙ last e)
 
-  some_left : (kept.core.receivers == 1) ≡ false → has_none (without name (keys_of kept.receivers)) ≡ false
+  some_left : (kept.core.receivers == 1) ≡ false
+      → has_none (without name (keys_of kept.receivers)) ≡ false
   some_left e =
       sym (has_none-same (keys_of receivers') (without name (keys_of kept.receivers)) left_names)
       ∙ has_none-length (keys_of receivers')
@@ -106,7 +108,8 @@ module _ {T W : Type 0} (kept : Kept T W) (receivers' : List (ℕ × Option ℕ)
   some_before : has_none (keys_of kept.receivers) ≡ false
   some_before = has_none-length (keys_of kept.receivers)
       ∙ ne_eqb (length (keys_of kept.receivers)) 0 (λ none. absurd
-      (by_none (length (keys_of kept.receivers)) (length receivers') (length-map kept.receivers (λ entry. entry.0) ∙ fewer) none))
+      (by_none (length (keys_of kept.receivers)) (length receivers')
+      (length-map kept.receivers (λ entry. entry.0) ∙ fewer) none))
     where
       by_none : (a b : ℕ) → a ≡ suc b → a ≡ 0 → ⊥
       by_none a b e f = omega arith
@@ -131,7 +134,8 @@ module _ {T W : Type 0} (kept : Kept T W) (receivers' : List (ℕ × Option ℕ)
       (left_with (receiver_dropped_by (ticket_at stream_ticket kept.receivers name) kept.core).channel)
   stepped-drop_receiver = go (kept.core.receivers == 1) refl kept.core.closed refl
     where
-      go : (one : Bool) → (kept.core.receivers == 1) ≡ one → (closed : Bool) → kept.core.closed ≡ closed
+      go : (one : Bool) → (kept.core.receivers == 1) ≡ one → (closed : Bool)
+          → kept.core.closed ≡ closed
           → Stepped before (DropReceiver name) Done
           (left_with (cond one (ending (cond closed (unchanged (remaining 0)) (closed_now (remaining 0))))
           (unchanged (remaining (kept.core.receivers - 1)))).channel)
@@ -152,7 +156,8 @@ module _ {T W : Type 0} (kept : Kept T W) (receivers' : List (ℕ × Option ℕ)
           (made-left Done true (ended_told (closed_told (own_left name (rosters_by kept))))
           (made-drop_last_receiver before name f some_before (none_left e)))
       go false e closed f =
-          stepped before (DropReceiver name) Done (left_with (remaining (kept.core.receivers - 1))) (own_left name (rosters_by kept))
+          stepped before (DropReceiver name) Done (left_with (remaining (kept.core.receivers - 1)))
+          (own_left name (rosters_by kept))
           (fits-left (kept.core.receivers - 1) (let counts = whole.count_receivers in omega arith))
           (made-left Done kept.core.closed (own_left name (rosters_by kept))
           (made-drop_receiver before name (some_left e)))
@@ -199,7 +204,8 @@ module _ {T W : Type 0} (kept : Kept T W) (operations' : List (ℕ × Started T)
       (alike-operations (record earlier { rosters = told }) (operations_shown operations')
       (without_operation op (operations_shown kept.operations)) same))
     where
-      same_keys : (entries : List (ℕ × Started T)) → names_of (operations_shown entries) ≡ keys_of entries
+      same_keys : (entries : List (ℕ × Started T))
+          → names_of (operations_shown entries) ≡ keys_of entries
       same_keys [] = refl
       same_keys (entry ∷ entries) = ap (λ rest. entry.0 ∷ rest) (same_keys entries)
 

@@ -54,7 +54,8 @@ module _ {T W : Type 0} (kept : Kept T W) (whole : Whole kept) where
       (operations-inserted op kept.operations operations' operation change
       (ap (λ (found : Option (Started T)). is_some found) absent) more)))
     where
-      none_more : (ticket : Started T → Option ℕ) → ticket operation ≡ None → (list : Waiting W) (roster : Roster)
+      none_more : (ticket : Started T → Option ℕ) → ticket operation ≡ None
+          → (list : Waiting W) (roster : Roster)
           → HoldsAt ticket kept.operations list roster → HoldsAt ticket operations' list roster
       none_more ticket none list roster holds =
           held-same ticket op kept.operations operations' (Some operation) change None

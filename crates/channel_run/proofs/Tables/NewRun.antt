@@ -22,7 +22,8 @@ pub StandsFor-new : (T : Type 0) (kind : Kind) → HasPositiveCapacity kind
     → StandsFor {T = T} kind [] (view_of kind [])
 StandsFor-new T kind some = record { legal = some; shows = AreAlike-refl (view_of kind []) }
 
-nothing_held : {W : Type 0} (ticket_of : ℕ → Option ℕ) (names : List ℕ) → ((name : ℕ) → ticket_of name ≡ None)
+nothing_held : {W : Type 0} (ticket_of : ℕ → Option ℕ) (names : List ℕ)
+    → ((name : ℕ) → ticket_of name ≡ None)
     → AreHeld {W = W} ticket_of names nobody
 nothing_held ticket_of names none = record {
   held = refl;
@@ -48,7 +49,8 @@ module _ (T W : Type 0) (kind : Kind) (senders : List ℕ) (same : AreSameNames 
           ∙ ap (λ (found : Option (Option ℕ)). option_and_then stream_ticket found) change.here
       go false e = ap (λ (found : Option (Option ℕ)). option_and_then stream_ticket found) (change.elsewhere name e)
 
-  pub whole-new : (capacity : Option ℕ) → IsWhole {T = T} {W = W} (new_channel capacity) senders receivers []
+  pub whole-new : (capacity : Option ℕ)
+      → IsWhole {T = T} {W = W} (new_channel capacity) senders receivers []
   whole-new capacity = record {
     count_senders = sym same.count;
     count_receivers = sym one;

@@ -11,7 +11,8 @@ use Rattle.channel_run.specs.RunShown.{Changed, entry_at, stream_ticket, ticket_
 use Rattle.channel_run.proofs.Tables.Entries.{is_among-entry_at, is_eq-nat_cmp}
 
 -- as a map's clauses say it
-pub changed : {X : Type 0} (name : ℕ) (entries entries' : List (ℕ × X)) (now : Option X) → entry_at entries' name ≡ now
+pub changed : {X : Type 0} (name : ℕ) (entries entries' : List (ℕ × X)) (now : Option X)
+    → entry_at entries' name ≡ now
     → ((other : ℕ) → is_eq (nat_cmp name other) ≡ false → entry_at entries' other ≡ entry_at entries other)
     → Changed name entries entries' now
 changed name entries entries' now here elsewhere = record {
@@ -56,7 +57,8 @@ kept_tickets {X} ticket name entries entries' now change other apart =
     ap (λ (found : Option X). option_and_then ticket found) (change.elsewhere other apart)
 
 -- nothing stands under a name that isn't live
-pub nothing_at : {X : Type 0} (entries : List (ℕ × X)) (name : ℕ) → is_some (entry_at entries name) ≡ false
+pub nothing_at : {X : Type 0} (entries : List (ℕ × X)) (name : ℕ)
+    → is_some (entry_at entries name) ≡ false
     → entry_at entries name ≡ None
 nothing_at {X} entries name e = go (entry_at entries name) e
   where

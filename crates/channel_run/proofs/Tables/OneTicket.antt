@@ -41,7 +41,8 @@ module _ {X W : Type 0} (ticket : X → Option ℕ) (name : ℕ) (entries entrie
       (same_tickets ticket name entries entries' now change (same ∙ sym was))
 
   -- it is gone, and its entry too
-  pub held-left : option_and_then ticket now ≡ None → HoldsAt ticket entries' (left had list) (leave name roster)
+  pub held-left : option_and_then ticket now ≡ None
+      → HoldsAt ticket entries' (left had list) (leave name roster)
   held-left gone =
       subst (λ t. HoldsAt ticket entries' (left t list) (leave name roster)) was
       (holds-left (ticket_at ticket entries) (ticket_at ticket entries') (keys_of entries) (keys_of entries')
@@ -56,7 +57,8 @@ module _ {X W : Type 0} (ticket : X → Option ℕ) (name : ℕ) (entries entrie
       (listed ticket entries') list roster holds name others (has ∙ gone))
 
   -- it waits
-  pub held-waits : (payload : W) (list' : Waiting W) → Waits had list payload (option_and_then ticket now) list'
+  pub held-waits : (payload : W) (list' : Waiting W)
+      → Waits had list payload (option_and_then ticket now) list'
       → HoldsAt ticket entries' list' (wait name roster)
   held-waits payload list' on =
       holds-waits (ticket_at ticket entries) (ticket_at ticket entries') (keys_of entries) (keys_of entries')

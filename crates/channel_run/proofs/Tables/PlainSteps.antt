@@ -49,7 +49,8 @@ module _ {T W : Type 0} where
         (with_core kept (received kept.core).channel)
     stepped-try_recv receiver = go kept.core.messages refl kept.core.closed refl
       where
-        go : (messages : List T) → kept.core.messages ≡ messages → (closed : Bool) → kept.core.closed ≡ closed
+        go : (messages : List T) → kept.core.messages ≡ messages → (closed : Bool)
+            → kept.core.closed ≡ closed
             → Stepped run (TryRecv receiver) (Received (try_recv_answer (slice_get messages 0) closed))
             (with_core kept (taking messages kept.core).channel)
         go [] e true f = record {
@@ -67,11 +68,13 @@ module _ {T W : Type 0} where
             (made-try_recv_taken run receiver message (ap (λ (ms : List T). slice_get ms 0) e))
 
     pub stepped-try_send : (sender : ℕ) (message : T)
-        → Stepped run (TrySend sender message) (TrySent (try_send_answer kept.core.closed (is_channel_full kept.core) message))
+        → Stepped run (TrySend sender message)
+        (TrySent (try_send_answer kept.core.closed (is_channel_full kept.core) message))
         (with_core kept (sent message kept.core).channel)
     stepped-try_send sender message = go kept.core.closed refl (is_channel_full kept.core) refl
       where
-        go : (closed : Bool) → kept.core.closed ≡ closed → (full : Bool) → is_channel_full kept.core ≡ full
+        go : (closed : Bool) → kept.core.closed ≡ closed → (full : Bool)
+            → is_channel_full kept.core ≡ full
             → Stepped run (TrySend sender message) (TrySent (try_send_answer closed full message))
             (with_core kept (sending closed full message kept.core).channel)
         go true e full f = record { whole = whole; made = made-try_send_closed run sender message e }
@@ -90,7 +93,8 @@ module _ {T W : Type 0} where
     stepped-force_send sender message = go kept.core.closed refl (is_channel_full kept.core) refl
       where
         -- a full one holds a message, or has no room for any
-        made : (messages : List T) → kept.core.messages ≡ messages → kept.core.closed ≡ false → is_channel_full kept.core ≡ true
+        made : (messages : List T) → kept.core.messages ≡ messages → kept.core.closed ≡ false
+            → is_channel_full kept.core ≡ true
             → IsMade run (ForceSend sender message) (Forced (Ok (slice_get messages 0)))
             (record run { messages = drop 1 kept.core.messages ++ message ∷ []; rosters = accepted_told all })
         made [] e c f =
@@ -123,7 +127,8 @@ module _ {T W : Type 0} where
             (fits-messages kept all fits (drop 1 kept.core.messages)) message)
             (made kept.core.messages refl c f)
 
-        go : (closed : Bool) → kept.core.closed ≡ closed → (full : Bool) → is_channel_full kept.core ≡ full
+        go : (closed : Bool) → kept.core.closed ≡ closed → (full : Bool)
+            → is_channel_full kept.core ≡ full
             → Stepped run (ForceSend sender message) (Forced (force_send_answer closed full (oldest kept.core) message))
             (with_core kept (forcing closed full message kept.core).channel)
         go true e full f = record { whole = whole; made = made-force_send_closed run sender message e }
@@ -148,8 +153,10 @@ module _ {T W : Type 0} where
             (fits-closed kept all fits)
             (made-close run side e)
 
-    pub stepped-drop_sender : (name : ℕ) → length kept.senders ≡ suc (length (without name kept.senders))
-        → Stepped run (DropSender name) Done (record kept { core = (sender_dropped kept.core).channel; senders = without name kept.senders })
+    pub stepped-drop_sender : (name : ℕ)
+        → length kept.senders ≡ suc (length (without name kept.senders))
+        → Stepped run (DropSender name) Done
+        (record kept { core = (sender_dropped kept.core).channel; senders = without name kept.senders })
     stepped-drop_sender name fewer = go (kept.core.senders == 1) refl kept.core.closed refl
       where
         last : (kept.core.senders == 1) ≡ true → length (without name kept.senders) ≡ 0
@@ -158,7 +165,8 @@ module _ {T W : Type 0} where
         not_last : (kept.core.senders == 1) ≡ false → has_none (without name kept.senders) ≡ false
         not_last e = has_none-length (without name kept.senders) ∙ some (length (without name kept.senders)) refl
           where
-            some : (count : ℕ) → length (without name kept.senders) ≡ count → (length (without name kept.senders) == 0) ≡ false
+            some : (count : ℕ) → length (without name kept.senders) ≡ count
+                → (length (without name kept.senders) == 0) ≡ false
             some zero f =
                 let one : kept.core.senders ≡ 1 = whole.count_senders ∙ fewer ∙ ap suc f in
                 let is : (kept.core.senders == 1) ≡ true = eq-eqb kept.core.senders 1 one in
@@ -177,23 +185,35 @@ module _ {T W : Type 0} where
           fits_closeds = fits.fits_closeds;
         }
 
-        go : (one : Bool) → (kept.core.senders == 1) ≡ one → (closed : Bool) → kept.core.closed ≡ closed
+        go : (one : Bool) → (kept.core.senders == 1) ≡ one → (closed : Bool)
+            → kept.core.closed ≡ closed
             → Stepped run (DropSender name) Done (record kept {
               core = (cond one
-                  (cond closed (unchanged (record kept.core { senders = 0 })) (closed_now (record kept.core { senders = 0 })))
+                  (cond closed (unchanged (record kept.core { senders = 0 }))
+                  (closed_now (record kept.core { senders = 0 })))
                   (unchanged (record kept.core { senders = kept.core.senders - 1 }))).channel;
               senders = without name kept.senders;
             })
         go true e true f =
-            stepped run (DropSender name) Done (record kept { core = record kept.core { senders = 0 }; senders = without name kept.senders }) all (counted 0 (sym (last e)))
+            stepped run (DropSender name) Done (record kept
+            { core = record kept.core { senders = 0 }; senders = without name kept.senders }) all (counted 0
+            (sym (last e)))
             (made-drop_sender_closed run name f)
         go true e false f =
-            stepped run (DropSender name) Done (record kept { core = (closed_now (record kept.core { senders = 0 })).channel; senders = without name kept.senders }) (closed_told all)
+            stepped run (DropSender name) Done (record kept {
+              core = (closed_now (record kept.core { senders = 0 })).channel;
+              senders = without name
+                  kept.senders;
+            }) (closed_told all)
             (fits-closed (record kept { core = record kept.core { senders = 0 }; senders = without name kept.senders }) all
             (counted 0 (sym (last e))))
             (made-drop_last_sender run name f (has_none-length (without name kept.senders)
             ∙ ap (λ count. count == 0) (last e)))
         go false e closed f =
-            stepped run (DropSender name) Done (record kept { core = record kept.core { senders = kept.core.senders - 1 }; senders = without name kept.senders }) all
+            stepped run (DropSender name) Done (record kept {
+              core = record kept.core { senders = kept.core.senders - 1 };
+              senders = without name
+                  kept.senders;
+            }) all
             (counted (kept.core.senders - 1) (let counts = whole.count_senders in omega arith))
             (made-drop_sender run name (not_last e))

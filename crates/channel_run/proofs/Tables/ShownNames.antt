@@ -51,7 +51,8 @@ names-added name entries entries' value change more =
     AreSameNames-trans (keys_of entries') (keys_of entries ++ name ∷ []) (name ∷ keys_of entries)
     (names-inserted name entries entries' value change more) (AreSameNames-pushed (keys_of entries) name)
 
-pub names-removed : {X : Type 0} (name : ℕ) (entries entries' : List (ℕ × X)) → AreDifferent (keys_of entries)
+pub names-removed : {X : Type 0} (name : ℕ) (entries entries' : List (ℕ × X))
+    → AreDifferent (keys_of entries)
     → is_among name (keys_of entries) ≡ true → Changed name entries entries' None → length entries' + 1 ≡ length entries
     → AreSameNames (keys_of entries') (without name (keys_of entries))
 names-removed name entries entries' once there change fewer =
@@ -69,7 +70,8 @@ names-removed name entries entries' once there change fewer =
 -- ---- counts of handles
 
 -- what is said of an answer that is no error
-pub when_ok : {A E : Type 0} (result : Result A E) (Fact : Type 0) → is_err result ≡ false → OnOk result Fact → Fact
+pub when_ok : {A E : Type 0} (result : Result A E) (Fact : Type 0) → is_err result ≡ false
+    → OnOk result Fact → Fact
 when_ok (Ok answer) Fact e fact = fact
 when_ok (Err error) Fact e fact = cc
 
@@ -80,7 +82,8 @@ some_among name (first ∷ names) e = omega arith
 pub one_more : (count : ℕ) → count ≤ 9223372036854775807 → nat_lt handle_limit count ≡ false
 one_more count small = search rules
 
-pub may_add-one : {X : Type 0} (name : ℕ) (entries : List (ℕ × X)) (count : ℕ) → is_among name (keys_of entries) ≡ true
+pub may_add-one : {X : Type 0} (name : ℕ) (entries : List (ℕ × X)) (count : ℕ)
+    → is_among name (keys_of entries) ≡ true
     → count ≡ length entries → count ≤ 9223372036854775807 → may_add count ≡ true
 may_add-one name entries count among counts small =
     let some = some_among name (keys_of entries) among in

@@ -19,7 +19,8 @@ module _ {T : Type 0} (op : ℕ) (operations operations' : List (ℕ × Started 
   shown-here now change = operation_in-entry_at operations' op
       ∙ ap (λ (found : Option (Started T)). option_map operation_shown found) change.here
 
-  pub shown-elsewhere : (now : Option (Started T)) → Changed op operations operations' now → (name : ℕ)
+  pub shown-elsewhere : (now : Option (Started T)) → Changed op operations operations' now
+      → (name : ℕ)
       → (op == name) ≡ false → operation_in (operations_shown operations') name
       ≡ operation_in (operations_shown operations) name
   shown-elsewhere now change name apart =
@@ -30,7 +31,8 @@ module _ {T : Type 0} (op : ℕ) (operations operations' : List (ℕ × Started 
       → length (operations_shown operations') ≡ length (operations_shown operations)
   lengths same = length-map operations' _ ∙ same ∙ sym (length-map operations _)
 
-  pub operations-inserted : (operation : Started T) → Changed op operations operations' (Some operation)
+  pub operations-inserted : (operation : Started T)
+      → Changed op operations operations' (Some operation)
       → is_some (entry_at operations op) ≡ false → length operations' ≡ length operations + 1
       → AreSameOperations (operations_shown operations')
       (operations_shown operations ++ (op, operation_shown operation) ∷ [])

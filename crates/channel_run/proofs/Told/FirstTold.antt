@@ -31,7 +31,8 @@ module _ {X : Type 0} (ticket : X → Option ℕ) (key : ℕ) where
   nobody_holds (entry ∷ entries) none name has =
       go (holds entry) refl (is_eq (nat_cmp name entry.0)) none has (λ rest. nobody_holds entries rest name)
     where
-      go : (is : Bool) → holds entry ≡ is → (here : Bool) → cond is (Some entry) (find holds entries) ≡ None
+      go : (is : Bool) → holds entry ≡ is → (here : Bool)
+          → cond is (Some entry) (find holds entries) ≡ None
           → option_and_then ticket (cond here (Some entry.1) (entry_at entries name)) ≡ Some key
           → (find holds entries ≡ None → ticket_at ticket entries name ≢ Some key) → ⊥
       go true e here none has later = cc
@@ -76,7 +77,8 @@ module _ {X : Type 0} (ticket : X → Option ℕ) (key : ℕ) where
             rest.1,
           )
 
-  pub none_found : (entries : List (ℕ × X)) → None ≡ find holds entries → IsHolder (ticket_at ticket entries) key None
+  pub none_found : (entries : List (ℕ × X)) → None ≡ find holds entries
+      → IsHolder (ticket_at ticket entries) key None
   none_found entries none = λ name. nobody_holds entries (sym none) name
 
   pub one_found : (entries : List (ℕ × X)) → AreDifferent (keys_of entries) → (found : ℕ × X)
@@ -113,14 +115,16 @@ module _ {W : Type 0} (ticket_of : ℕ → Option ℕ) (names : List ℕ) (list 
       record { first = sym (ap (λ count. slice_get (take count roster.names) 0) no_more); none = λ e. no_more }
 
   -- whoever stands first has the key
-  first_has : (key : ℕ) (told ns ks : List ℕ) → AreKeyed ticket_of ns (told ++ ks) → slice_get told 0 ≡ Some key
+  first_has : (key : ℕ) (told ns ks : List ℕ) → AreKeyed ticket_of ns (told ++ ks)
+      → slice_get told 0 ≡ Some key
       → (name : ℕ) × (ticket_of name ≡ Some key)
   first_has key [] ns ks e f = cc
   first_has key (k ∷ told) [] ks e f = cc
   first_has key (k ∷ told) (n ∷ ns) ks e f = let same : k ≡ key = cc in
       (n, let has : ticket_of n ≡ Some k = cc in has ∙ ap (λ x. Some x) same)
 
-  pub IsFirst-holder : (key : ℕ) → Some key ≡ slice_get list.told 0 → (found : Option ℕ) → IsHolder ticket_of key found
+  pub IsFirst-holder : (key : ℕ) → Some key ≡ slice_get list.told 0 → (found : Option ℕ)
+      → IsHolder ticket_of key found
       → IsFirst roster found
   IsFirst-holder key told None nobody =
       let holder = first_has key list.told roster.names (untold_keys list) over_keys.keyed (sym told) in
@@ -161,7 +165,8 @@ module _ {T W : Type 0} (kept : Kept T W) (whole : Whole kept) where
       IsFirst-holder (ticket_at closed_ticket kept.operations)
       (keys_of kept.operations) kept.core.closeds whole.each_closed key told found is
 
-  pub IsFirst-stream : (key : ℕ) → Some key ≡ slice_get kept.core.streams.told 0 → (found : Option ℕ)
+  pub IsFirst-stream : (key : ℕ) → Some key ≡ slice_get kept.core.streams.told 0
+      → (found : Option ℕ)
       → IsHolder (ticket_at stream_ticket kept.receivers) key found
       → IsFirst (rosters_by kept).streams found
   IsFirst-stream key told found is = IsFirst-holder (ticket_at stream_ticket kept.receivers)

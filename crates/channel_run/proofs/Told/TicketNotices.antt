@@ -37,7 +37,8 @@ notice-held ticket_of names list each name (Some key) has =
     ∙ sym (notice_in-keyed ticket_of each.once name key has roster (key_roster list)
     (keyed ticket_of names list roster (holds-refl ticket_of names list each)))
   where
-    by_mark : (told : Bool) → is_among key list.told ≡ told → (untold : Bool) → is_among key (untold_keys list) ≡ untold
+    by_mark : (told : Bool) → is_among key list.told ≡ told → (untold : Bool)
+        → is_among key (untold_keys list) ≡ untold
         → notice_by_flag (cond told (Some true) (cond untold (Some false) None)) ≡ notice_in key (key_roster list)
     by_mark true e untold f = sym (ap (λ t. cond t Told (cond (is_among key (keys list)) Untold Absent))
         (is_told-key list key ∙ e))
@@ -63,28 +64,35 @@ module _ {T W : Type 0} (kept : Kept T W) (whole : Whole kept) where
       → entry_at kept.operations op ≡ Some (Send sender message ticket)
       → notice_at ticket kept.core.sends ≡ notice_shown run (Op op)
   notice-send op sender message ticket e =
-      notice-held (ticket_at send_ticket kept.operations) (keys_of kept.operations) kept.core.sends whole.each_send op ticket
+      notice-held (ticket_at send_ticket kept.operations)
+      (keys_of kept.operations) kept.core.sends whole.each_send op ticket
       (ap (λ (f : Option (Started T)). option_and_then send_ticket f) e)
       ∙ sym (of_operation op (Some (Send sender message ticket)) e)
 
-  pub notice-recv : (op receiver : ℕ) (ticket : Option ℕ) → entry_at kept.operations op ≡ Some (Recv receiver ticket)
+  pub notice-recv : (op receiver : ℕ) (ticket : Option ℕ)
+      → entry_at kept.operations op ≡ Some (Recv receiver ticket)
       → notice_at ticket kept.core.receives ≡ notice_shown run (Op op)
   notice-recv op receiver ticket e =
-      notice-held (ticket_at recv_ticket kept.operations) (keys_of kept.operations) kept.core.receives whole.each_receive op ticket
+      notice-held (ticket_at recv_ticket kept.operations)
+      (keys_of kept.operations) kept.core.receives whole.each_receive op ticket
       (ap (λ (f : Option (Started T)). option_and_then recv_ticket f) e)
       ∙ sym (of_operation op (Some (Recv receiver ticket)) e)
 
-  pub notice-closed : (op sender : ℕ) (ticket : Option ℕ) → entry_at kept.operations op ≡ Some (Closed sender ticket)
+  pub notice-closed : (op sender : ℕ) (ticket : Option ℕ)
+      → entry_at kept.operations op ≡ Some (Closed sender ticket)
       → notice_at ticket kept.core.closeds ≡ notice_shown run (Op op)
   notice-closed op sender ticket e =
-      notice-held (ticket_at closed_ticket kept.operations) (keys_of kept.operations) kept.core.closeds whole.each_closed op ticket
+      notice-held (ticket_at closed_ticket kept.operations)
+      (keys_of kept.operations) kept.core.closeds whole.each_closed op ticket
       (ap (λ (f : Option (Started T)). option_and_then closed_ticket f) e)
       ∙ sym (of_operation op (Some (Closed sender ticket)) e)
 
-  pub notice-none : (op : ℕ) → entry_at kept.operations op ≡ None → Absent ≡ notice_shown run (Op op)
+  pub notice-none : (op : ℕ) → entry_at kept.operations op ≡ None
+      → Absent ≡ notice_shown run (Op op)
   notice-none op e = sym (of_operation op None e)
 
-  pub notice-stream : (receiver : ℕ) (ticket : Option ℕ) → ticket_at stream_ticket kept.receivers receiver ≡ ticket
+  pub notice-stream : (receiver : ℕ) (ticket : Option ℕ)
+      → ticket_at stream_ticket kept.receivers receiver ≡ ticket
       → notice_at ticket kept.core.streams ≡ notice_shown run (Receiver receiver)
   notice-stream receiver ticket e = notice-held (ticket_at stream_ticket kept.receivers)
       (keys_of kept.receivers) kept.core.streams whole.each_stream receiver ticket e

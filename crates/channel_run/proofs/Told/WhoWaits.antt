@@ -51,7 +51,8 @@ module _ {W : Type 0} (ticket_of : ℕ → Option ℕ) (names : List ℕ) (list 
   }
 
   -- whoever waits has a ticket
-  pub has_ticket : (name : ℕ) → is_among name roster.names ≡ true → (key : ℕ) × (ticket_of name ≡ Some key)
+  pub has_ticket : (name : ℕ) → is_among name roster.names ≡ true
+      → (key : ℕ) × (ticket_of name ≡ Some key)
   has_ticket name among = go (ticket_of name) refl
     where
       go : (ticket : Option ℕ) → ticket_of name ≡ ticket → (key : ℕ) × (ticket_of name ≡ Some key)
@@ -73,7 +74,8 @@ among_either : (name : ℕ) (xs ys : List ℕ) (test : Bool) → (is_among name 
     → (is_among name ys ≡ true → test ≡ true) → is_among name (xs ++ ys) ≡ true → test ≡ true
 among_either name xs ys test left right among = go (is_among name xs) refl (sym (is_among-append name xs ys) ∙ among)
   where
-    go : (here : Bool) → is_among name xs ≡ here → (is_among name xs || is_among name ys) ≡ true → test ≡ true
+    go : (here : Bool) → is_among name xs ≡ here → (is_among name xs || is_among name ys) ≡ true
+        → test ≡ true
     go true e both = left e
     go false e both = right (sym (ap (λ here. here || is_among name ys) e) ∙ both)
 
@@ -87,31 +89,41 @@ module _ {T W : Type 0} (kept : Kept T W) (whole : Whole kept) where
 
   pub AreSound-IsWhole : AreSound all
   AreSound-IsWhole = record {
-    sends = IsSound-AreHeld (ticket_at send_ticket kept.operations) (keys_of kept.operations) kept.core.sends whole.each_send;
-    receives = IsSound-AreHeld (ticket_at recv_ticket kept.operations) (keys_of kept.operations) kept.core.receives whole.each_receive;
-    streams = IsSound-AreHeld (ticket_at stream_ticket kept.receivers) (keys_of kept.receivers) kept.core.streams whole.each_stream;
-    closeds = IsSound-AreHeld (ticket_at closed_ticket kept.operations) (keys_of kept.operations) kept.core.closeds whole.each_closed;
+    sends = IsSound-AreHeld (ticket_at send_ticket kept.operations)
+        (keys_of kept.operations) kept.core.sends whole.each_send;
+    receives = IsSound-AreHeld (ticket_at recv_ticket kept.operations)
+        (keys_of kept.operations) kept.core.receives whole.each_receive;
+    streams = IsSound-AreHeld (ticket_at stream_ticket kept.receivers)
+        (keys_of kept.receivers) kept.core.streams whole.each_stream;
+    closeds = IsSound-AreHeld (ticket_at closed_ticket kept.operations)
+        (keys_of kept.operations) kept.core.closeds whole.each_closed;
   }
 
   -- each is of its own kind
   pub send_waits : (name : ℕ) → is_among name all.sends.names ≡ true
       → (key : ℕ) × (ticket_at send_ticket kept.operations name ≡ Some key)
-  send_waits = has_ticket (ticket_at send_ticket kept.operations) (keys_of kept.operations) kept.core.sends whole.each_send
+  send_waits = has_ticket (ticket_at send_ticket kept.operations)
+      (keys_of kept.operations) kept.core.sends whole.each_send
 
   pub receive_waits : (name : ℕ) → is_among name all.receives.names ≡ true
       → (key : ℕ) × (ticket_at recv_ticket kept.operations name ≡ Some key)
-  receive_waits = has_ticket (ticket_at recv_ticket kept.operations) (keys_of kept.operations) kept.core.receives whole.each_receive
+  receive_waits = has_ticket (ticket_at recv_ticket kept.operations)
+      (keys_of kept.operations) kept.core.receives whole.each_receive
 
   pub closed_waits : (name : ℕ) → is_among name all.closeds.names ≡ true
       → (key : ℕ) × (ticket_at closed_ticket kept.operations name ≡ Some key)
-  closed_waits = has_ticket (ticket_at closed_ticket kept.operations) (keys_of kept.operations) kept.core.closeds whole.each_closed
+  closed_waits = has_ticket (ticket_at closed_ticket kept.operations)
+      (keys_of kept.operations) kept.core.closeds whole.each_closed
 
-  pub stream_waits : (name : ℕ) → is_among name all.streams.names ≡ true → is_among name (keys_of kept.receivers) ≡ true
+  pub stream_waits : (name : ℕ) → is_among name all.streams.names ≡ true
+      → is_among name (keys_of kept.receivers) ≡ true
   stream_waits name among =
       let has = has_ticket (ticket_at stream_ticket kept.receivers)
-      (keys_of kept.receivers) kept.core.streams whole.each_stream name among in whole.each_stream.listed name has.0 has.1
+      (keys_of kept.receivers) kept.core.streams whole.each_stream name among in whole.each_stream.listed name
+      has.0 has.1
 
-  no_two : (name : ℕ) (found : Option (Started T)) → entry_at kept.operations name ≡ found → (key other : ℕ)
+  no_two : (name : ℕ) (found : Option (Started T)) → entry_at kept.operations name ≡ found
+      → (key other : ℕ)
       → ((option_and_then send_ticket found ≡ Some key) × (option_and_then recv_ticket found ≡ Some other))
       ⊎ (((option_and_then send_ticket found ≡ Some key) × (option_and_then closed_ticket found ≡ Some other))
       ⊎ ((option_and_then recv_ticket found ≡ Some key) × (option_and_then closed_ticket found ≡ Some other))) → ⊥
@@ -145,7 +157,8 @@ module _ {T W : Type 0} (kept : Kept T W) (whole : Whole kept) where
       no_two name (entry_at kept.operations name) refl a.0 b.0 (inr (inl (a.1, b.1))))))
 
   -- no more operations and streams wait than have names
-  pub few_operations : length all.sends.names + length all.receives.names + length all.closeds.names ≤ length kept.operations
+  pub few_operations : length all.sends.names + length all.receives.names + length all.closeds.names
+      ≤ length kept.operations
   few_operations =
       let most = length-within (all.sends.names ++ (all.receives.names ++ all.closeds.names))
       (keys_of kept.operations) once_each
@@ -162,22 +175,29 @@ module _ {T W : Type 0} (kept : Kept T W) (whole : Whole kept) where
 
   pub few_streams : length all.streams.names ≤ length kept.receivers
   few_streams =
-      let most = length-within all.streams.names (keys_of kept.receivers) (AreSound-IsWhole).streams.once stream_waits in
+      let most = length-within all.streams.names (keys_of kept.receivers)
+      (AreSound-IsWhole).streams.once stream_waits in
       let count = length-map kept.receivers (λ (entry : ℕ × Option ℕ). entry.0) in
       omega arith
 
   -- as many wait as there are keys
-  pub count_waiting : waiting_in all ≡ length (keys kept.core.sends) + length (keys kept.core.receives) + length
+  pub count_waiting : waiting_in all
+      ≡ length (keys kept.core.sends) + length (keys kept.core.receives) + length
       (keys kept.core.streams) + length (keys kept.core.closeds)
   count_waiting =
-      let a = as_many (ticket_at send_ticket kept.operations) (keys_of kept.operations) kept.core.sends whole.each_send in
-      let b = as_many (ticket_at recv_ticket kept.operations) (keys_of kept.operations) kept.core.receives whole.each_receive in
-      let c = as_many (ticket_at stream_ticket kept.receivers) (keys_of kept.receivers) kept.core.streams whole.each_stream in
-      let d = as_many (ticket_at closed_ticket kept.operations) (keys_of kept.operations) kept.core.closeds whole.each_closed in
+      let a = as_many (ticket_at send_ticket kept.operations)
+      (keys_of kept.operations) kept.core.sends whole.each_send in
+      let b = as_many (ticket_at recv_ticket kept.operations)
+      (keys_of kept.operations) kept.core.receives whole.each_receive in
+      let c = as_many (ticket_at stream_ticket kept.receivers)
+      (keys_of kept.receivers) kept.core.streams whole.each_stream in
+      let d = as_many (ticket_at closed_ticket kept.operations)
+      (keys_of kept.operations) kept.core.closeds whole.each_closed in
       omega arith
 
   -- so their number fits
-  pub few_waiting : length kept.operations < 2 ^ 63 → length kept.receivers < 2 ^ 63 → waiting_in all < 2 ^ 64
+  pub few_waiting : length kept.operations < 2 ^ 63 → length kept.receivers < 2 ^ 63
+      → waiting_in all < 2 ^ 64
   few_waiting few others = let a = few_operations in let b = few_streams in omega arith
 
   -- what is started under a name

@@ -8,10 +8,12 @@ same_roster : (a b : Roster) → a.names ≡ b.names → a.told ≡ b.told → a
 same_roster a b n t = ap (λ (names : List ℕ). record { names = names; told = a.told }) n
     ∙ ap (λ (count : ℕ). record { names = b.names; told = count }) t
 
-pub is_told-absent : (name : ℕ) (roster : Roster) → is_among name roster.names ≡ false → is_told name roster ≡ false
+pub is_told-absent : (name : ℕ) (roster : Roster) → is_among name roster.names ≡ false
+    → is_told name roster ≡ false
 is_told-absent name roster absent = is_among-take roster.told name roster.names absent
 
-pub leave-absent : (name : ℕ) (roster : Roster) → is_among name roster.names ≡ false → leave name roster ≡ roster
+pub leave-absent : (name : ℕ) (roster : Roster) → is_among name roster.names ≡ false
+    → leave name roster ≡ roster
 leave-absent name roster absent = same_roster (leave name roster) roster (without-absent name roster.names absent)
     (rw (is_told-absent name roster absent) refl)
 
@@ -19,7 +21,8 @@ pub hand_on-untold : (name : ℕ) (roster : Roster) → is_told name roster ≡ 
     → hand_on name roster ≡ leave name roster
 hand_on-untold name roster isnt = ap (λ t. cond t (tell_one (leave name roster)) (leave name roster)) isnt
 
-pub hand_on-absent : (name : ℕ) (roster : Roster) → is_among name roster.names ≡ false → hand_on name roster ≡ roster
+pub hand_on-absent : (name : ℕ) (roster : Roster) → is_among name roster.names ≡ false
+    → hand_on name roster ≡ roster
 hand_on-absent name roster absent = hand_on-untold name roster (is_told-absent name roster absent)
     ∙ leave-absent name roster absent
 

@@ -19,12 +19,14 @@ use Rattle.event_list.specs.Waiting as waiting
 module _ {W : Type 0} (ticket_of ticket_of' : ℕ → Option ℕ) (names names' : List ℕ)
     (listed : (name key : ℕ) → ticket_of' name ≡ Some key → is_among name names' ≡ true)
     (list : Waiting W) (roster : Roster) (holds : Holds ticket_of names list roster) where
-  map_same : ((name : ℕ) → ticket_of' name ≡ ticket_of name) → (ns : List ℕ) → map ticket_of' ns ≡ map ticket_of ns
+  map_same : ((name : ℕ) → ticket_of' name ≡ ticket_of name) → (ns : List ℕ)
+      → map ticket_of' ns ≡ map ticket_of ns
   map_same same [] = refl
   map_same same (n ∷ ns) = ap (λ t. t ∷ map ticket_of' ns) (same n) ∙ ap (λ rest. ticket_of n ∷ rest) (map_same same ns)
 
   -- the tickets are the same, whatever became of the names
-  pub holds-same : ((name : ℕ) → ticket_of' name ≡ ticket_of name) → Holds ticket_of' names' list roster
+  pub holds-same : ((name : ℕ) → ticket_of' name ≡ ticket_of name)
+      → Holds ticket_of' names' list roster
   holds-same same =
       holds-keyed ticket_of' names' list roster
       (record {
@@ -51,7 +53,8 @@ module _ {W : Type 0} (ticket_of ticket_of' : ℕ → Option ℕ) (names names' 
         → (ticket_of name ≡ Some key) × ((op == name) ≡ false)
     had gone name key has = go (op == name) refl
       where
-        go : (same : Bool) → (op == name) ≡ same → (ticket_of name ≡ Some key) × ((op == name) ≡ false)
+        go : (same : Bool) → (op == name) ≡ same
+            → (ticket_of name ≡ Some key) × ((op == name) ≡ false)
         go true e = let both : Some key ≡ None = sym has ∙ ap ticket_of' (sym (eqb-true op name e)) ∙ gone in cc
         go false e = (sym (others name e) ∙ has, e)
 
@@ -74,13 +77,15 @@ module _ {W : Type 0} (ticket_of ticket_of' : ℕ → Option ℕ) (names names' 
       absent_left' : is_among op (leave op roster).names ≡ false
       absent_left' = is_among-without_same op roster.names
 
-      waits_left : (name other : ℕ) → ticket_of' name ≡ Some other → is_among other (without key (keys list)) ≡ true
+      waits_left : (name other : ℕ) → ticket_of' name ≡ Some other
+          → is_among other (without key (keys list)) ≡ true
       waits_left name other is =
           let was = had gone name other is in
           is_among-without_other key other (keys list) (apart (key == other) refl was.0 was.1)
           (holds.each.waits name other was.0)
         where
-          apart : (same : Bool) → (key == other) ≡ same → ticket_of name ≡ Some other → (op == name) ≡ false
+          apart : (same : Bool) → (key == other) ≡ same → ticket_of name ≡ Some other
+              → (op == name) ≡ false
               → (key == other) ≡ false
           apart false e f g = e
           apart true e f g =
@@ -103,10 +108,12 @@ module _ {W : Type 0} (ticket_of ticket_of' : ℕ → Option ℕ) (names names' 
           }))
 
     -- the one leaves, if it waits
-    pub holds-left : ticket_of' op ≡ None → Holds ticket_of' names' (left (ticket_of op) list) (leave op roster)
+    pub holds-left : ticket_of' op ≡ None
+        → Holds ticket_of' names' (left (ticket_of op) list) (leave op roster)
     holds-left gone = go (ticket_of op) refl
       where
-        go : (ticket : Option ℕ) → ticket_of op ≡ ticket → Holds ticket_of' names' (left ticket list) (leave op roster)
+        go : (ticket : Option ℕ) → ticket_of op ≡ ticket
+            → Holds ticket_of' names' (left ticket list) (leave op roster)
         go None e = subst (λ (r : Roster). Holds ticket_of' names' list r)
             (sym (leave-absent op roster (absent_name e))) (holds-same (same_but (gone ∙ sym e)))
         go (Some key) e = holds-without key e gone
@@ -156,10 +163,12 @@ module _ {W : Type 0} (ticket_of ticket_of' : ℕ → Option ℕ) (names names' 
         (arrive-keyed ticket_of' once op key has roster (key_roster list) kept))
       where
         -- who else has a ticket had it before, of another key
-        old : (name other : ℕ) → ticket_of' name ≡ Some other → (op == name) ≡ false → is_among other (keys list) ≡ true
+        old : (name other : ℕ) → ticket_of' name ≡ Some other → (op == name) ≡ false
+            → is_among other (keys list) ≡ true
         old name other is apart = holds.each.waits name other (sym (others name apart) ∙ is)
 
-        new_key : (name other : ℕ) → ticket_of' name ≡ Some other → (op == name) ≡ true → other ≡ key
+        new_key : (name other : ℕ) → ticket_of' name ≡ Some other → (op == name) ≡ true
+            → other ≡ key
         new_key name other is same = let both : Some other ≡ Some key = sym is
             ∙ ap ticket_of' (sym (eqb-true op name same)) ∙ has in cc
 
@@ -167,14 +176,17 @@ module _ {W : Type 0} (ticket_of ticket_of' : ℕ → Option ℕ) (names names' 
             → (is_among other (keys list) || ((key == other) || false)) ≡ true
         waits_more name other is = go (op == name) refl
           where
-            go : (same : Bool) → (op == name) ≡ same → (is_among other (keys list) || ((key == other) || false)) ≡ true
+            go : (same : Bool) → (op == name) ≡ same
+                → (is_among other (keys list) || ((key == other) || false)) ≡ true
             go false e = ap (λ among. among || ((key == other) || false)) (old name other is e)
             go true e = rw (new_key name other is e, eq-eqb key key refl) (or_true (is_among key (keys list)))
 
-        once : (name other k : ℕ) → ticket_of' name ≡ Some k → ticket_of' other ≡ Some k → name ≡ other
+        once : (name other k : ℕ) → ticket_of' name ≡ Some k → ticket_of' other ≡ Some k
+            → name ≡ other
         once name other k a b = go (op == name) refl (op == other) refl
           where
-            clash : (one another : ℕ) → ticket_of' one ≡ Some k → (op == one) ≡ true → ticket_of' another ≡ Some k
+            clash : (one another : ℕ) → ticket_of' one ≡ Some k → (op == one) ≡ true
+                → ticket_of' another ≡ Some k
                 → (op == another) ≡ false → ⊥
             clash one another x e y f =
                 let there : is_among k (keys list) ≡ true = old another k y f in
@@ -205,7 +217,8 @@ module _ {W : Type 0} (ticket_of ticket_of' : ℕ → Option ℕ) (names names' 
         (subst (λ (r : Roster). IsKeyed ticket_of' (wait op roster) r) (sym moved) is)
 
     -- who can't go on waits
-    pub holds-waits : (payload : W) (list' : Waiting W) → Waits (ticket_of op) list payload (ticket_of' op) list'
+    pub holds-waits : (payload : W) (list' : Waiting W)
+        → Waits (ticket_of op) list payload (ticket_of' op) list'
         → Holds ticket_of' names' list' (wait op roster)
     holds-waits payload list' now = go (ticket_of op) refl now
       where
@@ -216,7 +229,8 @@ module _ {W : Type 0} (ticket_of ticket_of' : ℕ → Option ℕ) (names names' 
             rw (is.1, wait-when_absent op roster (absent_name none)) (holds-joined key payload none has is.0)
         fresh none None has is = absurd is
 
-        go : (ticket : Option ℕ) → ticket_of op ≡ ticket → Waits ticket list payload (ticket_of' op) list'
+        go : (ticket : Option ℕ) → ticket_of op ≡ ticket
+            → Waits ticket list payload (ticket_of' op) list'
             → Holds ticket_of' names' list' (wait op roster)
         go None e now = fresh e (ticket_of' op) refl (now.begins refl)
         go (Some key) e now =

@@ -34,7 +34,8 @@ is-has_key key ticket e = ap (λ t. has_key key t) e ∙ eq-eqb key key refl
 
 -- what each change has to keep of the tickets: one name a key, and every holder listed
 pub record AreOwn (ticket_of : ℕ → Option ℕ) (names : List ℕ) : Type 0 where
-  pub once : (name other key : ℕ) → ticket_of name ≡ Some key → ticket_of other ≡ Some key → name ≡ other
+  pub once : (name other key : ℕ) → ticket_of name ≡ Some key → ticket_of other ≡ Some key
+      → name ≡ other
   pub listed : (name key : ℕ) → ticket_of name ≡ Some key → is_among name names ≡ true
 
 name_of-is : (ticket_of : ℕ → Option ℕ) (names : List ℕ) → AreOwn ticket_of names → (name key : ℕ)
@@ -45,7 +46,8 @@ name_of-is ticket_of names own name key has =
     (λ other is. own.once other name key (has_key-is key (ticket_of other) is) has)
     (own.listed name key has))
 
-names_of-keys : (ticket_of : ℕ → Option ℕ) (names : List ℕ) → AreOwn ticket_of names → (roster keys : List ℕ)
+names_of-keys : (ticket_of : ℕ → Option ℕ) (names : List ℕ) → AreOwn ticket_of names
+    → (roster keys : List ℕ)
     → AreKeyed ticket_of roster keys → map (λ key. name_of ticket_of names key) keys ≡ roster
 names_of-keys ticket_of names own [] [] e = refl
 names_of-keys ticket_of names own [] (key ∷ keys) e = cc
@@ -67,7 +69,8 @@ pub holds-refl : {W : Type 0} (ticket_of : ℕ → Option ℕ) (names : List ℕ
     → AreHeld ticket_of names list → Holds ticket_of names list (roster_of ticket_of names list)
 holds-refl ticket_of names list each = record { each = each; shows = refl }
 
-pub own : {W : Type 0} {ticket_of : ℕ → Option ℕ} {names : List ℕ} {list : Waiting W} → AreHeld ticket_of names list
+pub own : {W : Type 0} {ticket_of : ℕ → Option ℕ} {names : List ℕ} {list : Waiting W}
+    → AreHeld ticket_of names list
     → AreOwn ticket_of names
 own held = record { once = held.once; listed = held.listed }
 

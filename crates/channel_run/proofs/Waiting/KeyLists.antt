@@ -25,14 +25,17 @@ pub same_roster : (a b : Roster) → a.names ≡ b.names → a.told ≡ b.told �
 same_roster a b n t = ap (λ (names : List ℕ). record { names = names; told = a.told }) n
     ∙ ap (λ (count : ℕ). record { names = b.names; told = count }) t
 
-pub is_told-key : {W : Type 0} (list : Waiting W) (key : ℕ) → is_told key (key_roster list) ≡ is_among key list.told
+pub is_told-key : {W : Type 0} (list : Waiting W) (key : ℕ)
+    → is_told key (key_roster list) ≡ is_among key list.told
 is_told-key list key = ap (λ told. is_among key told) (take-append_seam list.told (untold_keys list))
 
-pub keys-without : {W : Type 0} (list : Waiting W) (key : ℕ) → keys (waiting.without list key) ≡ without key (keys list)
+pub keys-without : {W : Type 0} (list : Waiting W) (key : ℕ)
+    → keys (waiting.without list key) ≡ without key (keys list)
 keys-without {W} list key = ap (λ rest. without key list.told ++ rest) (untold list.untold)
     ∙ sym (filter-append (λ other. not (other == key)) list.told (untold_keys list))
   where
-    untold : (entries : List (ℕ × W)) → map (λ entry. entry.0) (filter (λ entry. not (entry.0 == key)) entries)
+    untold : (entries : List (ℕ × W))
+        → map (λ entry. entry.0) (filter (λ entry. not (entry.0 == key)) entries)
         ≡ without key (map (λ entry. entry.0) entries)
     untold [] = refl
     untold (entry ∷ entries) = go (entry.0 == key) (untold entries)
@@ -50,7 +53,8 @@ different_left : (xs ys : List ℕ) → AreDifferent (xs ++ ys) → AreDifferent
 different_left [] ys once = tt
 different_left (x ∷ xs) ys once = (absent_left x xs ys once.0, different_left xs ys once.1)
 
-without-none : (name : ℕ) (names : List ℕ) → is_among name names ≡ false → length (without name names) ≡ length names
+without-none : (name : ℕ) (names : List ℕ) → is_among name names ≡ false
+    → length (without name names) ≡ length names
 without-none name [] absent = refl
 without-none name (first ∷ names) absent = go (first == name) absent (λ rest. without-none name names rest)
   where
@@ -73,7 +77,8 @@ key-leave list key once = same_roster (key_roster (waiting.without list key)) (l
         rw (is_told-key list key, e) (omega arith)
     count false e = rw (is_told-key list key, e) (without-none key list.told e)
 
-pub key-told_one : {W : Type 0} (list : Waiting W) → key_roster (told_one list) ≡ tell_one (key_roster list)
+pub key-told_one : {W : Type 0} (list : Waiting W)
+    → key_roster (told_one list) ≡ tell_one (key_roster list)
 key-told_one {W} list = go list.told list.untold
   where
     go : (told : List ℕ) (untold : List (ℕ × W))
@@ -95,7 +100,8 @@ key-told_one {W} list = go list.told list.untold
         (let e = length-append told (entry.0 ∷ []) in
         let f = length-append told (entry.0 ∷ map (λ entry. entry.0) rest) in omega arith)
 
-pub key-told_all : {W : Type 0} (list : Waiting W) → key_roster (told_all list) ≡ tell_all (key_roster list)
+pub key-told_all : {W : Type 0} (list : Waiting W)
+    → key_roster (told_all list) ≡ tell_all (key_roster list)
 key-told_all list = same_roster (key_roster (told_all list)) (tell_all (key_roster list)) (append-nil (keys list)) refl
 
 pub key-joined : {W : Type 0} (list : Waiting W) (key : ℕ) (payload : W)
@@ -106,7 +112,8 @@ key-joined list key payload =
     ∙ sym (append_assoc list.told (untold_keys list) (key ∷ [])))
     refl
 
-keys-repaid : {W : Type 0} (list : Waiting W) (key : ℕ) (payload : W) → keys (repaid list key payload) ≡ keys list
+keys-repaid : {W : Type 0} (list : Waiting W) (key : ℕ) (payload : W)
+    → keys (repaid list key payload) ≡ keys list
 keys-repaid {W} list key payload = ap (λ rest. list.told ++ rest) (go list.untold)
   where
     go : (entries : List (ℕ × W)) → map (λ entry. entry.0)
@@ -140,7 +147,8 @@ key-renewed {W} list key payload once there =
     go true false e c f = cc
     go false true e c f = cc
 
-pub different_wait : (key : ℕ) (roster : Roster) → AreDifferent roster.names → AreDifferent (wait key roster).names
+pub different_wait : (key : ℕ) (roster : Roster) → AreDifferent roster.names
+    → AreDifferent (wait key roster).names
 different_wait key roster once = go (is_told key roster) (is_among key roster.names) refl
   where
     go : (told among : Bool) → is_among key roster.names ≡ among

@@ -18,7 +18,8 @@ pub record IsKeyed (key_of : ℕ → Option ℕ) (names keys : Roster) : Type 0 
   pub told : names.told ≡ keys.told
 
 -- the first name has the first key, and the others have the others
-first_keyed : (key_of : ℕ → Option ℕ) (name key : ℕ) (names keys : List ℕ) → AreKeyed key_of (name ∷ names) (key ∷ keys)
+first_keyed : (key_of : ℕ → Option ℕ) (name key : ℕ) (names keys : List ℕ)
+    → AreKeyed key_of (name ∷ names) (key ∷ keys)
     → (key_of name ≡ Some key) × AreKeyed key_of names keys
 first_keyed key_of name key names keys e = (cc, cc)
 
@@ -36,7 +37,8 @@ other_key key_of first name first_key key e f apart = go (first == name) refl
         cc
 
 -- a name is there where its key is, and by the same places
-pub same_name : (key_of : ℕ → Option ℕ) (first name first_key key : ℕ) → key_of first ≡ Some first_key
+pub same_name : (key_of : ℕ → Option ℕ) (first name first_key key : ℕ)
+    → key_of first ≡ Some first_key
     → key_of name ≡ Some key → ((first_key == key) ≡ true → first ≡ name) → (first == name) ≡ (first_key == key)
 same_name key_of first name first_key key e f one = go (first_key == key) refl
   where
@@ -50,12 +52,14 @@ IsOneToOne key_of = (name other key : ℕ) → key_of name ≡ Some key → key_
 
 module _ (key_of : ℕ → Option ℕ) (one_to_one : IsOneToOne key_of) (name key : ℕ)
     (has : key_of name ≡ Some key) where
-  same_test : (first first_key : ℕ) → key_of first ≡ Some first_key → (first == name) ≡ (first_key == key)
+  same_test : (first first_key : ℕ) → key_of first ≡ Some first_key
+      → (first == name) ≡ (first_key == key)
   same_test first first_key e =
       same_name key_of first name first_key key e has
       (λ same. one_to_one first name key (e ∙ ap (λ k. Some k) (eqb-true first_key key same)) has)
 
-  pub is_among-keyed : (names keys : List ℕ) → AreKeyed key_of names keys → is_among name names ≡ is_among key keys
+  pub is_among-keyed : (names keys : List ℕ) → AreKeyed key_of names keys
+      → is_among name names ≡ is_among key keys
   is_among-keyed [] [] e = refl
   is_among-keyed [] (first_key ∷ keys) e = cc
   is_among-keyed (first ∷ names) [] e = cc
@@ -95,7 +99,8 @@ module _ (key_of : ℕ → Option ℕ) (one_to_one : IsOneToOne key_of) (name ke
       let rest = take-keyed count names keys parts.1 in
       cc
 
-  pub is_told-keyed : (names keys : Roster) → IsKeyed key_of names keys → is_told name names ≡ is_told key keys
+  pub is_told-keyed : (names keys : Roster) → IsKeyed key_of names keys
+      → is_told name names ≡ is_told key keys
   is_told-keyed names keys keyed =
       is_among-keyed (take names.told names.names) (take names.told keys.names)
       (take-keyed names.told names.names keys.names keyed.keyed)
@@ -116,7 +121,8 @@ module _ (key_of : ℕ → Option ℕ) (one_to_one : IsOneToOne key_of) (name ke
     told = keyed.told;
   }
 
-same_length : (key_of : ℕ → Option ℕ) (names keys : List ℕ) → AreKeyed key_of names keys → length names ≡ length keys
+same_length : (key_of : ℕ → Option ℕ) (names keys : List ℕ) → AreKeyed key_of names keys
+    → length names ≡ length keys
 same_length key_of [] [] e = refl
 same_length key_of [] (key ∷ keys) e = cc
 same_length key_of (name ∷ names) [] e = cc
@@ -181,7 +187,8 @@ AreKeyed-other key_of key_of' name (first ∷ names) (key ∷ keys) same absent 
 -- ---- what the keys tell of the names
 
 -- a name without a key isn't among them
-pub is_among-no_key : (key_of : ℕ → Option ℕ) (name : ℕ) (names keys : List ℕ) → AreKeyed key_of names keys
+pub is_among-no_key : (key_of : ℕ → Option ℕ) (name : ℕ) (names keys : List ℕ)
+    → AreKeyed key_of names keys
     → key_of name ≡ None → is_among name names ≡ false
 is_among-no_key key_of name [] keys e none = refl
 is_among-no_key key_of name (first ∷ names) [] e none = cc
@@ -189,7 +196,8 @@ is_among-no_key key_of name (first ∷ names) (key ∷ keys) e none =
     let parts = first_keyed key_of first key names keys e in
     go (first == name) refl parts.0 (is_among-no_key key_of name names keys parts.1 none)
   where
-    go : (same : Bool) → (first == name) ≡ same → key_of first ≡ Some key → is_among name names ≡ false
+    go : (same : Bool) → (first == name) ≡ same → key_of first ≡ Some key
+        → is_among name names ≡ false
         → ((first == name) || is_among name names) ≡ false
     go true h f rest = let both : Some key ≡ None = sym f ∙ ap key_of (eqb-true first name h) ∙ none in cc
     go false h f rest = rw h rest
@@ -204,14 +212,16 @@ notice_in-keyed key_of one_to_one name key has names keys keyed =
     (is_among-keyed key_of one_to_one name key has names.names keys.names keyed.keyed)
 
 -- the first told name is the one of the first told key
-pub first_told-keyed : (key_of : ℕ → Option ℕ) → IsOneToOne key_of → (name key : ℕ) (names keys : Roster)
+pub first_told-keyed : (key_of : ℕ → Option ℕ) → IsOneToOne key_of
+    → (name key : ℕ) (names keys : Roster)
     → IsKeyed key_of names keys → key_of name ≡ Some key → slice_get (told_names keys) 0 ≡ Some key
     → slice_get (told_names names) 0 ≡ Some name
 first_told-keyed key_of one_to_one name key names keys keyed has first =
     ap (λ count. slice_get (take count names.names) 0) keyed.told
     ∙ go keys.told names.names keys.names keyed.keyed first
   where
-    go : (count : ℕ) (ns ks : List ℕ) → AreKeyed key_of ns ks → slice_get (take count ks) 0 ≡ Some key
+    go : (count : ℕ) (ns ks : List ℕ) → AreKeyed key_of ns ks
+        → slice_get (take count ks) 0 ≡ Some key
         → slice_get (take count ns) 0 ≡ Some name
     go zero ns ks e f = cc
     go (suc count) [] [] e f = cc

@@ -55,4 +55,5 @@ returns g c =
     c.new-receivers.ensures.empty first in
     let one = count ∙ ap (λ (entries : List (ℕ × Option ℕ)). length entries + 1) c.new-receivers.ensures.empty in
     rw (core, c.new.ensures, c.new-2.ensures, c.new-3.ensures.empty)
-    (stands-new g.row.T.Denot (Unit {0}) c.args.kind c.add.new.self senders c.put.new.entries.entries change one c.requires)
+    (stands-new g.row.T.Denot
+    (Unit {0}) c.args.kind c.add.new.self senders c.put.new.entries.entries change one c.requires)

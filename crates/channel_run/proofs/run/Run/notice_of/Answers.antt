@@ -12,7 +12,8 @@ pub returns-in-Some-Send : goal.returns-in-Some-Send
 returns-in-Some-Send g c = λ kind past s.
     let run = shown_by (kept_of c.self.inside) in
     let stands = rw (← c.self.view_is) at s in
-    rw c.in-Op.is (c.notice.ensures ∙ notice-send (kept_of c.self.inside) c.self.invariant.0 c.in-Op.op c.in-Some-Send.field-0-0 c.in-Some-Send.field-0-1
+    rw c.in-Op.is (c.notice.ensures ∙ notice-send
+    (kept_of c.self.inside) c.self.invariant.0 c.in-Op.op c.in-Some-Send.field-0-0 c.in-Some-Send.field-0-1
     c.in-Some-Send.ticket (sym c.in-Some-Send.ensures.value
     ∙ ap (λ (o : Started g.row.T.Denot). Some o) c.in-Some-Send.field-0-is)
     ∙ notice_shown-StandsFor kind past run (Op c.in-Op.op) stands)

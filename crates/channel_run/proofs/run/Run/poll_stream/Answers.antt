@@ -28,7 +28,8 @@ invariant_of-self-2 g c =
     let kept = c.get_mut.follows.holds now in
     let written = kept.3 (is_there _ _ was) in
     let change = changed c.args.receiver c.self.inside.receivers.entries entries (Some now) written.1 written.2 in
-    let outcome = polled-stream (kept_of c.self.inside) c.self.invariant.0 c.args.receiver entries kept.1 kept.2 c.in-Some.ticket.now now was change
+    let outcome = polled-stream (kept_of c.self.inside) c.self.invariant.0 c.args.receiver entries kept.1 kept.2
+    c.in-Some.ticket.now now was change
     c.poll_next.result c.poll_next.new.self tt c.poll_next.ensures.reply c.poll_next.ensures.after
     c.poll_next.ensures.finished c.poll_next.ensures.waits
     (first_on_err _ _ c.poll_next.result c.poll_next.ensures.unchanged) c.poll_next.ensures.unpolled
@@ -44,7 +45,8 @@ returns g c =
     let kept = c.get_mut.follows.holds now in
     let written = kept.3 (is_there _ _ was) in
     let change = changed c.args.receiver c.self.inside.receivers.entries entries (Some now) written.1 written.2 in
-    let outcome = polled-stream (kept_of c.self.inside) c.self.invariant.0 c.args.receiver entries kept.1 kept.2 c.in-Some.ticket.now now was change
+    let outcome = polled-stream (kept_of c.self.inside) c.self.invariant.0 c.args.receiver entries kept.1 kept.2
+    c.in-Some.ticket.now now was change
     c.poll_next.result c.poll_next.new.self tt c.poll_next.ensures.reply c.poll_next.ensures.after
     c.poll_next.ensures.finished c.poll_next.ensures.waits
     (first_on_err _ _ c.poll_next.result c.poll_next.ensures.unchanged) c.poll_next.ensures.unpolled

@@ -34,7 +34,8 @@ invariant_of-self g c =
         (stepped-started (kept_of c.self.inside) c.self.invariant.0
             (Step.StartSend c.args.op c.args.sender c.args.message) c.args.op
             (Send c.args.sender (Some c.args.message) None) c.put.new.self.by_name.entries absent refl refl refl
-            w.in-Ok.ensures.added w.in-Ok.ensures.more (made-start_send run c.args.op c.args.sender c.args.message fresh)).whole,
+            w.in-Ok.ensures.added w.in-Ok.ensures.more
+            (made-start_send run c.args.op c.args.sender c.args.message fresh)).whole,
         c.put.ensures.counted,
       )
       | in-Err w ↦ (rw w.in-Err.ensures.unchanged c.self.invariant.0, c.put.ensures.counted)
