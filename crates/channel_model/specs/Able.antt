@@ -19,14 +19,15 @@ can_receive past = is_closed past || not (has_none (held_messages past))
 abbrev pub can_send : {T : Type 0} → Kind → Past T → Bool
 can_send kind past = is_closed past || not (is_full_in (view_of kind past))
 
--- An operation, or the stream of a receiver, waits and could go on. A closed operation could where no receiver
--- is live.
+-- An operation, or the stream of a receiver, waits and could go on. A closed operation could where
+-- no receiver is live.
 abbrev pub is_able : {T : Type 0} → Kind → Past T → Who → Bool
 is_able kind past (Op op) =
     (is_among op (rosters past).sends.names && can_send kind past)
     || (is_among op (rosters past).receives.names && can_receive past)
     || (is_among op (rosters past).closeds.names && has_no_receiver past)
-is_able kind past (Receiver receiver) = is_among receiver (rosters past).streams.names && can_receive past
+is_able kind past (Receiver receiver) =
+    is_among receiver (rosters past).streams.names && can_receive past
 
 -- Nobody waits who could go on.
 abbrev pub IsSettled : {T : Type 0} → Kind → Past T → Type 0

@@ -19,8 +19,8 @@ message_in (ForceSend sender message) = Some message
 message_in (StartSend op sender message) = Some message
 message_in step = None
 
--- The reply is the refusal that applies; where none does, it is the one that is due, or want of memory where
--- that is possible.
+-- The reply is the refusal that applies; where none does, it is the one that is due, or want of
+-- memory where that is possible.
 abbrev pub IsAnswer : {T : Type 0} → Kind → Past T → Step T → Reply T → Type 0
 IsAnswer kind past step reply =
     MatchOption (refusal_of kind past step)
@@ -46,9 +46,10 @@ answer_of kind past step = refused_or (refusal_of kind past step) step (due_repl
 abbrev pub past_made : {T : Type 0} → Kind → Past T → Step T → Past T
 past_made kind past step = past_after past step (answer_of kind past step)
 
--- Each step, in order, was answered after the past that those before it left, and this is the past after all
--- of them.
-abbrev pub AreAnswers : {T : Type 0} → Kind → Past T → List (Step T) → List (Reply T) → Past T → Type 0
+-- Each step, in order, was answered after the past that those before it left, and this is the past
+-- after all of them.
+abbrev pub AreAnswers : {T : Type 0} → Kind → Past T → List (Step T) → List (Reply T) → Past T
+    → Type 0
 AreAnswers kind past [] [] after = after ≡ past
 AreAnswers kind past (step ∷ steps) (reply ∷ replies) after =
     IsAnswer kind past step reply × AreAnswers kind (past_after past step reply) steps replies after

@@ -23,6 +23,7 @@ is_closed (pair ∷ past) =
     is_closed past || is_close pair.0
     || has_none (live_senders (pair ∷ past)) || has_none (live_receivers (pair ∷ past))
 
--- No receiver is live. Such a channel is closed; one that was closed by hand may have receivers still.
+-- No receiver is live. Such a channel is closed; one that was closed by hand may have receivers
+-- still.
 abbrev pub has_no_receiver : {T : Type 0} → Past T → Bool
 has_no_receiver past = has_none (live_receivers past)

@@ -6,8 +6,8 @@ pub record Waiters : Type 0 where
   pub told : ℕ
   pub untold : ℕ
 
--- what the law looks at: the capacity, how many messages are held, whether the channel is closed, how
--- many senders and receivers there are, and who waits
+-- what the law looks at: the capacity, how many messages are held, whether the channel is closed,
+-- how many senders and receivers there are, and who waits
 pub record Standing : Type 0 where
   pub capacity : Option ℕ
   pub held : ℕ

@@ -12,7 +12,8 @@ without name names = filter (λ other. not (other == name)) names
 
 -- ---- What a step with this reply makes of the names that were live before it.
 
--- The senders: a copy is live, an upgrade where it was answered by a handle, and who is given up is not.
+-- The senders: a copy is live, an upgrade where it was answered by a handle, and who is given up is
+-- not.
 abbrev pub senders_after : {T : Type 0} → Step T → Reply T → List ℕ → List ℕ
 senders_after (CloneSender of new) reply names = new ∷ names
 senders_after (UpgradeSender of new) (Upgraded true) names = new ∷ names
@@ -60,4 +61,5 @@ live_weak_senders ((step, reply) ∷ past) = weak_senders_after step reply (live
 -- The weak receivers. A new channel has none.
 abbrev pub live_weak_receivers : {T : Type 0} → Past T → List ℕ
 live_weak_receivers [] = []
-live_weak_receivers ((step, reply) ∷ past) = weak_receivers_after step reply (live_weak_receivers past)
+live_weak_receivers ((step, reply) ∷ past) =
+    weak_receivers_after step reply (live_weak_receivers past)

@@ -21,13 +21,17 @@ use Rattle.channel_model.specs.Notices.{rosters}
 
 -- ---- who waits
 
--- Whoever waits is live, and in the roster of its kind: a send that has its message still, a receive, a closed
--- operation, or the stream of a receiver.
+-- Whoever waits is live, and in the roster of its kind: a send that has its message still, a
+-- receive, a closed operation, or the stream of a receiver.
 pub record AreLive {T : Type 0} (past : Past T) (all : Rosters) : Type 0 where
-  pub sends : (name : ℕ) → is_among name all.sends.names ≡ true → is_unsent (operation_of past name) ≡ true
-  pub receives : (name : ℕ) → is_among name all.receives.names ≡ true → is_receive (operation_of past name) ≡ true
-  pub closeds : (name : ℕ) → is_among name all.closeds.names ≡ true → is_awaiting (operation_of past name) ≡ true
-  pub streams : (name : ℕ) → is_among name all.streams.names ≡ true → is_among name (live_receivers past) ≡ true
+  pub sends : (name : ℕ) → is_among name all.sends.names ≡ true
+      → is_unsent (operation_of past name) ≡ true
+  pub receives : (name : ℕ) → is_among name all.receives.names ≡ true
+      → is_receive (operation_of past name) ≡ true
+  pub closeds : (name : ℕ) → is_among name all.closeds.names ≡ true
+      → is_awaiting (operation_of past name) ≡ true
+  pub streams : (name : ℕ) → is_among name all.streams.names ≡ true
+      → is_among name (live_receivers past) ≡ true
 
 -- No send waits beside a waiting receive or stream, and on a closed channel none of them waits.
 pub record IsDone {T : Type 0} (past : Past T) : Type 0 where
@@ -43,20 +47,22 @@ pub record IsDone {T : Type 0} (past : Past T) : Type 0 where
 abbrev pub taken_since : {T : Type 0} → (past later : Past T) → List T
 taken_since past later = drop (length (taken_messages past)) (taken_messages (later ++ past))
 
--- Behind these later pairs the channel is closed still, and has accepted nothing more. The messages that were held
--- are those taken since, followed by those that are left.
+-- Behind these later pairs the channel is closed still, and has accepted nothing more. The messages
+-- that were held are those taken since, followed by those that are left.
 pub record StaysClosed {T : Type 0} (past later : Past T) : Type 0 where
   pub closed : is_closed (later ++ past) ≡ true
   pub accepted : accepted_messages (later ++ past) ≡ accepted_messages past
   pub left : held_messages past ≡ taken_since past later ++ held_messages (later ++ past)
 
--- Each way to receive gives the oldest message, and where none is left the error or the end: it is never empty
--- and never pending.
+-- Each way to receive gives the oldest message, and where none is left the error or the end: it is
+-- never empty and never pending.
 pub record GivesWhatIsLeft {T : Type 0} (kind : Kind) (past : Past T) : Type 0 where
-  pub at_once : (receiver : ℕ) → due_reply kind past (TryRecv receiver) ≡ Received (ok_or (oldest_message past) Closed)
+  pub at_once : (receiver : ℕ)
+      → due_reply kind past (TryRecv receiver) ≡ Received (ok_or (oldest_message past) Closed)
   pub polled : (op receiver : ℕ) → operation_of past op ≡ Some (receiving receiver)
       → due_reply kind past (Poll op) ≡ RecvPolled (Ready (ok_or (oldest_message past) (record {})))
-  pub streamed : (receiver : ℕ) → due_reply kind past (PollNext receiver) ≡ NextPolled (Ready (oldest_message past))
+  pub streamed : (receiver : ℕ)
+      → due_reply kind past (PollNext receiver) ≡ NextPolled (Ready (oldest_message past))
 
 -- ---- refused sends
 
@@ -76,7 +82,8 @@ given_back (SendPolled (Ready (Err error))) = Some error.0
 given_back reply = None
 
 -- The message is the one that was to be sent, and the channel holds what it held.
-pub record ComesBack {T : Type 0} (past : Past T) (step : Step T) (reply : Reply T) (message : T) : Type 0 where
+pub record ComesBack {T : Type 0} (past : Past T) (step : Step T) (reply : Reply T)
+    (message : T) : Type 0 where
   pub same : sent_by past step ≡ Some message
   pub held : held_messages ((step, reply) ∷ past) ≡ held_messages past
 
@@ -87,7 +94,8 @@ abbrev pub with_made : (is_made : Bool) → ℕ → List ℕ → List ℕ
 with_made is_made name names = if is_made then name ∷ names else names
 
 -- An upgrade makes its handle exactly on an open channel.
-pub record UpgradesWhileOpen {T : Type 0} (past : Past T) (of new : ℕ) (reply : Reply T) : Type 0 where
+pub record UpgradesWhileOpen {T : Type 0} (past : Past T) (of new : ℕ)
+    (reply : Reply T) : Type 0 where
   pub replied : reply ≡ Upgraded (not (is_closed past))
   pub senders : live_senders ((UpgradeSender of new, reply) ∷ past)
       ≡ with_made (not (is_closed past)) new (live_senders past)

@@ -15,9 +15,10 @@ abbrev pub IsAllowed : {T : Type 0} → Step T → Option Refusal → Type 0
 IsAllowed (PollNext receiver) refusal = (refusal ≡ None) ⊎ (refusal ≡ Some Borrowed)
 IsAllowed step refusal = refusal ≡ None
 
--- The channel could be made; then each step was allowed after the past before it, and has the reply that was
--- due there.
+-- The channel could be made; then each step was allowed after the past before it, and has the reply
+-- that was due there.
 abbrev pub IsLegal : {T : Type 0} → Kind → Past T → Type 0
 IsLegal kind [] = HasPositiveCapacity kind
 IsLegal kind ((step, reply) ∷ past) =
-    IsLegal kind past × (reply ≡ due_reply kind past step) × IsAllowed step (refusal_of kind past step)
+    IsLegal kind past × (reply ≡ due_reply kind past step)
+    × IsAllowed step (refusal_of kind past step)

@@ -17,52 +17,71 @@ use Rattle.channel_model.specs.Rosters.{Rosters, hand_on, notice_in, tell_all, t
 
 -- ---- First the entry of the one who acts is moved.
 
--- Whose poll is ready leaves. Whose poll is pending goes last, untold, or keeps its place if it waits untold
--- already; for a finished send nothing changes. Whoever is given up leaves, and a told send or receive hands
--- its notice on. With a receiver its stream leaves.
-abbrev pub after_own_move : {T : Type 0} → List (ℕ × Operation T) → Step T → Reply T → Rosters → Rosters
-after_own_move operations (Poll op) (SendPolled (Ready result)) all = record all { sends = leave op all.sends }
+-- Whose poll is ready leaves. Whose poll is pending goes last, untold, or keeps its place if it
+-- waits untold already; for a finished send nothing changes. Whoever is given up leaves, and a told
+-- send or receive hands its notice on. With a receiver its stream leaves.
+abbrev pub after_own_move : {T : Type 0} → List (ℕ × Operation T) → Step T → Reply T → Rosters
+    → Rosters
+after_own_move operations (Poll op) (SendPolled (Ready result)) all =
+    record all { sends = leave op all.sends }
 after_own_move operations (Poll op) (SendPolled Pending) all =
-    if is_finished_send (operation_in operations op) then all else record all { sends = wait op all.sends }
-after_own_move operations (Poll op) (RecvPolled (Ready result)) all = record all { receives = leave op all.receives }
-after_own_move operations (Poll op) (RecvPolled Pending) all = record all { receives = wait op all.receives }
-after_own_move operations (Poll op) (ClosedPolled (Ready done)) all = record all { closeds = leave op all.closeds }
-after_own_move operations (Poll op) (ClosedPolled Pending) all = record all { closeds = wait op all.closeds }
+    if is_finished_send (operation_in operations op) then all
+    else record all { sends = wait op all.sends }
+after_own_move operations (Poll op) (RecvPolled (Ready result)) all =
+    record all { receives = leave op all.receives }
+after_own_move operations (Poll op) (RecvPolled Pending) all =
+    record all { receives = wait op all.receives }
+after_own_move operations (Poll op) (ClosedPolled (Ready done)) all =
+    record all { closeds = leave op all.closeds }
+after_own_move operations (Poll op) (ClosedPolled Pending) all =
+    record all { closeds = wait op all.closeds }
 after_own_move operations (PollNext receiver) (NextPolled (Ready item)) all =
     record all { streams = leave receiver all.streams }
 after_own_move operations (PollNext receiver) (NextPolled Pending) all =
     record all { streams = wait receiver all.streams }
 after_own_move operations (DropOp op) reply all =
-    record all { sends = hand_on op all.sends; receives = hand_on op all.receives; closeds = leave op all.closeds }
-after_own_move operations (DropReceiver receiver) reply all = record all { streams = leave receiver all.streams }
+    record all {
+      sends = hand_on op all.sends;
+      receives = hand_on op all.receives;
+      closeds = leave op all.closeds;
+    }
+after_own_move operations (DropReceiver receiver) reply all =
+    record all { streams = leave receiver all.streams }
 after_own_move operations step reply all = all
 
 -- ---- Then the others are told.
 
 -- A message was accepted: one receive and all streams are told.
 abbrev pub after_accepting : {T : Type 0} → (accepted : Option T) → Rosters → Rosters
-after_accepting (Some message) all = record all { receives = tell_one all.receives; streams = tell_all all.streams }
+after_accepting (Some message) all =
+    record all { receives = tell_one all.receives; streams = tell_all all.streams }
 after_accepting None all = all
 
--- A message was received: one send is told. A displaced message leaves no place free and tells no send; the
--- forced one, for which it made room, was accepted and tells one receive and all streams.
+-- A message was received: one send is told. A displaced message leaves no place free and tells no
+-- send; the forced one, for which it made room, was accepted and tells one receive and all streams.
 abbrev pub after_receiving : {T : Type 0} → (received : Option T) → Rosters → Rosters
 after_receiving (Some message) all = record all { sends = tell_one all.sends }
 after_receiving None all = all
 
--- The step closed the channel, by hand or with the last handle of a side: all sends, receives and streams are told.
+-- The step closed the channel, by hand or with the last handle of a side: all sends, receives and
+-- streams are told.
 abbrev pub after_closing : (closed_before closed_now : Bool) → Rosters → Rosters
 after_closing false true all =
-    record all { sends = tell_all all.sends; receives = tell_all all.receives; streams = tell_all all.streams }
+    record all {
+      sends = tell_all all.sends;
+      receives = tell_all all.receives;
+      streams = tell_all all.streams;
+    }
 after_closing before now all = all
 
--- The step ended the last receiver: all closed operations are told, also where the channel was closed before.
+-- The step ended the last receiver: all closed operations are told, also where the channel was
+-- closed before.
 abbrev pub after_last_receiver : (none_before none_now : Bool) → Rosters → Rosters
 after_last_receiver false true all = record all { closeds = tell_all all.closeds }
 after_last_receiver before now all = all
 
--- Who waits after this past, and who was told: first the own entry is moved, then the others are told.
--- On a new channel nobody waits.
+-- Who waits after this past, and who was told: first the own entry is moved, then the others are
+-- told. On a new channel nobody waits.
 abbrev pub rosters : {T : Type 0} → Past T → Rosters
 rosters [] = record { sends = nobody; receives = nobody; streams = nobody; closeds = nobody }
 rosters ((step, reply) ∷ past) =

@@ -25,19 +25,23 @@ without_operation op operations = filter (λ entry. not (entry.0 == op)) operati
 
 -- the operations, of which the one of this name has finished
 abbrev pub with_finished : {T : Type 0} → ℕ → List (ℕ × Operation T) → List (ℕ × Operation T)
-with_finished op operations = map (λ entry. if entry.0 == op then (entry.0, finished entry.1) else entry) operations
+with_finished op operations =
+    map (λ entry. if entry.0 == op then (entry.0, finished entry.1) else entry) operations
 
--- What a step with this reply makes of the operations that were live before it: one that is started is live, a send
--- whose poll was ready has finished, and one that is given up isn't live.
-abbrev pub operations_after : {T : Type 0} → Step T → Reply T → List (ℕ × Operation T) → List (ℕ × Operation T)
-operations_after (StartSend op sender message) reply operations = (op, sending sender (Some message)) ∷ operations
+-- What a step with this reply makes of the operations that were live before it: one that is started
+-- is live, a send whose poll was ready has finished, and one that is given up isn't live.
+abbrev pub operations_after : {T : Type 0} → Step T → Reply T → List (ℕ × Operation T)
+    → List (ℕ × Operation T)
+operations_after (StartSend op sender message) reply operations =
+    (op, sending sender (Some message)) ∷ operations
 operations_after (StartRecv op receiver) reply operations = (op, receiving receiver) ∷ operations
 operations_after (StartClosed op sender) reply operations = (op, awaiting_close sender) ∷ operations
 operations_after (Poll op) (SendPolled (Ready result)) operations = with_finished op operations
 operations_after (DropOp op) reply operations = without_operation op operations
 operations_after step reply operations = operations
 
--- The operations that were started and not given up since, each with its name. A new channel has none.
+-- The operations that were started and not given up since, each with its name. A new channel has
+-- none.
 abbrev pub live_operations : {T : Type 0} → Past T → List (ℕ × Operation T)
 live_operations [] = []
 live_operations ((step, reply) ∷ past) = operations_after step reply (live_operations past)
@@ -48,7 +52,8 @@ names_of operations = map (λ entry. entry.0) operations
 
 -- the operation of this name among these, if there is one
 abbrev pub operation_in : {T : Type 0} → List (ℕ × Operation T) → ℕ → Option (Operation T)
-operation_in operations op = option_map (λ entry. entry.1) (find (λ entry. entry.0 == op) operations)
+operation_in operations op =
+    option_map (λ entry. entry.1) (find (λ entry. entry.0 == op) operations)
 
 -- The operation of this name, if one is live.
 abbrev pub operation_of : {T : Type 0} → Past T → ℕ → Option (Operation T)

@@ -20,8 +20,8 @@ told_polls all =
     map Poll (told_names all.receives) ++ map PollNext (told_names all.streams)
     ++ map Poll (told_names all.sends) ++ map Poll (told_names all.closeds)
 
--- Pairs that poll after this past, the newest first: each polls the first who was told just before, and has the
--- reply that was due.
+-- Pairs that poll after this past, the newest first: each polls the first who was told just before,
+-- and has the reply that was due.
 abbrev pub IsSettling : {T : Type 0} → Kind → Past T → (polls : Past T) → Type 0
 IsSettling kind past [] = ⊤
 IsSettling kind past ((step, reply) ∷ polls) =
@@ -47,7 +47,8 @@ pub record IsQuiet (all : Rosters) : Type 0 where
 -- how many wait
 abbrev pub waiting_in : Rosters → ℕ
 waiting_in all =
-    length all.sends.names + length all.receives.names + length all.streams.names + length all.closeds.names
+    length all.sends.names + length all.receives.names + length all.streams.names
+    + length all.closeds.names
 
 -- how many of them were told
 abbrev pub told_in : Rosters → ℕ
@@ -60,7 +61,8 @@ most_polls waiting = waiting * (waiting + 1) / 2
 -- who was polled and is done, and with which reply
 abbrev pub finished_by : {T : Type 0} → Step T → Reply T → Option (Who × Reply T)
 finished_by (Poll op) reply = if is_pending reply then None else Some (Op op, reply)
-finished_by (PollNext receiver) reply = if is_pending reply then None else Some (Receiver receiver, reply)
+finished_by (PollNext receiver) reply =
+    if is_pending reply then None else Some (Receiver receiver, reply)
 finished_by step reply = None
 
 -- the polls that were ready, the oldest first
@@ -91,8 +93,8 @@ pub record Settles {T : Type 0} (kind : Kind) (past polls : Past T) (count : ℕ
   pub settled : IsSettled kind (polls ++ past)
   pub bounded : count ≤ most_polls (waiting_in (rosters past))
 
--- In whatever order the told ones are polled: at most this many polls, each of which could be made, and
--- where nobody is told after them nobody waits who could go on.
+-- In whatever order the told ones are polled: at most this many polls, each of which could be made,
+-- and where nobody is told after them nobody waits who could go on.
 pub record EndsWell {T : Type 0} (kind : Kind) (past polls : Past T) : Type 0 where
   pub legal : IsLegal kind (polls ++ past)
   pub bounded : length polls ≤ most_polls (waiting_in (rosters past))

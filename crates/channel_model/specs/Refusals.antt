@@ -79,24 +79,28 @@ new_is_live view step = None
 abbrev pub is_taken : {T : Type 0} → View T → Step T → Bool
 is_taken view step = unwrap_or (new_is_live view step) false
 
--- A live operation borrows the handle that the step gives up, or the receiver whose stream it polls.
+-- A live operation borrows the handle that the step gives up, or the receiver whose stream it
+-- polls.
 abbrev pub is_borrowed : {T : Type 0} → View T → Step T → Bool
 is_borrowed view (DropSender name) = list_any (λ entry. borrows_sender name entry.1) view.operations
-is_borrowed view (DropReceiver name) = list_any (λ entry. borrows_receiver name entry.1) view.operations
-is_borrowed view (PollNext receiver) = list_any (λ entry. borrows_receiver receiver entry.1) view.operations
+is_borrowed view (DropReceiver name) =
+    list_any (λ entry. borrows_receiver name entry.1) view.operations
+is_borrowed view (PollNext receiver) =
+    list_any (λ entry. borrows_receiver receiver entry.1) view.operations
 is_borrowed view step = false
 
 -- A handle would be copied, or upgraded on an open channel, beside more of its kind than the limit.
 abbrev pub is_one_too_many : {T : Type 0} → View T → Step T → Bool
 is_one_too_many view (CloneSender of new) = nat_lt handle_limit (length view.senders)
 is_one_too_many view (CloneReceiver of new) = nat_lt handle_limit (length view.receivers)
-is_one_too_many view (UpgradeSender of new) = not view.closed && nat_lt handle_limit (length view.senders)
+is_one_too_many view (UpgradeSender of new) =
+    not view.closed && nat_lt handle_limit (length view.senders)
 is_one_too_many view (UpgradeReceiver of new) =
     not view.closed && nat_lt handle_limit (length view.receivers)
 is_one_too_many view step = false
 
--- The first refusal that applies: a name that isn't live, then a new name that is live, then a handle
--- that is borrowed, then one handle too many.
+-- The first refusal that applies: a name that isn't live, then a new name that is live, then a
+-- handle that is borrowed, then one handle too many.
 abbrev pub refusal_in : {T : Type 0} → View T → Step T → Option Refusal
 refusal_in view step =
     if not (is_known view step) then Some Unknown

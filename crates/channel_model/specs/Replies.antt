@@ -1,4 +1,5 @@
--- The reply that the past decides. No reply hangs on who was told. Of several cases the first that applies counts.
+-- The reply that the past decides. No reply hangs on who was told. Of several cases the first that
+-- applies counts.
 use Rattle.std.specs.Prelude.{Option, Some, None, Bool, true, false, not, ◌&&◌, length, slice_get}
 use Rattle.futures.specs.declared.task.Poll.TheVariants.{Pending}
 use Rattle.channel_model.specs.declared.step.Kind.{Kind}
@@ -15,12 +16,12 @@ use Rattle.channel_model.specs.Closing.{has_none}
 use Rattle.channel_model.specs.View.{View, view_of}
 
 -- By the kind of the operation. Where none has this name the step is refused, and isn't made.
-abbrev pub poll_reply : {T : Type 0} (operation : Option (Operation T)) (closed no_receiver full : Bool)
-    (oldest : Option T)
-    → Reply T
+abbrev pub poll_reply : {T : Type 0} (operation : Option (Operation T))
+    (closed no_receiver full : Bool) (oldest : Option T) → Reply T
 poll_reply (Some (sending sender message)) closed no_receiver full oldest =
     SendPolled (send_poll message closed full)
-poll_reply (Some (receiving receiver)) closed no_receiver full oldest = RecvPolled (recv_poll oldest closed)
+poll_reply (Some (receiving receiver)) closed no_receiver full oldest =
+    RecvPolled (recv_poll oldest closed)
 poll_reply (Some (awaiting_close sender)) closed no_receiver full oldest =
     ClosedPolled (closed_poll no_receiver)
 poll_reply None closed no_receiver full oldest = Refused Unknown None
@@ -32,10 +33,12 @@ is_full_in view = full_at view.capacity (length view.messages)
 -- The reply to a step by what the channel shows. A question is answered by what it asks for;
 -- a step that only makes or gives up a name is answered by `Done`.
 abbrev pub reply_in : {T : Type 0} → View T → Step T → Reply T
-reply_in view (TrySend sender message) = TrySent (try_send_answer view.closed (is_full_in view) message)
+reply_in view (TrySend sender message) =
+    TrySent (try_send_answer view.closed (is_full_in view) message)
 reply_in view (ForceSend sender message) =
     Forced (force_send_answer view.closed (is_full_in view) (slice_get view.messages 0) message)
-reply_in view (TryRecv receiver) = Received (try_recv_answer (slice_get view.messages 0) view.closed)
+reply_in view (TryRecv receiver) =
+    Received (try_recv_answer (slice_get view.messages 0) view.closed)
 reply_in view (Close side) = Flag (not view.closed)
 reply_in view (IsClosed side) = Flag view.closed
 reply_in view (IsEmpty side) = Flag (has_none view.messages)
@@ -48,7 +51,8 @@ reply_in view (Capacity side) = Capacity view.capacity
 reply_in view (UpgradeSender of new) = Upgraded (not view.closed)
 reply_in view (UpgradeReceiver of new) = Upgraded (not view.closed)
 reply_in view (Poll op) =
-    poll_reply (operation_in view.operations op) view.closed (has_none view.receivers) (is_full_in view)
+    poll_reply (operation_in view.operations op) view.closed (has_none view.receivers)
+    (is_full_in view)
     (slice_get view.messages 0)
 reply_in view (PollNext receiver) = NextPolled (next_poll (slice_get view.messages 0) view.closed)
 reply_in view step = Done

@@ -29,7 +29,8 @@ leave name roster = record {
 abbrev pub arrive : ℕ → Roster → Roster
 arrive name roster = record { names = roster.names ++ name ∷ []; told = roster.told }
 
--- A poll was in vain: the one of this name goes last, untold, or keeps its place if it waits untold already.
+-- A poll was in vain: the one of this name goes last, untold, or keeps its place if it waits untold
+-- already.
 abbrev pub wait : ℕ → Roster → Roster
 wait name roster =
     if is_told name roster then arrive name (leave name roster)
@@ -38,7 +39,8 @@ wait name roster =
 
 -- The longest waiting untold one is told, if there is one.
 abbrev pub tell_one : Roster → Roster
-tell_one roster = record { names = roster.names; told = min (roster.told + 1) (length roster.names) }
+tell_one roster =
+    record { names = roster.names; told = min (roster.told + 1) (length roster.names) }
 
 -- everyone who waits is told
 abbrev pub tell_all : Roster → Roster
@@ -46,10 +48,11 @@ tell_all roster = record { names = roster.names; told = length roster.names }
 
 -- The one of this name leaves; if it was told, another is told in its place.
 abbrev pub hand_on : ℕ → Roster → Roster
-hand_on name roster = if is_told name roster then tell_one (leave name roster) else leave name roster
+hand_on name roster =
+    if is_told name roster then tell_one (leave name roster) else leave name roster
 
--- Who waits on a channel: sends, receives and closed operations by their own names, streams by the names of their
--- receivers.
+-- Who waits on a channel: sends, receives and closed operations by their own names, streams by the
+-- names of their receivers.
 pub record Rosters : Type 0 where
   pub sends : Roster
   pub receives : Roster
@@ -62,11 +65,13 @@ nobody = record { names = []; told = 0 }
 
 -- An operation waits in some roster.
 abbrev pub waits_anywhere : ℕ → Rosters → Bool
-waits_anywhere op all = is_among op all.sends.names || is_among op all.receives.names || is_among op all.closeds.names
+waits_anywhere op all =
+    is_among op all.sends.names || is_among op all.receives.names || is_among op all.closeds.names
 
 -- whether somebody waits in a roster, and was told
 abbrev pub notice_in : ℕ → Roster → Notice
-notice_in name roster = if is_told name roster then Told else if is_among name roster.names then Untold else Absent
+notice_in name roster =
+    if is_told name roster then Told else if is_among name roster.names then Untold else Absent
 
 -- Each waits once, and no more were told than wait.
 pub record IsSound (roster : Roster) : Type 0 where

@@ -33,7 +33,8 @@ module _ {T : Type 0} where
   try_send_answer false false message = Ok tt
 
   -- closed: the message comes back; full: it goes in and the oldest comes out; else it goes in
-  abbrev pub force_send_answer : (closed full : Bool) (oldest : Option T) → T → Result (Option T) (SendError T)
+  abbrev pub force_send_answer : (closed full : Bool) (oldest : Option T) → T
+      → Result (Option T) (SendError T)
   force_send_answer true full oldest message = Err (send_error message)
   force_send_answer false true oldest message = Ok oldest
   force_send_answer false false oldest message = Ok None
@@ -45,7 +46,8 @@ module _ {T : Type 0} where
   try_recv_answer None true = Err Closed
 
   -- finished: pending; closed: the message comes back; full: pending; else it goes in
-  abbrev pub send_poll : (message : Option T) (closed full : Bool) → Poll (Result (Unit {0}) (SendError T))
+  abbrev pub send_poll : (message : Option T) (closed full : Bool)
+      → Poll (Result (Unit {0}) (SendError T))
   send_poll None closed full = Pending
   send_poll (Some message) true full = Ready (Err (send_error message))
   send_poll (Some message) false true = Pending
@@ -68,6 +70,7 @@ abbrev pub closed_poll : (no_receiver : Bool) → Poll (Unit {0})
 closed_poll true = Ready tt
 closed_poll false = Pending
 
--- The greatest count beside which one more handle is made: half of the greatest number of 64 bits, rounded down.
+-- The greatest count beside which one more handle is made: half of the greatest number of 64 bits,
+-- rounded down.
 abbrev pub handle_limit : ℕ
 handle_limit = 2 ^ 63 - 1

@@ -1,4 +1,5 @@
--- What a past decides, as one record. What a step answers, and what it is refused for, hangs on this alone.
+-- What a past decides, as one record. What a step answers, and what it is refused for, hangs on
+-- this alone.
 use Rattle.std.specs.Prelude.{◌≡◌, ℕ, List, Option, Bool, length}
 use Rattle.channel_model.specs.declared.step.Kind.{Kind}
 use Rattle.event_list.specs.Keys.{is_among}
@@ -11,8 +12,8 @@ use Rattle.channel_model.specs.Closing.{is_closed}
 use Rattle.channel_model.specs.Rosters.{Rosters}
 use Rattle.channel_model.specs.Notices.{rosters}
 
--- What a channel shows at one moment: how much it may hold, what it holds, whether it is closed, which names are
--- live, what each operation borrows and has still to send, and who waits.
+-- What a channel shows at one moment: how much it may hold, what it holds, whether it is closed,
+-- which names are live, what each operation borrows and has still to send, and who waits.
 pub record View (T : Type 0) : Type 0 where
   pub capacity : Option ℕ
   pub messages : List T
@@ -40,13 +41,15 @@ view_of kind past = record {
 
 -- ---- two views that show the same
 
--- As many, and each among both or neither. So where each stands once in one list it does in the other.
+-- As many, and each among both or neither. So where each stands once in one list it does in the
+-- other.
 pub record AreSameNames (names others : List ℕ) : Type 0 where
   pub count : length names ≡ length others
   pub each : (name : ℕ) → is_among name names ≡ is_among name others
 
 -- As many, and each name has the same operation in both, or none.
-pub record AreSameOperations {T : Type 0} (operations others : List (ℕ × Operation T)) : Type 0 where
+pub record AreSameOperations {T : Type 0}
+    (operations others : List (ℕ × Operation T)) : Type 0 where
   pub count : length operations ≡ length others
   pub each : (name : ℕ) → operation_in operations name ≡ operation_in others name
 

@@ -1,4 +1,5 @@
--- What a run shows of itself, by what it keeps: a channel whose waiting lists hold keys, and tickets by name.
+-- What a run shows of itself, by what it keeps: a channel whose waiting lists hold keys, and
+-- tickets by name.
 use Rattle.std.specs.Prelude.{◌≡◌, ◌≢◌, ℕ, ◌==◌, List, MatchOption, if◌then◌else◌, filter, map, find, length, Option, Some, None, Bool, false, true, option_and_then, unwrap_or}
 use Rattle.std.specs.Map.{lookup, keys_of}
 use Rattle.std.specs.BTreeMap.{is_at}
@@ -29,21 +30,25 @@ abbrev pub name_of : (ticket_of : ℕ → Option ℕ) (names : List ℕ) → ℕ
 name_of ticket_of names key = unwrap_or (find (λ name. has_key key (ticket_of name)) names) 0
 
 -- a waiting list of keys as a roster of names
-unfoldable pub roster_of : {W : Type 0} → (ticket_of : ℕ → Option ℕ) (names : List ℕ) → Waiting W → Roster
+unfoldable pub roster_of : {W : Type 0} → (ticket_of : ℕ → Option ℕ) (names : List ℕ) → Waiting W
+    → Roster
 roster_of ticket_of names list = record {
   names = map (λ key. name_of ticket_of names key) (keys list);
   told = told_count list;
 }
 
 -- Those who wait, and those who hold tickets, are the same: one name a key.
-pub record AreHeld {W : Type 0} (ticket_of : ℕ → Option ℕ) (names : List ℕ) (list : Waiting W) : Type 0 where
+pub record AreHeld {W : Type 0} (ticket_of : ℕ → Option ℕ) (names : List ℕ)
+    (list : Waiting W) : Type 0 where
   -- each key in the list is on the ticket of its name
-  pub held : map ticket_of (map (λ key. name_of ticket_of names key) (keys list)) ≡ map (λ key. Some key) (keys list)
+  pub held : map ticket_of (map (λ key. name_of ticket_of names key) (keys list))
+      ≡ map (λ key. Some key) (keys list)
   -- each ticket is of an entry of the list
   pub waits : (name key : ℕ) → ticket_of name ≡ Some key → is_among key (keys list) ≡ true
   -- no key stands twice in the list, or on two tickets
   pub different : AreDifferent (keys list)
-  pub once : (name other key : ℕ) → ticket_of name ≡ Some key → ticket_of other ≡ Some key → name ≡ other
+  pub once : (name other key : ℕ) → ticket_of name ≡ Some key → ticket_of other ≡ Some key
+      → name ≡ other
   -- and whoever has a ticket is among the names
   pub listed : (name key : ℕ) → ticket_of name ≡ Some key → is_among name names ≡ true
 
@@ -83,9 +88,11 @@ abbrev pub entry_at : {X : Type 0} → List (ℕ × X) → ℕ → Option X
 entry_at entries name = lookup (is_at (nat_cmp name)) entries
 
 -- What stands under one name is this now, and under every other name what stood there.
-pub record Changed {X : Type 0} (name : ℕ) (entries entries' : List (ℕ × X)) (now : Option X) : Type 0 where
+pub record Changed {X : Type 0} (name : ℕ) (entries entries' : List (ℕ × X))
+    (now : Option X) : Type 0 where
   pub here : entry_at entries' name ≡ now
-  pub elsewhere : (other : ℕ) → (name == other) ≡ false → entry_at entries' other ≡ entry_at entries other
+  pub elsewhere : (other : ℕ) → (name == other) ≡ false
+      → entry_at entries' other ≡ entry_at entries other
 
 -- the number under a name, 0 where none stands there
 abbrev pub number_at : List (ℕ × ℕ) → ℕ → ℕ
@@ -98,7 +105,8 @@ one_if b = if b then 1 else 0
 -- Under this name stands the number now, and under every other name what stood there.
 abbrev pub IsSetAt : (name number : ℕ) → (numbers numbers' : List (ℕ × ℕ)) → Type 0
 IsSetAt name number numbers numbers' =
-    (other : ℕ) → number_at numbers' other ≡ (if name == other then number else number_at numbers other)
+    (other : ℕ) → number_at numbers' other
+    ≡ (if name == other then number else number_at numbers other)
 
 -- the ticket under a name, in the group that is read
 abbrev pub ticket_at : {X : Type 0} → (X → Option ℕ) → List (ℕ × X) → ℕ → Option ℕ
@@ -127,9 +135,12 @@ module _ {T : Type 0} where
   count_of test operations = length (filter (λ entry. test (operation_shown entry.1)) operations)
 
   -- Under the name of each handle stands how many of these operations borrow it.
-  pub record AreCounted (by_sender by_receiver : List (ℕ × ℕ)) (operations : List (ℕ × Started T)) : Type 0 where
-    pub each_sender : (name : ℕ) → number_at by_sender name ≡ count_of (borrows_sender name) operations
-    pub each_receiver : (name : ℕ) → number_at by_receiver name ≡ count_of (borrows_receiver name) operations
+  pub record AreCounted (by_sender by_receiver : List (ℕ × ℕ))
+      (operations : List (ℕ × Started T)) : Type 0 where
+    pub each_sender : (name : ℕ)
+        → number_at by_sender name ≡ count_of (borrows_sender name) operations
+    pub each_receiver : (name : ℕ)
+        → number_at by_receiver name ≡ count_of (borrows_receiver name) operations
 
 -- whether the entry of a ticket waits, and was told
 abbrev pub notice_by_flag : Option Bool → Notice
@@ -169,8 +180,10 @@ module _ {T : Type 0} where
     rosters = rosters_shown core receivers operations;
   }
 
-  -- What a run keeps fits together: the core counts the handles that have names, and each who waits holds a ticket.
-  pub record IsWhole {W : Type 0} (core : Channel T W) (senders : List ℕ) (receivers : List (ℕ × Option ℕ))
+  -- What a run keeps fits together: the core counts the handles that have names, and each who waits
+  -- holds a ticket.
+  pub record IsWhole {W : Type 0} (core : Channel T W) (senders : List ℕ)
+      (receivers : List (ℕ × Option ℕ))
       (operations : List (ℕ × Started T)) : Type 0 where
     pub count_senders : core.senders ≡ length senders
     pub count_receivers : core.receivers ≡ length receivers

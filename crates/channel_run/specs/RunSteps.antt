@@ -1,5 +1,5 @@
--- What a run answers to a step, and what it shows then, by what it shows before. Private methods promise it, and
--- what a past decides follows from it; no public clause has to cite this module.
+-- What a run answers to a step, and what it shows then, by what it shows before. Private methods
+-- promise it, and what a past decides follows from it; no public clause has to cite this module.
 use Rattle.std.specs.Prelude.{◌≡◌, ◌⊎◌, MatchOption, ℕ, List, Option, Some, None, Bool, true, false, ◌||◌, drop, slice_get}
 use Rattle.futures.specs.declared.task.Poll.TheVariants.{Ready}
 use Rattle.channel_core.specs.declared.state.Group.{Group}
@@ -53,7 +53,8 @@ closed_after run step = run.closed
 -- whom a closing and the end of the last receiver tell
 abbrev pub closing_in : {T : Type 0} → View T → Step T → Rosters → Rosters
 closing_in run (Close side) all = after_closing run.closed true all
-closing_in run (DropSender name) all = after_closing run.closed (run.closed || has_none (without name run.senders)) all
+closing_in run (DropSender name) all =
+    after_closing run.closed (run.closed || has_none (without name run.senders)) all
 closing_in run (DropReceiver name) all =
     after_last_receiver (has_none run.receivers) (has_none (without name run.receivers))
     (after_closing run.closed (run.closed || has_none (without name run.receivers)) all)
@@ -94,17 +95,20 @@ asker (Capacity side) = Some side
 asker step = None
 
 -- The step was made: it has its reply, and the run shows what it leaves.
-pub record IsMade {T : Type 0} (before : View T) (step : Step T) (reply : Reply T) (after : View T) : Type 0 where
+pub record IsMade {T : Type 0} (before : View T) (step : Step T) (reply : Reply T)
+    (after : View T) : Type 0 where
   pub replied : reply ≡ reply_in before step
   pub shows : AreAlike after (after_step before step reply)
 
 -- The step was refused: the message comes back, and the run is as it was.
-pub record IsRefused {T : Type 0} (before : View T) (step : Step T) (refusal : Refusal) (reply : Reply T)
+pub record IsRefused {T : Type 0} (before : View T) (step : Step T) (refusal : Refusal)
+    (reply : Reply T)
     (after : View T) : Type 0 where
   pub replied : reply ≡ Refused refusal (message_in step)
   pub unchanged : AreAlike after before
 
--- What a run does at a step, by what it shows: it refuses it, or it makes it or wants memory where that is possible.
+-- What a run does at a step, by what it shows: it refuses it, or it makes it or wants memory where
+-- that is possible.
 abbrev pub StepsTo : {T : Type 0} → View T → Step T → Reply T → View T → Type 0
 StepsTo before step reply after =
     MatchOption (refusal_in before step)
@@ -112,8 +116,8 @@ StepsTo before step reply after =
     × IsRefused before step OutOfMemory reply after))
     (λ refusal. IsRefused before step refusal reply after)
 
--- What a run does at a poll, also where the refusal Borrowed guards the step: it makes it, or wants memory where it
--- begins to wait.
+-- What a run does at a poll, also where the refusal Borrowed guards the step: it makes it, or wants
+-- memory where it begins to wait.
 abbrev pub StepsAsAllowed : {T : Type 0} → View T → Step T → Reply T → View T → Type 0
 StepsAsAllowed before step reply after =
     IsMade before step reply after
@@ -128,7 +132,8 @@ poll_of (Receiver receiver) = PollNext receiver
 -- What a run does when it polls somebody who was told. No refusal guards it.
 abbrev pub PollsTo : {T : Type 0} → View T → Who → Reply T → View T → Type 0
 PollsTo before (Op op) reply after = StepsTo before (Poll op) reply after
-PollsTo before (Receiver receiver) reply after = StepsAsAllowed before (PollNext receiver) reply after
+PollsTo before (Receiver receiver) reply after =
+    StepsAsAllowed before (PollNext receiver) reply after
 
 -- a poll that was answered ready
 abbrev pub is_ready : {T : Type 0} → Reply T → Bool
@@ -148,10 +153,11 @@ roster_in Closeds all = all.closeds
 -- Who is polled next, or nobody where nobody is told.
 abbrev pub IsNext : {T : Type 0} → View T → Option Who → Type 0
 IsNext {T} run next =
-    MatchOption next (IsQuiet run.rosters) (λ who. slice_get (told_polls {T = T} run.rosters) 0 ≡ Some (poll_of who))
+    MatchOption next (IsQuiet run.rosters)
+    (λ who. slice_get (told_polls {T = T} run.rosters) 0 ≡ Some (poll_of who))
 
--- What a run promises of a step, after a past that stands for it: the reply is an answer, and the past after it stands
--- for the run after it.
+-- What a run promises of a step, after a past that stands for it: the reply is an answer, and the
+-- past after it stands for the run after it.
 pub record Answers {T : Type 0} (kind : Kind) (past : Past T) (step : Step T) (reply : Reply T)
     (after : View T) : Type 0 where
   pub answer : IsAnswer kind past step reply

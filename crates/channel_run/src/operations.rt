@@ -126,7 +126,7 @@ impl<T> Operations<T> {
     }
 
     /// Puts an operation under a name that isn't live, or hands it back.
-    #[tactic(auto, using(crate::proofs::Borrowing::counted_put, crate::proofs::Borrowing::counted_back))]
+    #[tactic(auto, using(crate::proofs::Tables::Borrowing::counted_put, crate::proofs::Tables::Borrowing::counted_back))]
     pub(crate) fn put(&mut self, op: u64, operation: Operation<T>) -> Result<(), Operation<T>>
     where
         T: Drop,
@@ -177,7 +177,7 @@ impl<T> Operations<T> {
     }
 
     // Counts what one more operation borrows.
-    #[tactic(auto, using(crate::proofs::Borrowing::few_borrow_sender, crate::proofs::Borrowing::few_borrow_receiver))]
+    #[tactic(auto, using(crate::proofs::Tables::Borrowing::few_borrow_sender, crate::proofs::Tables::Borrowing::few_borrow_receiver))]
     fn count(&mut self, operation: &Operation<T>) -> Result<(), OutOfMemory>
         requires { AreCounted self.old.by_sender self.old.by_receiver self.old.by_name.entries }
         ensures senders { OnOk result ((name : ℕ) → number_at self.new.by_sender name

@@ -1,4 +1,4 @@
-use Rattle.channel_run.proofs.Entries.{AreDifferent-sorted}
+use Rattle.channel_run.proofs.Tables.Entries.{AreDifferent-sorted}
 use Rattle.channel_run.proofs.names.put.Goals as goal
 
 pub returns-in-Ok-clause-different : goal.returns-in-Ok-clause-different

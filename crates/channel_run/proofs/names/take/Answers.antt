@@ -1,4 +1,4 @@
-use Rattle.channel_run.proofs.Entries.{AreDifferent-sorted}
+use Rattle.channel_run.proofs.Tables.Entries.{AreDifferent-sorted}
 use Rattle.channel_run.proofs.names.take.Goals as goal
 
 pub returns-clause-different : goal.returns-clause-different

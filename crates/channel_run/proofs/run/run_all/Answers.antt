@@ -1,8 +1,8 @@
 use Rattle.std.proofs.Common.{rules, ◌≡◌, ◌∷◌, [], length, sym, ap, ◌∙◌, append_assoc, append-nil, arith, refl}
 use Rattle.std.specs.Vec.Iter.{into_iter_items}
 use Rattle.channel_run.specs.Runs.{ComesTo}
-use Rattle.channel_run.proofs.ManySteps.{AreAnswers-more, conserved-StandsFor, length-AreAnswers}
-use Rattle.channel_run.proofs.RunNew.{nothing_left}
+use Rattle.channel_run.proofs.Steps.StepLists.{AreAnswers-more, conserved-StandsFor, length-AreAnswers}
+use Rattle.channel_run.proofs.Tables.NewRun.{nothing_left}
 use Rattle.channel_run.proofs.run.run_all.Goals as goal
 
 pub loop-step-preserved : goal.loop-step-preserved

@@ -3,9 +3,9 @@ use Rattle.std.proofs.lemmas.Iterator.Search.{find_from_yields_List}
 use Rattle.std.proofs.lemmas.Iterator.Consumers.{YieldsList-from_rest}
 use borrow.Author.Tests.{tests}
 use Rattle.channel_run.specs.RunShown.{ticket_at, ticket_in}
-use Rattle.channel_run.proofs.Entries.{AreDifferent-sorted}
-use Rattle.channel_run.proofs.FirstTold.{holds, none_found, one_found}
-use Rattle.channel_run.proofs.Holding.{has_key-is}
+use Rattle.channel_run.proofs.Tables.Entries.{AreDifferent-sorted}
+use Rattle.channel_run.proofs.Told.FirstTold.{holds, none_found, one_found}
+use Rattle.channel_run.proofs.Waiting.HeldLists.{has_key-is}
 use Rattle.channel_run.proofs.tickets.operation_with.Goals as goal
 
 pub returns-then-waits_with : goal.returns-then-waits_with

@@ -1,7 +1,8 @@
 use Rattle.std.proofs.Common.{rules, ◌∙◌, ap}
 use Rattle.event_list.specs.Keys.{is_among}
-use Rattle.channel_run.proofs.Entries.{is_among-entry_at}
-use Rattle.channel_run.proofs.RunTables.{names-added, nothing_at}
+use Rattle.channel_run.proofs.Tables.Entries.{is_among-entry_at}
+use Rattle.channel_run.proofs.Tables.ShownNames.{names-added}
+use Rattle.channel_run.proofs.Tables.OneEntry.{nothing_at}
 use Rattle.channel_run.proofs.names.Names.add.Goals as goal
 use Rattle.channel_run.proofs.names.Names.add.Goals.{in-Ok, in-Err}
 

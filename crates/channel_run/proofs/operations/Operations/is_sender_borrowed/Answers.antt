@@ -1,7 +1,7 @@
 use Rattle.std.proofs.Common.{◌∙◌, sym, ap}
 use Rattle.std.specs.Prelude.{nat_lt}
 use Rattle.channel_model.specs.Operations.{borrows_sender}
-use Rattle.channel_run.proofs.Borrowing.{list_any-count}
+use Rattle.channel_run.proofs.Tables.Borrowing.{list_any-count}
 use Rattle.channel_run.proofs.operations.Operations.is_sender_borrowed.Goals as goal
 
 pub returns : goal.returns

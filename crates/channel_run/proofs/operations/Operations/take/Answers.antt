@@ -1,6 +1,6 @@
 use Rattle.std.proofs.Common.{◌∙◌, sym}
-use Rattle.channel_run.proofs.Borrowing.{counted_taken}
-use Rattle.channel_run.proofs.Entries.{AreDifferent-sorted}
+use Rattle.channel_run.proofs.Tables.Borrowing.{counted_taken}
+use Rattle.channel_run.proofs.Tables.Entries.{AreDifferent-sorted}
 use Rattle.channel_run.proofs.operations.Operations.take.Goals as goal
 
 pub returns-in_err-operation-clause-different : goal.returns-in_err-operation-clause-different

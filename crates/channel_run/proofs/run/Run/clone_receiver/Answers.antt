@@ -7,11 +7,14 @@ use Rattle.channel_model.specs.declared.step.Step.{Step}
 use Rattle.channel_model.specs.Tables.{handle_limit}
 use Rattle.channel_model.specs.View.{View}
 use Rattle.channel_core.specs.Counts.{count_added}
-use Rattle.channel_run.specs.RunShown.{Changed, shown}
-use Rattle.channel_run.proofs.Entries.{is_among-entry_at}
-use Rattle.channel_run.proofs.MadeSteps.{made-clone_receiver}
-use Rattle.channel_run.proofs.RunTables.{may_add-one, nothing_at, one_more, stepped-receiver, when_ok}
-use Rattle.channel_run.proofs.WholeSteps.{StepsTo-made, not_refused}
+use Rattle.channel_run.specs.RunShown.{Changed}
+use Rattle.channel_run.proofs.Tables.Entries.{is_among-entry_at}
+use Rattle.channel_run.proofs.Outcomes.Handles.{made-clone_receiver}
+use Rattle.channel_run.proofs.Tables.ShownNames.{may_add-one, one_more, when_ok}
+use Rattle.channel_run.proofs.Tables.OneEntry.{nothing_at}
+use Rattle.channel_run.proofs.Tables.MadeNames.{stepped-receiver}
+use Rattle.channel_run.proofs.Steps.Refused.{StepsTo-made, not_refused}
+use Rattle.channel_run.proofs.Tables.Kept.{kept_of, shown_by}
 use Rattle.channel_run.proofs.run.Run.clone_receiver.Goals as goal
 
 pub put-requires : goal.put-requires
@@ -22,8 +25,7 @@ put-requires g c = nothing_at c.self.inside.receivers.entries c.args.new
 
 pub invariant_of-self-2 : goal.invariant_of-self-2
 invariant_of-self-2 g c =
-    let run = shown c.self.inside.core c.self.inside.senders c.self.inside.receivers.entries c.self.inside.weak_senders
-    c.self.inside.weak_receivers c.self.inside.operations.by_name.entries in
+    let run = shown_by (kept_of c.self.inside) in
     let absent = nothing_at c.self.inside.receivers.entries c.args.new
     (is_among-entry_at c.self.inside.receivers.entries c.args.new
     ∙ ap (λ (r : View g.row.T.Denot). is_among c.args.new r.receivers) c.self.view_is
@@ -32,8 +34,7 @@ invariant_of-self-2 g c =
     (Some None)) (sym c.is_err.ensures.value ∙ c.if-is_err.false) c.put.ensures.added in
     let more = when_ok c.put.result (length c.put.new.entries.entries ≡ length c.self.inside.receivers.entries + 1)
     (sym c.is_err.ensures.value ∙ c.if-is_err.false) c.put.ensures.more in
-    let is = stepped-receiver c.self.inside.core c.self.inside.senders c.self.inside.receivers.entries
-    c.self.inside.weak_senders c.self.inside.weak_receivers c.self.inside.operations.by_name.entries c.self.invariant.0
+    let is = stepped-receiver (kept_of c.self.inside) c.self.invariant.0
     (Step.CloneReceiver c.args.of c.args.new) (Reply.Done) c.args.new c.put.new.entries.entries absent change more
     (made-clone_receiver run c.args.of c.args.new) in
     let known = ap (λ (r : View g.row.T.Denot). is_among c.args.of r.receivers) c.self.view_is
@@ -47,8 +48,7 @@ invariant_of-self-2 g c =
 
 pub returns : goal.returns
 returns g c =
-    let run = shown c.self.inside.core c.self.inside.senders c.self.inside.receivers.entries c.self.inside.weak_senders
-    c.self.inside.weak_receivers c.self.inside.operations.by_name.entries in
+    let run = shown_by (kept_of c.self.inside) in
     let absent = nothing_at c.self.inside.receivers.entries c.args.new
     (is_among-entry_at c.self.inside.receivers.entries c.args.new
     ∙ ap (λ (r : View g.row.T.Denot). is_among c.args.new r.receivers) c.self.view_is
@@ -57,8 +57,7 @@ returns g c =
     (Some None)) (sym c.is_err.ensures.value ∙ c.if-is_err.false) c.put.ensures.added in
     let more = when_ok c.put.result (length c.put.new.entries.entries ≡ length c.self.inside.receivers.entries + 1)
     (sym c.is_err.ensures.value ∙ c.if-is_err.false) c.put.ensures.more in
-    let is = stepped-receiver c.self.inside.core c.self.inside.senders c.self.inside.receivers.entries
-    c.self.inside.weak_senders c.self.inside.weak_receivers c.self.inside.operations.by_name.entries c.self.invariant.0
+    let is = stepped-receiver (kept_of c.self.inside) c.self.invariant.0
     (Step.CloneReceiver c.args.of c.args.new) (Reply.Done) c.args.new c.put.new.entries.entries absent change more
     (made-clone_receiver run c.args.of c.args.new) in
     let known = ap (λ (r : View g.row.T.Denot). is_among c.args.of r.receivers) c.self.view_is

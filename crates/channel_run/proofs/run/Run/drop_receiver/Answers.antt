@@ -7,16 +7,17 @@ use Rattle.channel_model.specs.declared.step.Refusal.{Refusal}
 use Rattle.channel_model.specs.declared.step.Step.{Step}
 use Rattle.channel_model.specs.View.{View}
 use Rattle.channel_model.specs.Refusals.{is_borrowed}
-use Rattle.channel_run.specs.RunShown.{entry_at, shown, stream_ticket, ticket_at}
-use Rattle.channel_run.proofs.Entries.{is_among-entry_at, list_any-shown}
-use Rattle.channel_run.proofs.RunTables.{flat, stepped-drop_receiver}
-use Rattle.channel_run.proofs.WholeSteps.{IsRefused-unchanged, StepsTo-made, StepsTo-refused, borrowed_handle, not_refused}
+use Rattle.channel_run.specs.RunShown.{entry_at, stream_ticket, ticket_at}
+use Rattle.channel_run.proofs.Tables.Entries.{is_among-entry_at, list_any-shown}
+use Rattle.channel_run.proofs.Tables.OneEntry.{flat}
+use Rattle.channel_run.proofs.Tables.GivenUp.{stepped-drop_receiver}
+use Rattle.channel_run.proofs.Steps.Refused.{IsRefused-unchanged, StepsTo-made, StepsTo-refused, borrowed_handle, not_refused}
+use Rattle.channel_run.proofs.Tables.Kept.{kept_of, shown_by}
 use Rattle.channel_run.proofs.run.Run.drop_receiver.Goals as goal
 
 pub returns-then-is_receiver_borrowed : goal.returns-then-is_receiver_borrowed
 returns-then-is_receiver_borrowed g c =
-    let run = shown c.self.inside.core c.self.inside.senders c.self.inside.receivers.entries c.self.inside.weak_senders
-    c.self.inside.weak_receivers c.self.inside.operations.by_name.entries in
+    let run = shown_by (kept_of c.self.inside) in
     let step = Step.DropReceiver c.args.name in
     let known = ap (λ (r : View g.row.T.Denot). is_among c.args.name r.receivers) c.self.view_is
     ∙ sym c.has_receiver.ensures ∙ c.if-not-has_receiver.false in
@@ -30,9 +31,7 @@ pub invariant_of-self : goal.invariant_of-self
 invariant_of-self g c =
     let known = ap (λ (r : View g.row.T.Denot). is_among c.args.name r.receivers) c.self.view_is
     ∙ sym c.has_receiver.ensures ∙ c.if-not-has_receiver.false in
-    let is = stepped-drop_receiver c.self.inside.core c.self.inside.senders c.self.inside.receivers.entries
-    c.take.new.entries.entries c.self.inside.weak_senders c.self.inside.weak_receivers
-    c.self.inside.operations.by_name.entries c.self.invariant.0 c.args.name
+    let is = stepped-drop_receiver (kept_of c.self.inside) c.take.new.entries.entries c.self.invariant.0 c.args.name
     c.take.ensures.different known c.take.ensures.left
     (c.take.ensures.fewer (ap (λ found. is_some found) c.take.ensures.value
     ∙ is_among-entry_at c.self.inside.receivers.entries c.args.name ∙ known)) in
@@ -43,17 +42,14 @@ invariant_of-self g c =
 
 pub returns : goal.returns
 returns g c =
-    let run = shown c.self.inside.core c.self.inside.senders c.self.inside.receivers.entries c.self.inside.weak_senders
-    c.self.inside.weak_receivers c.self.inside.operations.by_name.entries in
+    let run = shown_by (kept_of c.self.inside) in
     let step = Step.DropReceiver c.args.name in
     let known = ap (λ (r : View g.row.T.Denot). is_among c.args.name r.receivers) c.self.view_is
     ∙ sym c.has_receiver.ensures ∙ c.if-not-has_receiver.false in
     let free : is_borrowed run step ≡ false =
     list_any-shown (λ operation. borrows_receiver c.args.name operation) c.self.inside.operations.by_name.entries
     ∙ sym c.is_receiver_borrowed.ensures ∙ c.if-is_receiver_borrowed.false in
-    let is = stepped-drop_receiver c.self.inside.core c.self.inside.senders c.self.inside.receivers.entries
-    c.take.new.entries.entries c.self.inside.weak_senders c.self.inside.weak_receivers
-    c.self.inside.operations.by_name.entries c.self.invariant.0 c.args.name
+    let is = stepped-drop_receiver (kept_of c.self.inside) c.take.new.entries.entries c.self.invariant.0 c.args.name
     c.take.ensures.different known c.take.ensures.left
     (c.take.ensures.fewer (ap (λ found. is_some found) c.take.ensures.value
     ∙ is_among-entry_at c.self.inside.receivers.entries c.args.name ∙ known)) in

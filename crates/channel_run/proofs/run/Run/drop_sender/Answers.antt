@@ -5,16 +5,15 @@ use Rattle.channel_model.specs.Operations.{borrows_sender}
 use Rattle.channel_model.specs.declared.step.Refusal.{Refusal}
 use Rattle.channel_model.specs.declared.step.Step.{Step}
 use Rattle.channel_model.specs.Refusals.{is_borrowed}
-use Rattle.channel_run.specs.RunShown.{shown}
-use Rattle.channel_run.proofs.Entries.{list_any-shown}
-use Rattle.channel_run.proofs.RunChanges.{stepped-drop_sender}
-use Rattle.channel_run.proofs.WholeSteps.{IsRefused-unchanged, StepsTo-made, StepsTo-refused, borrowed_handle, not_refused}
+use Rattle.channel_run.proofs.Tables.Entries.{list_any-shown}
+use Rattle.channel_run.proofs.Tables.PlainSteps.{stepped-drop_sender}
+use Rattle.channel_run.proofs.Steps.Refused.{IsRefused-unchanged, StepsTo-made, StepsTo-refused, borrowed_handle, not_refused}
+use Rattle.channel_run.proofs.Tables.Kept.{kept_of, shown_by}
 use Rattle.channel_run.proofs.run.Run.drop_sender.Goals as goal
 
 pub returns-then-is_sender_borrowed : goal.returns-then-is_sender_borrowed
 returns-then-is_sender_borrowed g c =
-    let run = shown c.self.inside.core c.self.inside.senders c.self.inside.receivers.entries c.self.inside.weak_senders
-    c.self.inside.weak_receivers c.self.inside.operations.by_name.entries in
+    let run = shown_by (kept_of c.self.inside) in
     let step = Step.DropSender c.args.name in
     let known : is_among c.args.name run.senders ≡ true = sym c.has.ensures ∙ c.if-not-has.false in
     let borrowed : is_borrowed run step ≡ true =
@@ -28,16 +27,14 @@ invariant_of-self g c =
     let fewer : length c.self.inside.senders ≡ suc (length (without c.args.name c.self.inside.senders)) =
     rw (← c.remove.ensures.left) (c.remove.ensures.fewer (sym c.has.ensures ∙ c.if-not-has.false)) in
     rw (c.drop_sender.ensures.after, c.remove.ensures.left) (
-      (stepped-drop_sender c.self.inside.core c.self.inside.senders c.self.inside.receivers.entries
-          c.self.inside.weak_senders c.self.inside.weak_receivers c.self.inside.operations.by_name.entries c.self.invariant.0
+      (stepped-drop_sender (kept_of c.self.inside) c.self.invariant.0
           c.args.name fewer).whole,
       c.self.invariant.1,
     )
 
 pub returns : goal.returns
 returns g c =
-    let run = shown c.self.inside.core c.self.inside.senders c.self.inside.receivers.entries c.self.inside.weak_senders
-    c.self.inside.weak_receivers c.self.inside.operations.by_name.entries in
+    let run = shown_by (kept_of c.self.inside) in
     let step = Step.DropSender c.args.name in
     let known : is_among c.args.name run.senders ≡ true = sym c.has.ensures ∙ c.if-not-has.false in
     let free : is_borrowed run step ≡ false =
@@ -47,6 +44,5 @@ returns g c =
     rw (← c.remove.ensures.left) (c.remove.ensures.fewer known) in
     rw (← c.self.view_is, c.drop_sender.ensures.after, c.remove.ensures.left)
     (StepsTo-made run _ step _ (not_refused run step known refl free refl)
-    (stepped-drop_sender c.self.inside.core c.self.inside.senders c.self.inside.receivers.entries
-    c.self.inside.weak_senders c.self.inside.weak_receivers c.self.inside.operations.by_name.entries c.self.invariant.0
+    (stepped-drop_sender (kept_of c.self.inside) c.self.invariant.0
     c.args.name fewer).made)

@@ -1,5 +1,5 @@
 use Rattle.std.proofs.Common.{◌∙◌, sym}
-use Rattle.channel_run.proofs.Entries.{is_some-shown}
+use Rattle.channel_run.proofs.Tables.Entries.{is_some-shown}
 use Rattle.channel_run.proofs.run.Run.has_operation.Goals as goal
 
 pub returns : goal.returns

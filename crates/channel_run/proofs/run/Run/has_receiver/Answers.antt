@@ -1,5 +1,5 @@
 use Rattle.std.proofs.Common.{◌∙◌}
-use Rattle.channel_run.proofs.Entries.{is_among-entry_at}
+use Rattle.channel_run.proofs.Tables.Entries.{is_among-entry_at}
 use Rattle.channel_run.proofs.run.Run.has_receiver.Goals as goal
 
 pub returns : goal.returns

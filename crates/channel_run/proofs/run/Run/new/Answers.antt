@@ -5,8 +5,8 @@ use Rattle.channel_model.specs.Capacity.{capacity_of}
 use Rattle.channel_model.specs.View.{AreSameNames}
 use Rattle.channel_core.specs.Channel.{new_channel}
 use Rattle.channel_run.specs.RunShown.{AreCounted, Changed}
-use Rattle.channel_run.proofs.RunNew.{stands-new, whole-new}
-use Rattle.channel_run.proofs.RunTables.{when_ok}
+use Rattle.channel_run.proofs.Tables.NewRun.{stands-new, whole-new}
+use Rattle.channel_run.proofs.Tables.ShownNames.{when_ok}
 use Rattle.channel_run.proofs.run.Run.new.Goals as goal
 use Rattle.channel_run.proofs.run.Run.new.Goals.{in-Bounded+in_ok-core-in-Bounded, in-Unbounded}
 
@@ -55,4 +55,5 @@ returns g c =
     c.new-receivers.ensures.empty first in
     let one = count ∙ ap (λ (entries : List (ℕ × Option ℕ)). length entries + 1) c.new-receivers.ensures.empty in
     rw (core, c.new.ensures, c.new-2.ensures, c.new-3.ensures.empty)
-    (stands-new g.row.T.Denot (Unit {0}) c.args.kind c.add.new.self senders c.put.new.entries.entries change one c.requires)
+    (stands-new g.row.T.Denot
+    (Unit {0}) c.args.kind c.add.new.self senders c.put.new.entries.entries change one c.requires)

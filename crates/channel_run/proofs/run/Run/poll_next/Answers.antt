@@ -5,16 +5,14 @@ use Rattle.channel_model.specs.declared.step.Refusal.{Refusal}
 use Rattle.channel_model.specs.declared.step.Step.{Step}
 use Rattle.channel_model.specs.View.{View}
 use Rattle.channel_model.specs.Refusals.{is_borrowed, refusal_in}
-use Rattle.channel_run.specs.RunShown.{shown}
-use Rattle.channel_run.proofs.Entries.{list_any-shown}
-use Rattle.channel_run.proofs.RunStreams.{StepsTo-allowed}
-use Rattle.channel_run.proofs.WholeSteps.{IsRefused-unchanged, StepsTo-refused, borrowed_handle, not_refused}
+use Rattle.channel_run.proofs.Tables.Entries.{list_any-shown}
+use Rattle.channel_run.proofs.Steps.Refused.{StepsTo-allowed, IsRefused-unchanged, StepsTo-refused, borrowed_handle, not_refused}
+use Rattle.channel_run.proofs.Tables.Kept.{kept_of, shown_by}
 use Rattle.channel_run.proofs.run.Run.poll_next.Goals as goal
 
 pub returns-then-is_receiver_borrowed : goal.returns-then-is_receiver_borrowed
 returns-then-is_receiver_borrowed g c =
-    let run = shown c.self.inside.core c.self.inside.senders c.self.inside.receivers.entries c.self.inside.weak_senders
-    c.self.inside.weak_receivers c.self.inside.operations.by_name.entries in
+    let run = shown_by (kept_of c.self.inside) in
     let step = Step.PollNext c.args.receiver in
     let known = ap (λ (r : View g.row.T.Denot). is_among c.args.receiver r.receivers) c.self.view_is
     ∙ sym c.has_receiver.ensures ∙ c.if-not-has_receiver.false in
@@ -26,8 +24,7 @@ returns-then-is_receiver_borrowed g c =
 
 pub returns : goal.returns
 returns g c =
-    let run = shown c.self.inside.core c.self.inside.senders c.self.inside.receivers.entries c.self.inside.weak_senders
-    c.self.inside.weak_receivers c.self.inside.operations.by_name.entries in
+    let run = shown_by (kept_of c.self.inside) in
     let step = Step.PollNext c.args.receiver in
     let known = ap (λ (r : View g.row.T.Denot). is_among c.args.receiver r.receivers) c.self.view_is
     ∙ sym c.has_receiver.ensures ∙ c.if-not-has_receiver.false in

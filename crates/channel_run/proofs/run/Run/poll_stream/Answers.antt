@@ -4,10 +4,11 @@ use Rattle.event_list.specs.Keys.{is_among}
 use Rattle.channel_model.specs.declared.step.Reply.TheVariants.{NextPolled}
 use Rattle.channel_model.specs.View.{View}
 use Rattle.channel_run.specs.RunShown.{entry_at}
-use Rattle.channel_run.proofs.Entries.{is_among-entry_at}
-use Rattle.channel_run.proofs.RunPolls.{first_on_err, is_there, polled}
-use Rattle.channel_run.proofs.RunStreams.{polled-stream}
-use Rattle.channel_run.proofs.RunTables.{changed}
+use Rattle.channel_run.proofs.Tables.Entries.{is_among-entry_at}
+use Rattle.channel_run.proofs.Polls.Outcome.{first_on_err, is_there, polled}
+use Rattle.channel_run.proofs.Polls.Streams.{polled-stream}
+use Rattle.channel_run.proofs.Tables.OneEntry.{changed}
+use Rattle.channel_run.proofs.Tables.Kept.{kept_of}
 use Rattle.channel_run.proofs.run.Run.poll_stream.Goals as goal
 use Rattle.channel_run.proofs.run.Run.poll_stream.Goals.{in-Ok, in-Err}
 
@@ -27,9 +28,8 @@ invariant_of-self-2 g c =
     let kept = c.get_mut.follows.holds now in
     let written = kept.3 (is_there _ _ was) in
     let change = changed c.args.receiver c.self.inside.receivers.entries entries (Some now) written.1 written.2 in
-    let outcome = polled-stream c.self.inside.core c.self.inside.senders c.self.inside.receivers.entries entries
-    c.self.inside.weak_senders c.self.inside.weak_receivers c.self.inside.operations.by_name.entries c.self.invariant.0
-    c.args.receiver kept.1 kept.2 c.in-Some.ticket.now now was change
+    let outcome = polled-stream (kept_of c.self.inside) c.self.invariant.0 c.args.receiver entries kept.1 kept.2
+    c.in-Some.ticket.now now was change
     c.poll_next.result c.poll_next.new.self tt c.poll_next.ensures.reply c.poll_next.ensures.after
     c.poll_next.ensures.finished c.poll_next.ensures.waits
     (first_on_err _ _ c.poll_next.result c.poll_next.ensures.unchanged) c.poll_next.ensures.unpolled
@@ -45,9 +45,8 @@ returns g c =
     let kept = c.get_mut.follows.holds now in
     let written = kept.3 (is_there _ _ was) in
     let change = changed c.args.receiver c.self.inside.receivers.entries entries (Some now) written.1 written.2 in
-    let outcome = polled-stream c.self.inside.core c.self.inside.senders c.self.inside.receivers.entries entries
-    c.self.inside.weak_senders c.self.inside.weak_receivers c.self.inside.operations.by_name.entries c.self.invariant.0
-    c.args.receiver kept.1 kept.2 c.in-Some.ticket.now now was change
+    let outcome = polled-stream (kept_of c.self.inside) c.self.invariant.0 c.args.receiver entries kept.1 kept.2
+    c.in-Some.ticket.now now was change
     c.poll_next.result c.poll_next.new.self tt c.poll_next.ensures.reply c.poll_next.ensures.after
     c.poll_next.ensures.finished c.poll_next.ensures.waits
     (first_on_err _ _ c.poll_next.result c.poll_next.ensures.unchanged) c.poll_next.ensures.unpolled

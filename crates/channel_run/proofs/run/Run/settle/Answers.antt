@@ -1,5 +1,5 @@
 use Rattle.std.proofs.Common.{arith}
-use Rattle.channel_run.proofs.SettlesRun.{SettlesSoFar-more, SettlesTo-IsQuiet, never}
+use Rattle.channel_run.proofs.Settling.SoFar.{SettlesSoFar-more, SettlesTo-IsQuiet, never}
 use Rattle.channel_run.proofs.run.Run.settle.Goals as goal
 
 pub returns-in_default-clause-settled : goal.returns-in_default-clause-settled

@@ -4,7 +4,7 @@ use Rattle.channel_model.specs.declared.step.Kind.{Kind}
 use Rattle.channel_model.specs.Past.{Past}
 use Rattle.channel_model.specs.Polling.{waiting_in}
 use Rattle.channel_run.specs.StandsFor.{StandsFor}
-use Rattle.channel_run.proofs.SettlesRun.{SettlesSoFar}
+use Rattle.channel_run.proofs.Settling.SoFar.{SettlesSoFar}
 use Rattle.channel_run.proofs.run.Run.settle.Given as goal
 
 -- the polls so far, and there is room for the replies of those who still wait

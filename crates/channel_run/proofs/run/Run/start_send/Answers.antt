@@ -5,12 +5,13 @@ use Rattle.channel_model.specs.declared.step.Refusal.{Refusal}
 use Rattle.channel_model.specs.declared.step.Step.{Step}
 use Rattle.channel_model.specs.View.{View}
 use Rattle.channel_model.specs.Refusals.{is_operation}
-use Rattle.channel_run.specs.RunShown.{shown}
-use Rattle.channel_run.proofs.Entries.{is_some-shown}
-use Rattle.channel_run.proofs.MadeSteps.{made-start_send}
-use Rattle.channel_run.proofs.RunTables.{nothing_at, stepped-started}
-use Rattle.channel_run.proofs.RunWants.{wants-name}
-use Rattle.channel_run.proofs.WholeSteps.{IsRefused-unchanged, StepsTo-made, StepsTo-wants, not_refused}
+use Rattle.channel_run.proofs.Tables.Entries.{is_some-shown}
+use Rattle.channel_run.proofs.Outcomes.Operations.{made-start_send}
+use Rattle.channel_run.proofs.Tables.OneEntry.{nothing_at}
+use Rattle.channel_run.proofs.Tables.MadeNames.{stepped-started}
+use Rattle.channel_run.proofs.Steps.Wanting.{wants-name}
+use Rattle.channel_run.proofs.Steps.Refused.{IsRefused-unchanged, StepsTo-made, StepsTo-wants, not_refused}
+use Rattle.channel_run.proofs.Tables.Kept.{kept_of, shown_by}
 use Rattle.channel_run.proofs.run.Run.start_send.Goals as goal
 use Rattle.channel_run.proofs.run.Run.start_send.Goals.{in-Ok, in-Err}
 
@@ -22,8 +23,7 @@ put-requires-clause-free g c = nothing_at c.self.inside.operations.by_name.entri
 
 pub invariant_of-self : goal.invariant_of-self
 invariant_of-self g c =
-    let run = shown c.self.inside.core c.self.inside.senders c.self.inside.receivers.entries c.self.inside.weak_senders
-    c.self.inside.weak_receivers c.self.inside.operations.by_name.entries in
+    let run = shown_by (kept_of c.self.inside) in
     let fresh : is_operation run c.args.op ≡ false =
     ap (λ (r : View g.row.T.Denot). is_operation r c.args.op) c.self.view_is ∙ sym c.has_operation.ensures
     ∙ c.if-has_operation.false in
@@ -31,11 +31,11 @@ invariant_of-self g c =
     (sym (is_some-shown c.self.inside.operations.by_name.entries c.args.op) ∙ fresh) in
     elim c.match-put.branch [
       | in-Ok w ↦ (
-        (stepped-started c.self.inside.core c.self.inside.senders c.self.inside.receivers.entries
-            c.self.inside.weak_senders c.self.inside.weak_receivers c.self.inside.operations.by_name.entries c.self.invariant.0
+        (stepped-started (kept_of c.self.inside) c.self.invariant.0
             (Step.StartSend c.args.op c.args.sender c.args.message) c.args.op
             (Send c.args.sender (Some c.args.message) None) c.put.new.self.by_name.entries absent refl refl refl
-            w.in-Ok.ensures.added w.in-Ok.ensures.more (made-start_send run c.args.op c.args.sender c.args.message fresh)).whole,
+            w.in-Ok.ensures.added w.in-Ok.ensures.more
+            (made-start_send run c.args.op c.args.sender c.args.message fresh)).whole,
         c.put.ensures.counted,
       )
       | in-Err w ↦ (rw w.in-Err.ensures.unchanged c.self.invariant.0, c.put.ensures.counted)
@@ -43,8 +43,7 @@ invariant_of-self g c =
 
 pub returns : goal.returns
 returns g c =
-    let run = shown c.self.inside.core c.self.inside.senders c.self.inside.receivers.entries c.self.inside.weak_senders
-    c.self.inside.weak_receivers c.self.inside.operations.by_name.entries in
+    let run = shown_by (kept_of c.self.inside) in
     let step = Step.StartSend c.args.op c.args.sender c.args.message in
     let known : is_among c.args.sender run.senders ≡ true = sym c.has.ensures ∙ c.if-not-has.false in
     let fresh : is_operation run c.args.op ≡ false =
@@ -55,9 +54,7 @@ returns g c =
     let allowed = not_refused run step known fresh refl refl in
     elim c.match-put.branch [
       | in-Ok w ↦ rw (← c.self.view_is, w.result-is)
-          (StepsTo-made run _ step _ allowed (stepped-started c.self.inside.core c.self.inside.senders
-          c.self.inside.receivers.entries c.self.inside.weak_senders c.self.inside.weak_receivers
-          c.self.inside.operations.by_name.entries c.self.invariant.0 step c.args.op
+          (StepsTo-made run _ step _ allowed (stepped-started (kept_of c.self.inside) c.self.invariant.0 step c.args.op
           (Send c.args.sender (Some c.args.message) None) c.put.new.self.by_name.entries absent refl refl refl
           w.in-Ok.ensures.added w.in-Ok.ensures.more
           (made-start_send run c.args.op c.args.sender c.args.message fresh)).made)

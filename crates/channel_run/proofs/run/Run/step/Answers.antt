@@ -1,4 +1,4 @@
-use Rattle.channel_run.proofs.WholeSteps.{Answers-StepsTo}
+use Rattle.channel_run.proofs.Steps.Answered.{Answers-StepsTo}
 use Rattle.channel_run.proofs.run.Run.step.Goals as goal
 
 pub returns-clause-answer : goal.returns-clause-answer

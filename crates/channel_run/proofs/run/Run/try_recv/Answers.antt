@@ -2,26 +2,23 @@ use Rattle.std.proofs.Common.{◌∙◌, refl, sym, ap}
 use Rattle.event_list.specs.Keys.{is_among}
 use Rattle.channel_model.specs.declared.step.Step.{Step}
 use Rattle.channel_model.specs.View.{View}
-use Rattle.channel_run.specs.RunShown.{shown}
-use Rattle.channel_run.proofs.WholeSteps.{StepsTo-made, not_refused}
-use Rattle.channel_run.proofs.RunChanges.{stepped-try_recv}
+use Rattle.channel_run.proofs.Steps.Refused.{StepsTo-made, not_refused}
+use Rattle.channel_run.proofs.Tables.PlainSteps.{stepped-try_recv}
+use Rattle.channel_run.proofs.Tables.Kept.{kept_of, shown_by}
 use Rattle.channel_run.proofs.run.Run.try_recv.Goals as goal
 
 pub invariant_of-self : goal.invariant_of-self
 invariant_of-self g c =
     rw c.try_recv.ensures.after (
-      (stepped-try_recv c.self.inside.core c.self.inside.senders c.self.inside.receivers.entries
-          c.self.inside.weak_senders c.self.inside.weak_receivers c.self.inside.operations.by_name.entries c.self.invariant.0
+      (stepped-try_recv (kept_of c.self.inside) c.self.invariant.0
           c.args.receiver).whole,
       c.self.invariant.1,
     )
 
 pub returns : goal.returns
 returns g c =
-    let run = shown c.self.inside.core c.self.inside.senders c.self.inside.receivers.entries c.self.inside.weak_senders
-    c.self.inside.weak_receivers c.self.inside.operations.by_name.entries in
-    let is = stepped-try_recv c.self.inside.core c.self.inside.senders c.self.inside.receivers.entries
-    c.self.inside.weak_senders c.self.inside.weak_receivers c.self.inside.operations.by_name.entries c.self.invariant.0
+    let run = shown_by (kept_of c.self.inside) in
+    let is = stepped-try_recv (kept_of c.self.inside) c.self.invariant.0
     c.args.receiver in
     let known = ap (λ (r : View g.row.T.Denot). is_among c.args.receiver r.receivers) c.self.view_is
     ∙ sym c.has_receiver.ensures ∙ c.if-not-has_receiver.false in

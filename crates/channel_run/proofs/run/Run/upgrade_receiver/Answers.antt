@@ -7,11 +7,14 @@ use Rattle.channel_model.specs.declared.step.Step.{Step}
 use Rattle.channel_model.specs.Tables.{handle_limit}
 use Rattle.channel_model.specs.View.{View}
 use Rattle.channel_core.specs.Counts.{count_upgraded}
-use Rattle.channel_run.specs.RunShown.{Changed, shown}
-use Rattle.channel_run.proofs.Entries.{is_among-entry_at}
-use Rattle.channel_run.proofs.MadeSteps.{made-upgrade_receiver}
-use Rattle.channel_run.proofs.RunTables.{nothing_at, one_more, stepped-receiver, upgraded-count, when_ok}
-use Rattle.channel_run.proofs.WholeSteps.{StepsTo-made, not_refused}
+use Rattle.channel_run.specs.RunShown.{Changed}
+use Rattle.channel_run.proofs.Tables.Entries.{is_among-entry_at}
+use Rattle.channel_run.proofs.Outcomes.Handles.{made-upgrade_receiver}
+use Rattle.channel_run.proofs.Tables.OneEntry.{nothing_at}
+use Rattle.channel_run.proofs.Tables.ShownNames.{one_more, upgraded-count, when_ok}
+use Rattle.channel_run.proofs.Tables.MadeNames.{stepped-receiver}
+use Rattle.channel_run.proofs.Steps.Refused.{StepsTo-made, not_refused}
+use Rattle.channel_run.proofs.Tables.Kept.{kept_of, shown_by}
 use Rattle.channel_run.proofs.run.Run.upgrade_receiver.Goals as goal
 
 pub put-requires : goal.put-requires
@@ -23,8 +26,7 @@ put-requires g c = nothing_at c.self.inside.receivers.entries c.args.new
 pub invariant_of-self-2 : goal.invariant_of-self-2
 invariant_of-self-2 g c =
     let opened : c.self.inside.core.closed ≡ false = sym c.is_closed.ensures ∙ c.if-is_closed.false in
-    let run = shown c.self.inside.core c.self.inside.senders c.self.inside.receivers.entries c.self.inside.weak_senders
-    c.self.inside.weak_receivers c.self.inside.operations.by_name.entries in
+    let run = shown_by (kept_of c.self.inside) in
     let absent = nothing_at c.self.inside.receivers.entries c.args.new
     (is_among-entry_at c.self.inside.receivers.entries c.args.new
     ∙ ap (λ (r : View g.row.T.Denot). is_among c.args.new r.receivers) c.self.view_is
@@ -33,8 +35,7 @@ invariant_of-self-2 g c =
     (Some None)) (sym c.is_err.ensures.value ∙ c.if-is_err.false) c.put.ensures.added in
     let more = when_ok c.put.result (length c.put.new.entries.entries ≡ length c.self.inside.receivers.entries + 1)
     (sym c.is_err.ensures.value ∙ c.if-is_err.false) c.put.ensures.more in
-    let is = stepped-receiver c.self.inside.core c.self.inside.senders c.self.inside.receivers.entries
-    c.self.inside.weak_senders c.self.inside.weak_receivers c.self.inside.operations.by_name.entries c.self.invariant.0
+    let is = stepped-receiver (kept_of c.self.inside) c.self.invariant.0
     (Step.UpgradeReceiver c.args.of c.args.new)
     (Reply.Upgraded true) c.args.new c.put.new.entries.entries absent change more
     (made-upgrade_receiver run c.args.of c.args.new opened) in
@@ -49,8 +50,7 @@ invariant_of-self-2 g c =
 pub returns : goal.returns
 returns g c =
     let opened : c.self.inside.core.closed ≡ false = sym c.is_closed.ensures ∙ c.if-is_closed.false in
-    let run = shown c.self.inside.core c.self.inside.senders c.self.inside.receivers.entries c.self.inside.weak_senders
-    c.self.inside.weak_receivers c.self.inside.operations.by_name.entries in
+    let run = shown_by (kept_of c.self.inside) in
     let absent = nothing_at c.self.inside.receivers.entries c.args.new
     (is_among-entry_at c.self.inside.receivers.entries c.args.new
     ∙ ap (λ (r : View g.row.T.Denot). is_among c.args.new r.receivers) c.self.view_is
@@ -59,8 +59,7 @@ returns g c =
     (Some None)) (sym c.is_err.ensures.value ∙ c.if-is_err.false) c.put.ensures.added in
     let more = when_ok c.put.result (length c.put.new.entries.entries ≡ length c.self.inside.receivers.entries + 1)
     (sym c.is_err.ensures.value ∙ c.if-is_err.false) c.put.ensures.more in
-    let is = stepped-receiver c.self.inside.core c.self.inside.senders c.self.inside.receivers.entries
-    c.self.inside.weak_senders c.self.inside.weak_receivers c.self.inside.operations.by_name.entries c.self.invariant.0
+    let is = stepped-receiver (kept_of c.self.inside) c.self.invariant.0
     (Step.UpgradeReceiver c.args.of c.args.new)
     (Reply.Upgraded true) c.args.new c.put.new.entries.entries absent change more
     (made-upgrade_receiver run c.args.of c.args.new opened) in

@@ -1,5 +1,6 @@
 use Rattle.std.proofs.Common.{arith}
-use Rattle.channel_run.proofs.RunTold.{count_waiting, few_waiting}
+use Rattle.channel_run.proofs.Told.WhoWaits.{count_waiting, few_waiting}
+use Rattle.channel_run.proofs.Tables.Kept.{kept_of}
 use Rattle.channel_run.proofs.run.Run.waiting.Goals as goal
 
 pub overflow_add-result : goal.overflow_add-result
@@ -9,9 +10,9 @@ overflow_add-result g c =
     let p = c.len-operations.ensures.small in
     let r = c.len-receivers.ensures.len in
     let s = c.len-receivers.ensures.small in
-    let few = few_waiting run.core run.senders run.receivers.entries run.operations.by_name.entries c.self.invariant.0
+    let few = few_waiting (kept_of run) c.self.invariant.0
     (omega arith) (omega arith) in
-    let count = count_waiting run.core run.senders run.receivers.entries run.operations.by_name.entries c.self.invariant.0 in
+    let count = count_waiting (kept_of run) c.self.invariant.0 in
     let w1 = c.waiting.ensures.count in
     let w2 = c.waiting-2.ensures.count in
     omega arith
@@ -23,9 +24,9 @@ overflow_add-result-2 g c =
     let p = c.len-operations.ensures.small in
     let r = c.len-receivers.ensures.len in
     let s = c.len-receivers.ensures.small in
-    let few = few_waiting run.core run.senders run.receivers.entries run.operations.by_name.entries c.self.invariant.0
+    let few = few_waiting (kept_of run) c.self.invariant.0
     (omega arith) (omega arith) in
-    let count = count_waiting run.core run.senders run.receivers.entries run.operations.by_name.entries c.self.invariant.0 in
+    let count = count_waiting (kept_of run) c.self.invariant.0 in
     let w1 = c.waiting.ensures.count in
     let w2 = c.waiting-2.ensures.count in
     let w3 = c.waiting-3.ensures.count in
@@ -38,9 +39,9 @@ overflow_add-result-3 g c =
     let p = c.len-operations.ensures.small in
     let r = c.len-receivers.ensures.len in
     let s = c.len-receivers.ensures.small in
-    let few = few_waiting run.core run.senders run.receivers.entries run.operations.by_name.entries c.self.invariant.0
+    let few = few_waiting (kept_of run) c.self.invariant.0
     (omega arith) (omega arith) in
-    let count = count_waiting run.core run.senders run.receivers.entries run.operations.by_name.entries c.self.invariant.0 in
+    let count = count_waiting (kept_of run) c.self.invariant.0 in
     let w1 = c.waiting.ensures.count in
     let w2 = c.waiting-2.ensures.count in
     let w3 = c.waiting-3.ensures.count in
@@ -50,7 +51,7 @@ overflow_add-result-3 g c =
 pub returns : goal.returns
 returns g c =
     let run = c.self.inside in
-    let count = count_waiting run.core run.senders run.receivers.entries run.operations.by_name.entries c.self.invariant.0 in
+    let count = count_waiting (kept_of run) c.self.invariant.0 in
     let w1 = c.waiting.ensures.count in
     let w2 = c.waiting-2.ensures.count in
     let w3 = c.waiting-3.ensures.count in
