@@ -9,8 +9,8 @@ use Rattle.channel_model.specs.Covered.{Waiters, Standing}
 use Rattle.channel_model.specs.Tables.{send_poll, recv_poll, next_poll, closed_poll}
 use Rattle.channel_core.specs.Tickets.{waits, left, Waits}
 
--- The capacity, if there is one, the held messages, the oldest first, whether it is closed, how many
--- senders and receivers there are, and who waits. The payload of an untold waiter is a `W`.
+-- The capacity, if there is one, the held messages, the oldest first, whether it is closed, how
+-- many senders and receivers there are, and who waits. The payload of an untold waiter is a `W`.
 pub record Channel (T W : Type 0) : Type 0 where
   pub capacity : Option ℕ
   pub messages : List T
@@ -22,7 +22,8 @@ pub record Channel (T W : Type 0) : Type 0 where
   pub streams : Waiting W
   pub closeds : Waiting W
 
--- What a step leaves: the channel, and the payloads of those whom it told, in the order of the rings.
+-- What a step leaves: the channel, and the payloads of those whom it told, in the order of the
+-- rings.
 pub record Change (T W : Type 0) : Type 0 where
   pub channel : Channel T W
   pub rung : List W
@@ -100,7 +101,8 @@ module _ {T W : Type 0} where
     rung = take 1 (payloads channel.sends);
   }
 
-  -- an open channel closes, and all sends, receives and streams are told; a closed one stays as it is
+  -- an open channel closes, and all sends, receives and streams are told; a closed one stays as it
+  -- is
   abbrev pub closing : Channel T W → Change T W
   closing channel =
       if channel.closed then unchanged channel
@@ -132,11 +134,12 @@ module _ {T W : Type 0} where
   abbrev pub sent : T → Channel T W → Change T W
   sent message channel = sending channel.closed (is_channel_full channel) message channel
 
-  -- closed: nothing changes; full: the oldest message leaves, which tells no send, and the message is
-  -- accepted; else the message is accepted
+  -- closed: nothing changes; full: the oldest message leaves, which tells no send, and the message
+  -- is accepted; else the message is accepted
   abbrev pub forcing : (closed full : Bool) → T → Channel T W → Change T W
   forcing true full message channel = unchanged channel
-  forcing false true message channel = accepting message (record channel { messages = drop 1 channel.messages })
+  forcing false true message channel =
+      accepting message (record channel { messages = drop 1 channel.messages })
   forcing false false message channel = accepting message channel
 
   abbrev pub force_sent : T → Channel T W → Change T W
@@ -156,8 +159,8 @@ module _ {T W : Type 0} where
       if channel.senders == 1 then closing (record channel { senders = 0 })
       else unchanged (record channel { senders = channel.senders - 1 })
 
-  -- a receiver is given up, without its stream: the last one closes the channel, and is the end that
-  -- closed operations wait for, also on a channel that was closed before
+  -- a receiver is given up, without its stream: the last one closes the channel, and is the end
+  -- that closed operations wait for, also on a channel that was closed before
   abbrev pub receiver_dropped : Channel T W → Change T W
   receiver_dropped channel =
       if channel.receivers == 1 then ending (closing (record channel { receivers = 0 }))
@@ -165,18 +168,22 @@ module _ {T W : Type 0} where
 
   -- the receiver's stream leaves first
   abbrev pub receiver_dropped_by : Option ℕ → Channel T W → Change T W
-  receiver_dropped_by ticket channel = receiver_dropped (record channel { streams = left ticket channel.streams })
+  receiver_dropped_by ticket channel =
+      receiver_dropped (record channel { streams = left ticket channel.streams })
 
   -- ### Polls
 
-  -- a send's entry leaves, and its message is sent; one without a message is finished, and has nothing to do
+  -- a send's entry leaves, and its message is sent; one without a message is finished, and has
+  -- nothing to do
   abbrev pub polled_send : Option T → Option ℕ → Channel T W → Change T W
   polled_send None ticket channel = unchanged channel
-  polled_send (Some message) ticket channel = sent message (record channel { sends = left ticket channel.sends })
+  polled_send (Some message) ticket channel =
+      sent message (record channel { sends = left ticket channel.sends })
 
   -- a receive's entry leaves, and then a message, if there is one
   abbrev pub polled_receive : Option ℕ → Channel T W → Change T W
-  polled_receive ticket channel = received (record channel { receives = left ticket channel.receives })
+  polled_receive ticket channel =
+      received (record channel { receives = left ticket channel.receives })
 
   -- a stream's entry leaves, and then a message, if there is one
   abbrev pub polled_stream : Option ℕ → Channel T W → Change T W
@@ -186,7 +193,8 @@ module _ {T W : Type 0} where
   abbrev pub SendWaits : Option T → Option ℕ → Channel T W → W → Option ℕ → Channel T W → Type 0
   SendWaits None ticket channel payload ticket' channel' = (channel' ≡ channel) × (ticket' ≡ ticket)
   SendWaits (Some message) ticket channel payload ticket' channel' =
-      (channel' ≡ record channel { sends = channel'.sends }) × Waits ticket channel.sends payload ticket' channel'.sends
+      (channel' ≡ record channel { sends = channel'.sends })
+          × Waits ticket channel.sends payload ticket' channel'.sends
 
   -- a receive that can't go on waits, and nothing else changes
   abbrev pub RecvWaits : Option ℕ → Channel T W → W → Option ℕ → Channel T W → Type 0
@@ -226,4 +234,5 @@ module _ {T W : Type 0} where
       × (waits ticket channel.streams ≡ false)
 
   abbrev pub ClosedWants : Option ℕ → Channel T W → Type 0
-  ClosedWants ticket channel = (closed_poll (channel.receivers == 0) ≡ Pending) × (waits ticket channel.closeds ≡ false)
+  ClosedWants ticket channel =
+      (closed_poll (channel.receivers == 0) ≡ Pending) × (waits ticket channel.closeds ≡ false)

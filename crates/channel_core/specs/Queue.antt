@@ -27,17 +27,20 @@ module _ {T : Type 0} where
 
   -- a full queue gives its oldest message for a forced one
   abbrev pub force_push_reply : Contents T → Option T
-  force_push_reply queue = if is_full queue.capacity queue.messages then slice_get queue.messages 0 else None
+  force_push_reply queue =
+      if is_full queue.capacity queue.messages then slice_get queue.messages 0 else None
 
   -- a forced message stands last, on a full queue without the oldest one
   abbrev pub force_pushed : Contents T → T → Contents T
   force_pushed queue message =
-      if is_full queue.capacity queue.messages then contents queue.capacity (drop 1 queue.messages ++ message ∷ [])
+      if is_full queue.capacity queue.messages
+      then contents queue.capacity (drop 1 queue.messages ++ message ∷ [])
       else contents queue.capacity (queue.messages ++ message ∷ [])
 
   -- there are no more messages than there may be
   abbrev pub IsWithin : Contents T → Type 0
-  IsWithin queue = (capacity : ℕ) → queue.capacity ≡ Some capacity → length queue.messages ≤ capacity
+  IsWithin queue =
+      (capacity : ℕ) → queue.capacity ≡ Some capacity → length queue.messages ≤ capacity
 
   -- the oldest message leaves, if there is one
   abbrev pub popped : Contents T → Contents T

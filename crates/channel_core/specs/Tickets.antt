@@ -1,5 +1,5 @@
--- What a ticket that may be there does to a waiting list. A ticket whose key isn't in the list counts as
--- none: its entry neither leaves nor waits.
+-- What a ticket that may be there does to a waiting list. A ticket whose key isn't in the list
+-- counts as none: its entry neither leaves nor waits.
 use Rattle.std.specs.Prelude.{◌≡◌, ℕ, Bool, true, false, List, [], take, Option, Some, None, IsSomeAnd, if◌then◌else◌}
 use Rattle.event_list.specs.Keys.{is_among}
 use Rattle.event_list.specs.Waiting.{Waiting, IsWaiting, LosesOne, keys, payloads, joined, without, renewed, cancelled}
@@ -23,7 +23,8 @@ module _ {W : Type 0} where
   -- the payload of who is told in its place
   abbrev pub rung_by_handing_on : Option ℕ → Waiting W → List W
   rung_by_handing_on None list = []
-  rung_by_handing_on (Some key) list = if is_among key list.told then take 1 (payloads (without list key)) else []
+  rung_by_handing_on (Some key) list =
+      if is_among key list.told then take 1 (payloads (without list key)) else []
 
   -- the ticket's entry waits again
   abbrev pub waiting_again : Option ℕ → Waiting W → W → Waiting W
@@ -35,11 +36,12 @@ module _ {W : Type 0} where
   LosesAtMostOne None list = Unit {0}
   LosesAtMostOne (Some key) list = LosesOne list key
 
-  -- Who can't go on waits. An entry that is in the list waits again; else a new one goes last, under a
-  -- key that isn't in the list. Either way it is untold after that, and holds the payload.
+  -- Who can't go on waits. An entry that is in the list waits again; else a new one goes last,
+  -- under a key that isn't in the list. Either way it is untold after that, and holds the payload.
   pub record Waits (ticket : Option ℕ) (list : Waiting W) (payload : W) (ticket' : Option ℕ)
       (list' : Waiting W) : Type 0 where
-    pub again : waits ticket list ≡ true → (ticket' ≡ ticket) × (list' ≡ waiting_again ticket list payload)
+    pub again : waits ticket list ≡ true → (ticket' ≡ ticket)
+        × (list' ≡ waiting_again ticket list payload)
     pub begins : waits ticket list ≡ false → IsSomeAnd ticket'
         (λ key. (is_among key (keys list) ≡ false) × (list' ≡ joined list key payload))
     pub holds : IsSomeAnd ticket' (λ key. IsWaiting list' key payload)

@@ -1,5 +1,5 @@
--- What a call answers and leaves, by the channel before it. A private function promises it, and what
--- a history decides follows from it; no public clause has to cite this module.
+-- What a call answers and leaves, by the channel before it. A private function promises it, and
+-- what a history decides follows from it; no public clause has to cite this module.
 use Rattle.std.specs.Prelude.{not, length}
 use Rattle.channel_core.specs.Channel.{Channel, closing, force_sent, is_channel_full, oldest, received, sent}
 use Rattle.channel_model.specs.Tables.{force_send_answer, try_recv_answer, try_send_answer}

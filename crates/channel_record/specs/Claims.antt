@@ -1,5 +1,5 @@
--- Claims on the places of a history. Private functions promise them, and what a book has follows; no
--- public clause has to cite this module.
+-- Claims on the places of a history. Private functions promise them, and what a book has follows;
+-- no public clause has to cite this module.
 use Rattle.std.specs.Prelude.{◌≡◌, ◌+◌, ◌<◌, ◌≤◌, ℕ, List, Bool, false, map, length, slice_index_or, if◌then◌else◌}
 use Rattle.std.specs.List.{All}
 use Rattle.std.specs.List.Sorted.{IsStrictlyIncreasing}

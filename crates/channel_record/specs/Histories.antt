@@ -17,8 +17,8 @@ use Rattle.channel_record.specs.declared.calls.Call.TheVariants.{TrySend, ForceS
 use Rattle.channel_record.specs.declared.calls.Outcome.{Outcome}
 use Rattle.channel_record.specs.declared.calls.Outcome.TheVariants.{TrySent, Forced, Received, Flag, Count}
 
--- A call is the step of the same name of sender 0, or of receiver 0. A recorded channel has these two
--- for good.
+-- A call is the step of the same name of sender 0, or of receiver 0. A recorded channel has these
+-- two for good.
 abbrev pub step_of_call : {T : Type 0} → Call T → Step T
 step_of_call (TrySend message) = TrySend 0 message
 step_of_call (ForceSend message) = ForceSend 0 message

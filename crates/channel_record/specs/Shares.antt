@@ -20,8 +20,8 @@ pub record IsRecorderOf (drawn : Option ℕ) (asked : Kind) (recorder : Recorder
   pub is_drawn : drawn ≡ Some recorder.stamp
   pub is_asked : recorder.kind ≡ asked
 
--- What a clerk shows: the stamp of its recorder, and its entries, the oldest first. Each has the place
--- in the history, the call and the outcome.
+-- What a clerk shows: the stamp of its recorder, and its entries, the oldest first. Each has the
+-- place in the history, the call and the outcome.
 pub record ClerkView (T : Type 0) : Type 0 where
   pub stamp : ℕ
   pub entries : List (ℕ × Call T × Outcome T)
@@ -67,8 +67,9 @@ pub record BookView (T : Type 0) : Type 0 where
   pub history : List (Call T × Outcome T)
   pub places : List (List ℕ)
 
--- The history is what the clerks wrote down: each of its calls stands in one clerk's list, once, with
--- its own place and outcome, nothing else stands in any, and each list is in the order of the history.
+-- The history is what the clerks wrote down: each of its calls stands in one clerk's list, once,
+-- with its own place and outcome, nothing else stands in any, and each list is in the order of the
+-- history.
 pub record IsWrittenDown {T : Type 0} (history : List (Call T × Outcome T))
     (clerks : List (ClerkView T)) : Type 0 where
   pub shares : AreShares (length history) (map places_of clerks)
@@ -80,8 +81,8 @@ pub record Matches {T : Type 0} (asked : Kind) (clerks : List (ClerkView T))
   pub is_asked : journal.kind ≡ asked
   pub written : IsWrittenDown journal.history clerks
 
--- The book of a channel of this kind and of these clerks: one history that such a channel could have,
--- which is what the clerks wrote down, and the places of each clerk's own calls in it.
+-- The book of a channel of this kind and of these clerks: one history that such a channel could
+-- have, which is what the clerks wrote down, and the places of each clerk's own calls in it.
 pub record IsBookOf {T : Type 0} (asked : Kind) (clerks : List (ClerkView T))
     (book : BookView T) : Type 0 where
   pub is_asked : book.kind ≡ asked

@@ -25,7 +25,8 @@ write_failed (Err e) offered = true
 abbrev pub AppendsFront : Option (List ℕ) → Option (List ℕ) → List ℕ → Type 0
 AppendsFront old new text = (n : ℕ) × Appends old new (take n text)
 
--- what is seen of a reader or a writer of std: how many of its calls failed, and whether a read met its end
+-- what is seen of a reader or a writer of std: how many of its calls failed, and whether a read met
+-- its end
 pub record StdView (D : Type 0) : Type 0 where
   pub device : D
   pub failures : ℕ

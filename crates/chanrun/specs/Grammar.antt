@@ -1,4 +1,5 @@
--- What a script's bytes say: its lines, their words, numbers and names, and the command or the fault of a line.
+-- What a script's bytes say: its lines, their words, numbers and names, and the command or the
+-- fault of a line.
 use Rattle.std.specs.Prelude.{ℕ, ◌+◌, ◌-◌, ◌*◌, ◌^◌, ◌==◌, Bool, true, false, ◌&&◌, not, if◌then◌else◌, nat_lt, nat_le, nat_eq, List, [], ◌∷◌, length, drop, map, codes, None, Some, Option, option_map, unwrap_or, Result, Ok, Err}
 use Rattle.std.specs.List.{slice_split, onto_first, starts_with}
 use Rattle.std.specs.Option.{option_or}
@@ -28,7 +29,8 @@ use Rattle.chanrun.specs.declared.grammar.word.Word.TheVariants.{Number, Sender,
 
 -- ---- lines, words, numbers and names
 
--- Each line ends with the byte 10. What stands behind the last of these is a line too, where it has a byte.
+-- Each line ends with the byte 10. What stands behind the last of these is a line too, where it has
+-- a byte.
 abbrev pub lines_of : List ℕ → List (List ℕ)
 lines_of [] = []
 lines_of (b ∷ bs) = if b == 10 then [] ∷ lines_of bs else onto_first b (lines_of bs)
@@ -57,11 +59,14 @@ value_after n (b ∷ bs) = value_after (n * 10 + (b - 48)) bs
 
 -- the number of 64 bits that a word spells
 abbrev pub number_of : List ℕ → Option ℕ
-number_of word = if is_numeral word && nat_lt (value_after 0 word) (2 ^ 64) then Some (value_after 0 word) else None
+number_of word =
+    if is_numeral word && nat_lt (value_after 0 word) (2 ^ 64) then Some (value_after 0 word)
+    else None
 
 -- the number behind these letters, where a word begins with them
 abbrev pub name_of : (letters : List ℕ) → List ℕ → Option ℕ
-name_of letters word = if starts_with nat_eq word letters then number_of (drop (length letters) word) else None
+name_of letters word =
+    if starts_with nat_eq word letters then number_of (drop (length letters) word) else None
 
 -- A word is a number, a name of one of the five kinds, or neither.
 abbrev pub word_of : List ℕ → Word
@@ -126,12 +131,14 @@ with_one make (Ok first) = Ok (make first)
 with_one make (Err fault) = Err fault
 
 -- What is made of two words. The left one's fault comes first.
-abbrev pub with_two : {A B C : Type 0} → (A → B → C) → Result A Fault → Result B Fault → Result C Fault
+abbrev pub with_two : {A B C : Type 0} → (A → B → C) → Result A Fault → Result B Fault
+    → Result C Fault
 with_two make (Err fault) second = Err fault
 with_two make (Ok first) second = with_one (make first) second
 
 -- what is made of three words
-abbrev pub with_three : {A B C D : Type 0} → (A → B → C → D) → Result A Fault → Result B Fault → Result C Fault
+abbrev pub with_three : {A B C D : Type 0} → (A → B → C → D) → Result A Fault → Result B Fault
+    → Result C Fault
     → Result D Fault
 with_three make (Err fault) second third = Err fault
 with_three make (Ok first) second third = with_two (make first) second third
@@ -201,7 +208,8 @@ abbrev pub command_with : Verb → List Word → Result Command Fault
 command_with verb.Settle [] = Ok Settle
 command_with (verb.One verb) (word ∷ []) = on_one verb word
 command_with (verb.Two verb) (first ∷ second ∷ []) = on_two verb first second
-command_with verb.Send (o ∷ s ∷ m ∷ []) = made (with_three StartSend (op_in o) (sender_in s) (number_in m))
+command_with verb.Send (o ∷ s ∷ m ∷ []) =
+    made (with_three StartSend (op_in o) (sender_in s) (number_in m))
 command_with verb words = Err WrongWordCount
 
 -- ---- lines
@@ -242,7 +250,8 @@ abbrev pub verb_of : List ℕ → Option Verb
 verb_of word =
     if bytes_eq word (codes "settle") then Some verb.Settle
     else if bytes_eq word (codes "send") then Some verb.Send
-    else option_or (option_map verb.One (one_word_verb word)) (option_map verb.Two (two_word_verb word))
+    else option_or (option_map verb.One (one_word_verb word))
+        (option_map verb.Two (two_word_verb word))
 
 -- the command of a verb, if there is one
 abbrev pub command_by : Option Verb → List Word → Result Command Fault
@@ -256,7 +265,8 @@ command_in (verb ∷ words) = command_by (verb_of verb) (map word_of words)
 
 -- what the words of a line within the limit say
 abbrev pub within_limit : {A : Type 0} → List ℕ → (List (List ℕ) → Result A Fault) → Result A Fault
-within_limit line read = if nat_lt LINE_LIMIT (length line) then Err LineTooLong else read (words_of line)
+within_limit line read =
+    if nat_lt LINE_LIMIT (length line) then Err LineTooLong else read (words_of line)
 
 -- The command that a line behind the first says, or its first fault.
 abbrev pub command_of : List ℕ → Result Command Fault

@@ -51,7 +51,8 @@ pub record IsDone (left left' : Option (List ℕ)) (ended : Bool) (written writt
   pub text : Appends written written' (script_text input)
 
 -- A script was read whole, and a beginning of its text was written.
-pub record IsBegun (left left' : Option (List ℕ)) (ended : Bool) (written written' : Option (List ℕ)) : Type 0 where
+pub record IsBegun (left left' : Option (List ℕ)) (ended : Bool)
+    (written written' : Option (List ℕ)) : Type 0 where
   pub input : List ℕ
   pub read : HasRead left left' ended input
   pub text : AppendsFront written written' (script_text input)

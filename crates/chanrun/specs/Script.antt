@@ -1,4 +1,5 @@
--- What is written for a script: the replies that the model decides, line by line, up to the first faulty one.
+-- What is written for a script: the replies that the model decides, line by line, up to the first
+-- faulty one.
 use Rattle.std.specs.Prelude.{ℕ, ◌+◌, List, [], ◌∷◌, ◌++◌, length, flat_map, codes, Option, None, Some, Result, Ok, Err}
 use Rattle.std.specs.Fmt.{decimal}
 use Rattle.channel_model.specs.declared.step.Kind.{Kind}
@@ -27,11 +28,13 @@ finished_line (who, reply) = who_text who ++ (codes " " ++ as_line (reply_text r
 
 -- the line that says how many polls were made, and how many of them were ready
 abbrev pub settled_line : (polls finished : ℕ) → List ℕ
-settled_line polls finished = codes "settled " ++ (decimal polls ++ (codes " " ++ as_line (decimal finished)))
+settled_line polls finished =
+    codes "settled " ++ (decimal polls ++ (codes " " ++ as_line (decimal finished)))
 
 -- this line, and a line for each poll that was ready
 abbrev pub settled_text : (polls : ℕ) (finished : List (Who × Reply ℕ)) → List ℕ
-settled_text polls finished = settled_line polls (length finished) ++ flat_map finished_line finished
+settled_text polls finished =
+    settled_line polls (length finished) ++ flat_map finished_line finished
 
 -- the text that a command is answered by, after this past
 abbrev pub command_text : Kind → Past ℕ → Command → List ℕ
@@ -49,13 +52,15 @@ past_after_command kind past Settle = settling_polls kind past ++ past
 -- the past after commands, in order
 abbrev pub past_after_all : Kind → Past ℕ → List Command → Past ℕ
 past_after_all kind past [] = past
-past_after_all kind past (command ∷ commands) = past_after_all kind (past_after_command kind past command) commands
+past_after_all kind past (command ∷ commands) =
+    past_after_all kind (past_after_command kind past command) commands
 
 -- the texts that commands are answered by, in order, after this past
 abbrev pub texts_after : Kind → Past ℕ → List Command → List ℕ
 texts_after kind past [] = []
 texts_after kind past (command ∷ commands) =
-    command_text kind past command ++ texts_after kind (past_after_command kind past command) commands
+    command_text kind past command
+        ++ texts_after kind (past_after_command kind past command) commands
 
 -- ---- scripts
 
@@ -75,7 +80,8 @@ fault_before number (Err fault) others = Some (number, fault)
 -- the number and the fault of the first faulty line, where the first of these lines has this number
 abbrev pub fault_from : ℕ → List (List ℕ) → Option (ℕ × Fault)
 fault_from number [] = None
-fault_from number (line ∷ lines) = fault_before number (command_of line) (fault_from (number + 1) lines)
+fault_from number (line ∷ lines) =
+    fault_before number (command_of line) (fault_from (number + 1) lines)
 
 abbrev pub text_by : Result Kind Fault → List (List ℕ) → List ℕ
 text_by (Ok kind) lines = texts_after kind [] (commands_of lines)

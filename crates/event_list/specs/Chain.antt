@@ -37,16 +37,20 @@ module _ {W : Type 0} where
   abbrev pub IsChain : Slab (Entry W) → Option ℕ → List (ℕ × EntryState W) → Option ℕ → Type 0
   IsChain slab before [] behind = Unit {0}
   IsChain slab before (item ∷ rest) behind =
-      (get slab item.0 ≡ Some (record { before = before; behind = first_key rest behind; notice = item.1 }))
+      (get slab item.0 ≡ Some (record {
+          before = before; behind = first_key rest behind; notice = item.1
+        }))
       × IsChain slab (Some item.0) rest behind
 
   -- an entry, if there is one under this key, and what is read from its neighbour on
-  abbrev step : (Option ℕ → List (ℕ × EntryState W)) → ℕ → Option (Entry W) → List (ℕ × EntryState W)
+  abbrev step : (Option ℕ → List (ℕ × EntryState W)) → ℕ → Option (Entry W)
+      → List (ℕ × EntryState W)
   step rest key None = []
   step rest key (Some entry) = (key, entry.notice) ∷ rest entry.behind
 
   -- the same, if there is a key
-  abbrev step_from : Slab (Entry W) → (Option ℕ → List (ℕ × EntryState W)) → Option ℕ → List (ℕ × EntryState W)
+  abbrev step_from : Slab (Entry W) → (Option ℕ → List (ℕ × EntryState W)) → Option ℕ
+      → List (ℕ × EntryState W)
   step_from slab rest None = []
   step_from slab rest (Some key) = step rest key (get slab key)
 
@@ -73,8 +77,9 @@ module _ {W : Type 0} where
     untold = untold_of (walk slab (len - told) ends.cursor);
   }
 
-  -- The entries of the slab, and the three keys beside them, keep this list: they stand one behind the
-  -- other, nothing else is in the slab, and the keys name the first, the last and the first untold one.
+  -- The entries of the slab, and the three keys beside them, keep this list: they stand one behind
+  -- the other, nothing else is in the slab, and the keys name the first, the last and the first
+  -- untold one.
   pub record IsLinked (slab : Slab (Entry W)) (ends : Ends) (list : Waiting W) : Type 0 where
     pub linked : IsChain slab None (items list) None
     pub only : (key : ℕ) → is_among key (keys list) ≡ false → get slab key ≡ None
@@ -84,7 +89,8 @@ module _ {W : Type 0} where
     pub different : AreDifferent (keys list)
 
   -- So do the two numbers, the length and the number told.
-  pub record Keeps (slab : Slab (Entry W)) (ends : Ends) (len told : ℕ) (list : Waiting W) : Type 0 where
+  pub record Keeps (slab : Slab (Entry W)) (ends : Ends) (len told : ℕ) (list : Waiting W)
+      : Type 0 where
     pub links : IsLinked slab ends list
     pub counted : told ≡ length list.told
     pub total : len ≡ length list.told + length list.untold

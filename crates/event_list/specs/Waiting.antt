@@ -2,8 +2,8 @@
 use Rattle.std.specs.Prelude.{◌≡◌, ℕ, ◌+◌, ◌==◌, Bool, true, false, not, if◌then◌else◌, List, [], ◌∷◌, ◌++◌, map, filter, length, take, Option, Some, None}
 use Rattle.event_list.specs.Keys.{is_among}
 
--- Those who wait, in order of arrival: first the told ones, by their keys, and then the untold ones,
--- each with its payload.
+-- Those who wait, in order of arrival: first the told ones, by their keys, and then the untold
+-- ones, each with its payload.
 pub record Waiting (W : Type 0) : Type 0 where
   pub told : List ℕ
   pub untold : List (ℕ × W)
@@ -64,7 +64,8 @@ module _ {W : Type 0} where
   abbrev pub LosesOne : Waiting W → ℕ → Type 0
   LosesOne list key =
       (told_count (without list key) + (if is_among key list.told then 1 else 0) ≡ told_count list)
-      × (untold_count (without list key) + (if is_among key (untold_keys list) then 1 else 0) ≡ untold_count list)
+      × (untold_count (without list key) + (if is_among key (untold_keys list) then 1 else 0)
+          ≡ untold_count list)
 
   -- the key's entry keeps its place, with another payload
   abbrev pub repaid : Waiting W → ℕ → W → Waiting W
