@@ -13,7 +13,8 @@ use Rattle.event_list.specs.declared.entries.EntryState.{EntryState}
 use Rattle.event_list.specs.declared.entries.EntryState.TheVariants.{Told, Untold}
 use Rattle.event_list.proofs.Splits.{without_told, without_untold, without_absent, renewed_absent, loses_one, joined_waits, renewed_waits}
 use Rattle.event_list.proofs.ChainLemmas.{Keeps-shown}
-use Rattle.event_list.proofs.ListLemmas.{mark_is, told_entry, untold_entry, told_from_flag, untold_from_flag, linked_renewed, FirstUntold, first_untold, linked_told_one}
+use Rattle.event_list.proofs.KeptEntries.{mark_is, told_entry, untold_entry, told_from_flag, untold_from_flag}
+use Rattle.event_list.proofs.Writes.{linked_renewed, FirstUntold, first_untold, linked_told_one}
 
 -- a fact of the value, where there is one
 pub there : {result : Option Bool} {P : Type 0} → result ≡ Some true → OnSome result P → P

@@ -1,6 +1,7 @@
 use Rattle.event_list.specs.Waiting.{untold_keys}
 use Rattle.event_list.proofs.Splits.{absent_both}
-use Rattle.event_list.proofs.ListLemmas.{vacant_absent, linked_with}
+use Rattle.event_list.proofs.KeptEntries.{vacant_absent}
+use Rattle.event_list.proofs.TakesAndPuts.{linked_with}
 use Rattle.event_list.proofs.ends.Ends.put_last.Goals as goal
 
 pub returns-clause-fresh : goal.returns-clause-fresh

@@ -4,7 +4,8 @@ use Rattle.slab.specs.Slab.{get}
 use Rattle.event_list.specs.Entries.{is_told}
 use Rattle.event_list.specs.declared.entries.Entry.{Entry}
 use Rattle.event_list.proofs.Splits.{without_absent}
-use Rattle.event_list.proofs.ListLemmas.{vacant_absent, linked_without, mark_is}
+use Rattle.event_list.proofs.KeptEntries.{vacant_absent, mark_is}
+use Rattle.event_list.proofs.TakesAndPuts.{linked_without}
 use Rattle.event_list.proofs.ends.Ends.take_out.Goals as goal
 
 pub returns-in_err-entry-clause-leaves : goal.returns-in_err-entry-clause-leaves
