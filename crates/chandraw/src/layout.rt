@@ -151,9 +151,9 @@ pub(crate) fn fitted(
         let needed = cell
             .len()
             .saturating_add(text.len())
-            .saturating_add(1)
+            .saturating_add(if cell.is_empty() { 0 } else { 1 })
             .saturating_add(tail);
-        if needed > width.saturating_add(1) {
+        if needed > width {
             break;
         }
         if !cell.is_empty() {

@@ -581,8 +581,32 @@ impl Table {
             if self.make(step)? {
                 return Ok(true);
             }
+            if self.row_refused {
+                self.settle_on()?;
+                return Ok(true);
+            }
         }
         Ok(false)
+    }
+
+    // Settles the rest at once: a stream whose receiver is borrowed is polled by settling alone.
+    fn settle_on(&mut self) -> Result<(), OutOfMemory> {
+        self.row_refused = false;
+        let settled = self.run.settle()?;
+        for (who, reply) in settled.finished {
+            let lane = self.known(name_of(who));
+            self.note(Act::Poll(who), lane, &reply)?;
+        }
+        let run = &self.run;
+        self.sends
+            .retain(|who| run.notice_of(*who) != Notice::Absent);
+        self.receives
+            .retain(|who| run.notice_of(*who) != Notice::Absent);
+        self.streams
+            .retain(|who| run.notice_of(*who) != Notice::Absent);
+        self.closeds
+            .retain(|who| run.notice_of(*who) != Notice::Absent);
+        self.note_lanes()
     }
 
     /// Begins a row.
