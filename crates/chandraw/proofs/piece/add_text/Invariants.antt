@@ -1,0 +1,7 @@
+use Rattle.std.proofs.Common.{◌≡◌, ◌++◌, drop}
+use Rattle.chandraw.specs.Pieces.{escaped}
+use Rattle.chandraw.proofs.piece.add_text.Given as goal
+
+-- the page, with what is left to add, is what it is to be
+abbrev pub invariant-loop-byte : goal.invariant-loop-byte
+invariant-loop-byte l = l.page.items ++ escaped l.form (drop l.byte-index l.text) ≡ l.initial.page.items ++ escaped l.form l.text

@@ -1,0 +1,4 @@
+pub mod Arguments
+pub mod Marks
+pub mod Pieces
+pub mod Picture

@@ -1,0 +1,52 @@
+-- The bytes of the pieces of a picture. No byte of a text stands there but escaped.
+use Rattle.std.specs.Prelude.{ℕ, ◌==◌, ◌&&◌, ◌++◌, ◌∷◌, [], List, codes, if◌then◌else◌, nat_le, String, string_bytes}
+use Rattle.std.specs.List.{flat_map}
+use Rattle.std.specs.Fmt.{decimal}
+use Rattle.chanrun.specs.Script.{as_line}
+use Rattle.chandraw.specs.Marks.{mark_bytes}
+use Rattle.chandraw.specs.declared.piece.Form.{Form}
+use Rattle.chandraw.specs.declared.piece.Form.TheVariants.{Svg, Terminal}
+use Rattle.chandraw.specs.declared.piece.Piece.{Piece}
+use Rattle.chandraw.specs.declared.piece.Piece.TheVariants.{Mark, Number, Text}
+use Rattle.chandraw.specs.declared.piece.Row.{Row}
+
+-- a byte that can be printed in ASCII, and `?` in the place of any other
+abbrev pub printed : ℕ → List ℕ
+printed byte = if nat_le 32 byte && nat_le byte 126 then byte ∷ [] else 63 ∷ []
+
+-- a byte as text of XML, which names the five bytes that it has a use for
+abbrev pub named_byte : ℕ → List ℕ
+named_byte byte =
+    if byte == 38 then codes "&amp;"
+    else if byte == 60 then codes "&lt;"
+    else if byte == 62 then codes "&gt;"
+    else if byte == 34 then codes "&quot;"
+    else if byte == 39 then codes "&#39;"
+    else printed byte
+
+-- a byte as text
+abbrev pub escaped_byte : Form → ℕ → List ℕ
+escaped_byte Svg byte = named_byte byte
+escaped_byte Terminal byte = printed byte
+
+-- bytes as text
+abbrev pub escaped : Form → List ℕ → List ℕ
+escaped form bytes = flat_map (escaped_byte form) bytes
+
+-- a mark, a number in decimal, or an escaped text
+abbrev pub piece_bytes : Form → Piece → List ℕ
+piece_bytes form (Mark mark) = mark_bytes mark
+piece_bytes form (Number number) = decimal number
+piece_bytes form (Text text) = escaped form text.items
+
+abbrev pub pieces_bytes : Form → List Piece → List ℕ
+pieces_bytes form pieces = flat_map (piece_bytes form) pieces
+
+-- a reply, escaped, between pieces
+abbrev pub row_bytes : Form → Row → List ℕ
+row_bytes form row =
+    pieces_bytes form row.head.items ++ (escaped form (string_bytes row.reply) ++ pieces_bytes form row.tail.items)
+
+-- a reply's text as a line
+abbrev pub text_line : {A : Type 0} → String A → List ℕ
+text_line text = as_line (string_bytes text)

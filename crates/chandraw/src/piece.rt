@@ -1,0 +1,132 @@
+//! What a picture is made of, and its bytes.
+ghost use Rattle.std.specs.Prelude.{◌≡◌, ◌++◌, OnOk};
+ghost use Rattle.chandraw.specs.Pieces.{escaped, escaped_byte, named_byte, piece_bytes, pieces_bytes, printed, row_bytes};
+
+use crate::mark::{Mark, mark_bytes};
+use std::alloc::{AllocError, Global};
+
+/// What a script is drawn as.
+///
+/// # Examples
+///
+/// ```
+/// let mut reader = FromStd::new(b"unbounded\nlen s0\n".as_slice());
+/// let mut writer = FromStd::new(Vec::new(rt.alloc()));
+/// let drawn = draw_script(rt.alloc(), Form::Terminal, &mut reader, &mut writer);
+/// assert_eq!(rt; drawn, Ok(None));
+/// ```
+#[derive(Clone, Copy, Debug, PartialEq, Eq)]
+pub enum Form {
+    /// A picture in SVG.
+    Svg,
+    /// Lines of at most 100 columns.
+    Terminal,
+}
+
+/// A part of a picture.
+#[derive(Drop)]
+pub enum Piece {
+    /// Constant bytes.
+    Mark(Mark),
+    /// A number in decimal.
+    Number(u64),
+    /// Bytes that may come from the input.
+    Text(Vec<u8>),
+}
+
+/// What is drawn for one reply: the pieces before it, the reply, and the pieces behind it.
+#[derive(Drop)]
+pub struct Row {
+    pub head: Vec<Piece>,
+    pub reply: String,
+    pub tail: Vec<Piece>,
+}
+
+// Adds a byte, or another one in its place where it can't be printed.
+fn add_printed(page: &mut Vec<u8>, byte: u8) -> Result<(), AllocError>
+    ensures { OnOk result (page.new.items ≡ page.old.items ++ printed byte) }
+{
+    let shown = if byte >= b' ' && byte <= b'~' {
+        byte
+    } else {
+        b'?'
+    };
+    page.push(shown)?;
+    Ok(())
+}
+
+// Adds a byte as XML has it.
+fn add_named(page: &mut Vec<u8>, byte: u8) -> Result<(), AllocError>
+    ensures { OnOk result (page.new.items ≡ page.old.items ++ named_byte byte) }
+{
+    match byte {
+        b'&' => page.extend_from_slice(b"&amp;"),
+        b'<' => page.extend_from_slice(b"&lt;"),
+        b'>' => page.extend_from_slice(b"&gt;"),
+        b'"' => page.extend_from_slice(b"&quot;"),
+        b'\'' => page.extend_from_slice(b"&#39;"),
+        _ => add_printed(page, byte),
+    }
+}
+
+// Adds a byte so that it is nothing but text.
+fn add_byte(page: &mut Vec<u8>, form: Form, byte: u8) -> Result<(), AllocError>
+    ensures { OnOk result (page.new.items ≡ page.old.items ++ escaped_byte form byte) }
+{
+    match form {
+        Form::Svg => add_named(page, byte),
+        Form::Terminal => add_printed(page, byte),
+    }
+}
+
+// Adds a text that may be anything.
+fn add_text(page: &mut Vec<u8>, form: Form, text: &[u8]) -> Result<(), AllocError>
+    ensures { OnOk result (page.new.items ≡ page.old.items ++ escaped form text.now) }
+{
+    for byte in text {
+        add_byte(page, form, *byte)?;
+    }
+    Ok(())
+}
+
+fn add_piece(alloc: Global, page: &mut Vec<u8>, form: Form, piece: &Piece) -> Result<(), AllocError>
+    ensures { OnOk result (page.new.items ≡ page.old.items ++ piece_bytes form piece.now) }
+{
+    match piece {
+        Piece::Mark(mark) => page.extend_from_slice(mark_bytes(*mark)),
+        Piece::Number(number) => {
+            let digits = format!(in alloc; "{number}")?;
+            page.extend_from_slice(digits.as_bytes())
+        }
+        Piece::Text(text) => add_text(page, form, text.as_slice()),
+    }
+}
+
+/// Adds pieces in order.
+pub(crate) fn add_pieces(
+    alloc: Global,
+    page: &mut Vec<u8>,
+    form: Form,
+    pieces: &[Piece],
+) -> Result<(), AllocError>
+    ensures { OnOk result (page.new.items ≡ page.old.items ++ pieces_bytes form pieces.now) }
+{
+    for piece in pieces {
+        add_piece(alloc, page, form, piece)?;
+    }
+    Ok(())
+}
+
+/// Adds a row.
+pub(crate) fn add_row(
+    alloc: Global,
+    page: &mut Vec<u8>,
+    form: Form,
+    row: &Row,
+) -> Result<(), AllocError>
+    ensures { OnOk result (page.new.items ≡ page.old.items ++ row_bytes form row.now) }
+{
+    add_pieces(alloc, page, form, row.head.as_slice())?;
+    add_text(page, form, row.reply.as_bytes())?;
+    add_pieces(alloc, page, form, row.tail.as_slice())
+}

@@ -1,0 +1,416 @@
+//! The picture in SVG: time goes down, a row a reply.
+//!
+//! From left to right stand the number of the line, the line, the reply, a lane for each live name,
+//! the messages held, and the four waiting lists. Of what lasts (a name, a wait, a notice, a message
+//! on its way) one line is drawn when it ends.
+use crate::layout::{Pieces, Size, Told, fitted, held_texts, name_text, waiting_texts};
+use crate::mark::Mark;
+use crate::piece::Piece;
+use crate::table::{LANES, Name, Place, Stroke, Table, Trace};
+use channel_model::Who;
+use std::alloc::{AllocError, Global};
+
+// how far rows and lanes are from one another, and where the first ones stand
+const ROW: u64 = 20;
+
+const TOP: u64 = 80;
+
+const LANE: u64 = 26;
+
+const LEFT: u64 = 404;
+
+// how many letters fit into the cells
+const LINE_WIDTH: usize = 25;
+
+const REPLY_WIDTH: usize = 18;
+
+const NAME_WIDTH: usize = 3;
+
+const HELD_WIDTH: usize = 16;
+
+const LIST_WIDTH: usize = 11;
+
+// how wide the cells behind the lanes are
+const HELD: u64 = 130;
+
+const LIST: u64 = 92;
+
+// where the text of a row stands
+fn text_y(row: u64) -> u64 {
+    row.saturating_mul(ROW).saturating_add(TOP)
+}
+
+// the middle of a row
+fn middle_y(row: u64) -> u64 {
+    text_y(row).saturating_sub(4)
+}
+
+// the middle of a lane
+fn lane_x(lane: usize) -> u64 {
+    (lane.min(LANES) as u64)
+        .saturating_mul(LANE)
+        .saturating_add(LEFT)
+}
+
+// where the cells behind the lanes begin; beside all lanes stands a number for the rest
+fn cells_x(size: Size) -> u64 {
+    let lanes = if size.lanes >= LANES {
+        LANES + 2
+    } else {
+        size.lanes
+    };
+    (lanes.min(LANES + 2) as u64)
+        .saturating_mul(LANE)
+        .saturating_add(LEFT)
+}
+
+// where the waiting list of this number begins
+fn list_x(size: Size, number: u64) -> u64 {
+    cells_x(size)
+        .saturating_add(HELD)
+        .saturating_add(number.saturating_mul(LIST))
+}
+
+// Adds a title over a column.
+fn add_title(pieces: &mut Pieces, x: u64, name: Mark) -> Result<(), AllocError> {
+    pieces.mark(Mark::Title)?;
+    pieces.number(x)?;
+    pieces.mark(name)
+}
+
+// Adds what every picture has: the style, the shapes and what they mean.
+fn add_head(pieces: &mut Pieces) -> Result<(), AllocError> {
+    pieces.mark(Mark::SvgHead)?;
+    pieces.mark(Mark::SvgStyle)?;
+    pieces.mark(Mark::SvgArrow)?;
+    pieces.mark(Mark::SvgCross)?;
+    pieces.mark(Mark::SvgRows)?;
+    pieces.mark(Mark::SvgLegend)?;
+    pieces.mark(Mark::SvgLegendEnd)?;
+    pieces.mark(Mark::SvgTitles)
+}
+
+// Adds how large the picture is, and what every picture has.
+fn add_frame(pieces: &mut Pieces, size: Size) -> Result<(), AllocError> {
+    pieces.mark(Mark::SvgStart)?;
+    pieces.number(list_x(size, 4).max(720))?;
+    pieces.mark(Mark::SvgHeight)?;
+    pieces.number(text_y(size.rows.saturating_add(1)).saturating_add(8))?;
+    add_head(pieces)
+}
+
+// Adds the titles of the cells behind the lanes.
+fn add_titles(pieces: &mut Pieces, size: Size) -> Result<(), AllocError> {
+    add_title(pieces, cells_x(size), Mark::HeldName)?;
+    add_title(pieces, list_x(size, 0), Mark::SendsName)?;
+    add_title(pieces, list_x(size, 1), Mark::ReceivesName)?;
+    add_title(pieces, list_x(size, 2), Mark::StreamsName)?;
+    add_title(pieces, list_x(size, 3), Mark::ClosedsName)
+}
+
+// Adds the names of all lanes.
+fn add_names(pieces: &mut Pieces, alloc: Global, table: &Table) -> Result<(), AllocError> {
+    for lane in table.lanes.iter() {
+        if let Some(lane) = lane {
+            add_name(pieces, alloc, table, lane.name)?;
+        }
+    }
+    Ok(())
+}
+
+/// What stands before the first reply: the titles, and the line that makes the channel.
+pub(crate) fn opening(
+    alloc: Global,
+    table: &Table,
+    size: Size,
+    first: &[u8],
+) -> Result<Vec<Piece>, AllocError> {
+    let mut pieces = Pieces::new(alloc);
+    add_frame(&mut pieces, size)?;
+    add_titles(&mut pieces, size)?;
+    add_line(&mut pieces, 0, 1, first)?;
+    add_names(&mut pieces, alloc, table)?;
+    pieces.mark(Mark::Newline)?;
+    Ok(pieces.list)
+}
+
+// Adds the number of a line, and the line.
+fn add_line(pieces: &mut Pieces, row: u64, number: u64, line: &[u8]) -> Result<(), AllocError> {
+    pieces.mark(Mark::NumberText)?;
+    pieces.number(text_y(row))?;
+    pieces.mark(Mark::TextStart)?;
+    pieces.number(number)?;
+    pieces.mark(Mark::TextEnd)?;
+    pieces.mark(Mark::LineText)?;
+    pieces.number(text_y(row))?;
+    pieces.mark(if line.len() > LINE_WIDTH {
+        Mark::SqueezedLine
+    } else {
+        Mark::TextStart
+    })?;
+    pieces.text(line)?;
+    pieces.mark(Mark::TextEnd)
+}
+
+// Adds a name over a lane.
+fn add_name_at(pieces: &mut Pieces, row: u64, lane: usize, text: &str) -> Result<(), AllocError> {
+    pieces.mark(Mark::NameText)?;
+    pieces.number(text_y(row))?;
+    pieces.mark(Mark::AtX)?;
+    pieces.number(lane_x(lane))?;
+    pieces.mark(if text.len() > NAME_WIDTH {
+        Mark::SqueezedName
+    } else {
+        Mark::TextStart
+    })?;
+    pieces.text(text.as_bytes())?;
+    pieces.mark(Mark::TextEnd)
+}
+
+// Adds the name of a lane that begins, if it has a lane.
+fn add_name(
+    pieces: &mut Pieces,
+    alloc: Global,
+    table: &Table,
+    name: Name,
+) -> Result<(), AllocError> {
+    let lane = table.lane_of(name);
+    if lane >= LANES {
+        return Ok(());
+    }
+    let text = name_text(alloc, name)?;
+    add_name_at(pieces, table.row, lane, text.as_str())
+}
+
+// Adds a point of a line.
+fn add_point(pieces: &mut Pieces, mark: Mark, place: Place) -> Result<(), AllocError> {
+    pieces.mark(mark)?;
+    pieces.number(lane_x(place.lane))?;
+    pieces.mark(Mark::Space)?;
+    pieces.number(middle_y(place.row))
+}
+
+fn path_of(trace: Trace) -> Mark {
+    match trace {
+        Trace::Life => Mark::LifePath,
+        Trace::Wait => Mark::WaitPath,
+        Trace::Told => Mark::ToldPath,
+        Trace::Borrow => Mark::BorrowPath,
+        Trace::Message => Mark::MessagePath,
+        Trace::Lost => Mark::LostPath,
+    }
+}
+
+// Adds a line from one place to another.
+fn add_stroke(pieces: &mut Pieces, stroke: Stroke) -> Result<(), AllocError> {
+    add_point(pieces, Mark::Move, stroke.from)?;
+    if stroke.from.lane != stroke.to.lane {
+        return add_point(pieces, Mark::LineTo, stroke.to);
+    }
+    pieces.mark(Mark::Down)?;
+    pieces.number(middle_y(stroke.to.row))
+}
+
+// Adds the lines of one kind.
+fn add_trace(pieces: &mut Pieces, strokes: &[Stroke], trace: Trace) -> Result<(), AllocError> {
+    if !strokes.iter().any(|stroke| stroke.trace == trace) {
+        return Ok(());
+    }
+    pieces.mark(path_of(trace))?;
+    for stroke in strokes {
+        if stroke.trace == trace {
+            add_stroke(pieces, *stroke)?;
+        }
+    }
+    pieces.mark(Mark::PathEnd)
+}
+
+// Adds the lines of a row.
+fn add_strokes(pieces: &mut Pieces, strokes: &[Stroke]) -> Result<(), AllocError> {
+    add_trace(pieces, strokes, Trace::Life)?;
+    add_trace(pieces, strokes, Trace::Wait)?;
+    add_trace(pieces, strokes, Trace::Told)?;
+    add_trace(pieces, strokes, Trace::Borrow)?;
+    add_trace(pieces, strokes, Trace::Message)?;
+    add_trace(pieces, strokes, Trace::Lost)
+}
+
+// Adds a line across a row in which the channel is closed.
+fn add_closing(pieces: &mut Pieces, table: &Table, size: Size) -> Result<(), AllocError> {
+    if !table.row_closes {
+        return Ok(());
+    }
+    pieces.mark(Mark::ClosingPath)?;
+    pieces.number(text_y(table.row).saturating_add(5))?;
+    pieces.mark(Mark::Across)?;
+    pieces.number(list_x(size, 4))?;
+    pieces.mark(Mark::PathEnd)
+}
+
+// Adds a bar where a name ends.
+fn add_end(pieces: &mut Pieces, table: &Table) -> Result<(), AllocError> {
+    let Some(lane) = table.row_ended else {
+        return Ok(());
+    };
+    pieces.mark(Mark::EndPath)?;
+    pieces.number(lane_x(lane).saturating_sub(5))?;
+    pieces.mark(Mark::Space)?;
+    pieces.number(middle_y(table.row))?;
+    pieces.mark(Mark::Bar)
+}
+
+// Adds a cell behind the lanes, if there is something in it.
+fn add_cell(pieces: &mut Pieces, row: u64, x: u64, text: &[u8]) -> Result<(), AllocError> {
+    if text.is_empty() {
+        return Ok(());
+    }
+    pieces.mark(Mark::CellText)?;
+    pieces.number(text_y(row))?;
+    pieces.mark(Mark::AtX)?;
+    pieces.number(x)?;
+    pieces.mark(Mark::TextStart)?;
+    pieces.text(text)?;
+    pieces.mark(Mark::TextEnd)
+}
+
+// Adds those who wait in a list.
+fn add_list(
+    pieces: &mut Pieces,
+    alloc: Global,
+    table: &Table,
+    x: u64,
+    list: &[Who],
+) -> Result<(), AllocError> {
+    let texts = waiting_texts(alloc, table, list, LIST_WIDTH)?;
+    let cell = fitted(alloc, texts.as_slice(), list.len(), LIST_WIDTH)?;
+    add_cell(pieces, table.row, x, cell.as_slice())
+}
+
+// Adds how many names have no lane.
+fn add_rest(pieces: &mut Pieces, alloc: Global, table: &Table) -> Result<(), AllocError> {
+    if table.rest.is_empty() {
+        return Ok(());
+    }
+    let rest = format!(in alloc; "+{}", table.rest.len())?;
+    add_cell(pieces, table.row, lane_x(LANES), rest.as_bytes())
+}
+
+// Adds the messages held.
+fn add_held(
+    pieces: &mut Pieces,
+    alloc: Global,
+    table: &Table,
+    size: Size,
+) -> Result<(), AllocError> {
+    let texts = held_texts(alloc, table, HELD_WIDTH)?;
+    let held = fitted(alloc, texts.as_slice(), table.held.len(), HELD_WIDTH)?;
+    add_cell(pieces, table.row, cells_x(size), held.as_slice())
+}
+
+// Adds the waiting lists.
+fn add_lists(
+    pieces: &mut Pieces,
+    alloc: Global,
+    table: &Table,
+    size: Size,
+) -> Result<(), AllocError> {
+    add_list(
+        pieces,
+        alloc,
+        table,
+        list_x(size, 0),
+        table.sends.as_slice(),
+    )?;
+    add_list(
+        pieces,
+        alloc,
+        table,
+        list_x(size, 1),
+        table.receives.as_slice(),
+    )?;
+    add_list(
+        pieces,
+        alloc,
+        table,
+        list_x(size, 2),
+        table.streams.as_slice(),
+    )?;
+    add_list(
+        pieces,
+        alloc,
+        table,
+        list_x(size, 3),
+        table.closeds.as_slice(),
+    )
+}
+
+// Adds what became of the names in a row.
+fn add_changes(
+    pieces: &mut Pieces,
+    alloc: Global,
+    table: &Table,
+    size: Size,
+) -> Result<(), AllocError> {
+    add_strokes(pieces, table.row_strokes.as_slice())?;
+    add_end(pieces, table)?;
+    add_closing(pieces, table, size)?;
+    if let Some(name) = table.row_made {
+        add_name(pieces, alloc, table, name)?;
+    }
+    Ok(())
+}
+
+// What stands before a reply.
+fn head(alloc: Global, table: &Table, told: Told<'_>) -> Result<Vec<Piece>, AllocError> {
+    let mut pieces = Pieces::new(alloc);
+    match told.number {
+        Some(number) => add_line(&mut pieces, table.row, number, told.line)?,
+        None => {
+            pieces.mark(Mark::PollText)?;
+            pieces.number(text_y(table.row))?;
+            pieces.mark(Mark::PollName)?;
+        }
+    }
+    pieces.mark(if table.row_refused {
+        Mark::RefusedText
+    } else {
+        Mark::ReplyText
+    })?;
+    pieces.number(text_y(table.row))?;
+    pieces.mark(if told.reply.len() > REPLY_WIDTH {
+        Mark::SqueezedReply
+    } else {
+        Mark::TextStart
+    })?;
+    Ok(pieces.list)
+}
+
+// What stands behind a reply.
+fn tail(alloc: Global, table: &Table, size: Size) -> Result<Vec<Piece>, AllocError> {
+    let mut pieces = Pieces::new(alloc);
+    pieces.mark(Mark::TextEnd)?;
+    add_changes(&mut pieces, alloc, table, size)?;
+    add_rest(&mut pieces, alloc, table)?;
+    add_held(&mut pieces, alloc, table, size)?;
+    add_lists(&mut pieces, alloc, table, size)?;
+    pieces.mark(Mark::Newline)?;
+    Ok(pieces.list)
+}
+
+/// What stands before a reply, and what behind it.
+pub(crate) fn row(
+    alloc: Global,
+    table: &Table,
+    size: Size,
+    told: Told<'_>,
+) -> Result<(Vec<Piece>, Vec<Piece>), AllocError> {
+    Ok((head(alloc, table, told)?, tail(alloc, table, size)?))
+}
+
+/// What stands behind the last reply: the lines of all that lasts.
+pub(crate) fn closing(alloc: Global, table: &Table, _size: Size) -> Result<Vec<Piece>, AllocError> {
+    let mut pieces = Pieces::new(alloc);
+    add_strokes(&mut pieces, table.row_strokes.as_slice())?;
+    pieces.mark(Mark::SvgEnd)?;
+    Ok(pieces.list)
+}

@@ -1,0 +1,274 @@
+//! The picture for a terminal: a row a reply, at most 100 columns wide.
+//!
+//! The columns are those of the other form, and a lane is one letter wide. A text that is too long
+//! for its cell has its line to itself, and the next cell stands below it.
+use crate::layout::{Pieces, Size, Told, begins, fitted, held_texts, waiting_texts};
+use crate::mark::Mark;
+use crate::piece::Piece;
+use crate::table::{LANES, Lane, Space, Table};
+use channel_model::{Notice, Who};
+use std::alloc::{AllocError, Global};
+
+// where the cells begin, and the last column
+const LINE: usize = 6;
+
+const REPLY: usize = 25;
+
+const NAMES: usize = 41;
+
+const COLUMNS: usize = 100;
+
+// how wide the number for the names without a lane is, and the messages held
+const REST: usize = 7;
+
+const HELD: usize = 13;
+
+// Bytes of this many columns of spaces.
+fn add_spaces(text: &mut Vec<u8>, count: usize) -> Result<(), AllocError> {
+    for _ in 0..count {
+        text.push(b' ')?;
+    }
+    Ok(())
+}
+
+// Goes on from this column to the other one, below where the column is behind it.
+fn add_gap(
+    pieces: &mut Pieces,
+    alloc: Global,
+    column: usize,
+    next: usize,
+) -> Result<(), AllocError> {
+    let mut gap = Vec::new(alloc);
+    if column >= next {
+        pieces.mark(Mark::Newline)?;
+        add_spaces(&mut gap, next)?;
+    } else {
+        add_spaces(&mut gap, next.saturating_sub(column))?;
+    }
+    pieces.text(gap.as_slice())
+}
+
+// Adds the number of a line, with a mark where it was refused.
+fn add_number(
+    pieces: &mut Pieces,
+    alloc: Global,
+    table: &Table,
+    number: u64,
+) -> Result<(), AllocError> {
+    let mark = if table.row_refused { 'x' } else { ' ' };
+    let text = format!(in alloc; "{mark}{number:>4} ")?;
+    pieces.text(text.as_bytes())
+}
+
+// where the messages held begin
+fn held_column(size: Size) -> usize {
+    let rest = if size.lanes >= LANES { REST } else { 1 };
+    NAMES.saturating_add(size.lanes.max(5)).saturating_add(rest)
+}
+
+/// What stands before the first reply: the titles, and the line that makes the channel.
+pub(crate) fn opening(
+    alloc: Global,
+    table: &Table,
+    size: Size,
+    first: &[u8],
+) -> Result<Vec<Piece>, AllocError> {
+    let mut pieces = Pieces::new(alloc);
+    pieces.mark(Mark::TerminalHead)?;
+    let title = NAMES.saturating_add(5);
+    add_gap(&mut pieces, alloc, title, held_column(size))?;
+    pieces.mark(Mark::TerminalHeld)?;
+    add_number(&mut pieces, alloc, table, 1)?;
+    pieces.text(first)?;
+    let column = LINE.saturating_add(first.len());
+    add_gap(&mut pieces, alloc, column, NAMES)?;
+    add_cells(&mut pieces, alloc, table, size)?;
+    Ok(pieces.list)
+}
+
+fn letter_of(space: Space) -> u8 {
+    match space {
+        Space::Sender => b's',
+        Space::Receiver => b'r',
+        Space::WeakSender => b'w',
+        Space::WeakReceiver => b'v',
+        Space::Operation => b'o',
+    }
+}
+
+// The letter of a lane.
+fn lane_letter(table: &Table, lane: &Option<Lane>) -> u8 {
+    let Some(lane) = lane else {
+        return b' ';
+    };
+    if begins(table, lane) || table.row == 0 {
+        return letter_of(lane.name.space);
+    }
+    match lane.notice {
+        Notice::Absent => b'|',
+        Notice::Untold => b':',
+        Notice::Told => b'!',
+    }
+}
+
+// Draws an arrow between two lanes.
+fn add_arrow(letters: &mut Vec<u8>, from: usize, to: usize) {
+    let (low, high) = (from.min(to), from.max(to));
+    for at in low.saturating_add(1)..high {
+        if let Some(letter) = letters.get_mut(at) {
+            *letter = b'-';
+        }
+    }
+    if let Some(letter) = letters.get_mut(from) {
+        *letter = if from < to { b'<' } else { b'>' };
+    }
+}
+
+// The letters of all lanes.
+fn lane_letters(alloc: Global, table: &Table, size: Size) -> Result<Vec<u8>, AllocError> {
+    let mut letters = Vec::new(alloc);
+    for at in 0..size.lanes {
+        letters.push(match table.lanes.get(at) {
+            Some(lane) => lane_letter(table, lane),
+            None => b' ',
+        })?;
+    }
+    for lane in table.lanes.iter() {
+        if let Some(lane) = lane {
+            if let (true, Some(borrowed)) = (begins(table, lane), lane.borrows) {
+                let (from, to) = (table.lane_of(borrowed), table.lane_of(lane.name));
+                add_arrow(&mut letters, from, to);
+            }
+        }
+    }
+    if let Some(at) = table.row_ended {
+        if let Some(letter) = letters.get_mut(at) {
+            *letter = b'x';
+        }
+    }
+    if table.row_closes {
+        for letter in letters.iter_mut() {
+            if *letter == b' ' || *letter == b'|' {
+                *letter = b'=';
+            }
+        }
+    }
+    Ok(letters)
+}
+
+// Adds the texts of a list, behind the letter of the list.
+fn add_list(
+    texts: &mut Vec<String>,
+    alloc: Global,
+    table: &Table,
+    letter: char,
+    list: &[Who],
+) -> Result<(), AllocError> {
+    let mut is_first = true;
+    for text in waiting_texts(alloc, table, list, COLUMNS)? {
+        if is_first {
+            texts.push(format!(in alloc; "{letter} {text}")?)?;
+        } else {
+            texts.push(text)?;
+        }
+        is_first = false;
+    }
+    Ok(())
+}
+
+// Who waits, in one cell.
+fn waiting(alloc: Global, table: &Table, width: usize) -> Result<Vec<u8>, AllocError> {
+    let mut texts = Vec::new(alloc);
+    add_list(&mut texts, alloc, table, 'S', table.sends.as_slice())?;
+    add_list(&mut texts, alloc, table, 'R', table.receives.as_slice())?;
+    add_list(&mut texts, alloc, table, 'T', table.streams.as_slice())?;
+    add_list(&mut texts, alloc, table, 'C', table.closeds.as_slice())?;
+    let total = table
+        .sends
+        .len()
+        .saturating_add(table.receives.len())
+        .saturating_add(table.streams.len())
+        .saturating_add(table.closeds.len());
+    fitted(alloc, texts.as_slice(), total, width)
+}
+
+// Adds the lanes, the messages held and who waits.
+fn add_cells(
+    pieces: &mut Pieces,
+    alloc: Global,
+    table: &Table,
+    size: Size,
+) -> Result<(), AllocError> {
+    let mut names = lane_letters(alloc, table, size)?;
+    if !table.rest.is_empty() {
+        let rest = format!(in alloc; " +{}", table.rest.len())?;
+        names.extend_from_slice(rest.as_bytes())?;
+    }
+    pieces.text(names.as_slice())?;
+    let held_at = held_column(size);
+    let texts = held_texts(alloc, table, HELD)?;
+    let held = fitted(alloc, texts.as_slice(), table.held.len(), HELD - 1)?;
+    let waiting_at = held_at.saturating_add(HELD);
+    let waiting = waiting(alloc, table, COLUMNS.saturating_sub(waiting_at))?;
+    if !held.is_empty() || !waiting.is_empty() {
+        add_gap(pieces, alloc, NAMES.saturating_add(names.len()), held_at)?;
+        pieces.text(held.as_slice())?;
+    }
+    if !waiting.is_empty() {
+        add_gap(
+            pieces,
+            alloc,
+            held_at.saturating_add(held.len()),
+            waiting_at,
+        )?;
+        pieces.text(waiting.as_slice())?;
+    }
+    pieces.mark(Mark::Newline)
+}
+
+// What stands before a reply.
+fn head(alloc: Global, table: &Table, told: Told<'_>) -> Result<Vec<Piece>, AllocError> {
+    let mut pieces = Pieces::new(alloc);
+    match told.number {
+        Some(number) => {
+            add_number(&mut pieces, alloc, table, number)?;
+            pieces.text(told.line)?;
+            let column = LINE.saturating_add(told.line.len());
+            add_gap(&mut pieces, alloc, column, REPLY)?;
+        }
+        None => pieces.mark(Mark::TerminalPoll)?,
+    }
+    Ok(pieces.list)
+}
+
+// What stands behind a reply.
+fn tail(
+    alloc: Global,
+    table: &Table,
+    size: Size,
+    told: Told<'_>,
+) -> Result<Vec<Piece>, AllocError> {
+    let mut pieces = Pieces::new(alloc);
+    let column = REPLY.saturating_add(told.reply.len());
+    add_gap(&mut pieces, alloc, column, NAMES)?;
+    add_cells(&mut pieces, alloc, table, size)?;
+    Ok(pieces.list)
+}
+
+/// What stands before a reply, and what behind it.
+pub(crate) fn row(
+    alloc: Global,
+    table: &Table,
+    size: Size,
+    told: Told<'_>,
+) -> Result<(Vec<Piece>, Vec<Piece>), AllocError> {
+    Ok((head(alloc, table, told)?, tail(alloc, table, size, told)?))
+}
+
+/// What stands behind the last reply: what the letters mean.
+pub(crate) fn closing(alloc: Global) -> Result<Vec<Piece>, AllocError> {
+    let mut pieces = Pieces::new(alloc);
+    pieces.mark(Mark::Legend)?;
+    pieces.mark(Mark::LegendEnd)?;
+    Ok(pieces.list)
+}
