@@ -4,7 +4,10 @@ use crate::scene::{Answer, Call, Ends};
 use crate::waiting::{are_waiting, channel, waiting};
 use Answer::*;
 use Call::*;
-use async_channel::{Group, RecvError, SendError, TryRecvError, TrySendError};
+use async_channel::{
+    Group, OutOfMemory, Receiver, RecvError, SendError, Sender, TryRecvError, TrySendError,
+    WeakSender,
+};
 use futures::task::Poll;
 use futures::test::MockTask;
 use std::alloc::AllocGlobal;
@@ -13,10 +16,64 @@ use std::random::RandomSource;
 use std::sync::Wait;
 use std::test::Fail;
 use std::thread;
-use std::thread::Threads;
+use std::thread::{JoinHandle, Threads};
 
 /// A call, what it answers, and what the blocked call then gives that waits longest.
 type Case = (Call, Answer, Answer);
+
+/// Makes the call, and joins the thread that it ends.
+fn ends_one<R>(
+    rt: &R,
+    ends: &mut Ends<R>,
+    blocked: JoinHandle<Result<Answer, OutOfMemory>>,
+    case: &Case,
+) -> Result<(), Fail>
+where
+    R: Threads + Wait + Clone + Drop + RandomSource + AllocGlobal + Abort,
+{
+    let (call, answer, gives) = case;
+    assert_eq!(rt; ends.answer(rt, *call)?, *answer);
+    assert_eq!(rt; blocked.join(rt)?, *gives);
+    Ok(())
+}
+
+/// Blocks a thread in a receive, until this many are blocked.
+fn blocked_receive<R>(
+    rt: &R,
+    receiver: &Receiver<u64, R>,
+    weak: &WeakSender<u64, R>,
+    count: usize,
+) -> Result<JoinHandle<Result<Answer, OutOfMemory>>, Fail>
+where
+    R: Threads + Wait + Clone + Drop + RandomSource + AllocGlobal + Abort,
+    R: std::marker::Send + Sync + 'static,
+{
+    let own = receiver.try_clone()?;
+    let blocked = thread::spawn(rt, move || own.recv_blocking().map(Got))?;
+    assert!(rt; are_waiting(weak, Group::Receives, count));
+    Ok(blocked)
+}
+
+/// Blocks a thread in a send, until this many are blocked.
+fn blocked_send<R>(
+    rt: &R,
+    sender: &Sender<u64, R>,
+    weak: &WeakSender<u64, R>,
+    message: u64,
+    count: usize,
+) -> Result<JoinHandle<Result<Answer, OutOfMemory>>, Fail>
+where
+    R: Threads + Wait + Clone + Drop + RandomSource + AllocGlobal + Abort,
+    R: std::marker::Send + Sync + 'static,
+{
+    let own = sender.try_clone()?;
+    let blocked = thread::spawn(rt, move || match own.send_blocking(message) {
+        Ok(sent) => Ok(Sent(sent)),
+        Err(_) => Err(OutOfMemory),
+    })?;
+    assert!(rt; are_waiting(weak, Group::Sends, count));
+    Ok(blocked)
+}
 
 /// Blocks two threads in a receive, one after the other, and ends each by a call.
 fn receives<R>(rt: &R, first: Case, second: Case) -> Result<(), Fail>
@@ -24,22 +81,23 @@ where
     R: Threads + Wait + Clone + Drop + RandomSource + AllocGlobal + Abort,
     R: std::marker::Send + Sync + 'static,
 {
-    for capacity in [Some(1), None] {
-        let (s, r) = channel(rt, rt.alloc(), capacity)?;
-        let (weak, one, other) = (s.downgrade()?, r.try_clone()?, r.try_clone()?);
-        let one = thread::spawn(rt, move || one.recv_blocking().map(Got))?;
-        assert!(rt; are_waiting(&weak, Group::Receives, 1));
-        let other = thread::spawn(rt, move || other.recv_blocking().map(Got))?;
-        assert!(rt; are_waiting(&weak, Group::Receives, 2));
-        let mut ends = Ends::new(s, r);
-        let (call, answer, gives) = &first;
-        assert_eq!(rt; ends.answer(rt, *call)?, *answer);
-        assert_eq!(rt; one.join(rt)?, *gives);
-        let (call, answer, gives) = &second;
-        assert_eq!(rt; ends.answer(rt, *call)?, *answer);
-        assert_eq!(rt; other.join(rt)?, *gives);
-        assert_eq!(rt; waiting(&weak), [0; 4]);
-    }
+    receives_at(rt, Some(1), &first, &second)?;
+    receives_at(rt, None, &first, &second)
+}
+
+fn receives_at<R>(rt: &R, capacity: Option<usize>, first: &Case, second: &Case) -> Result<(), Fail>
+where
+    R: Threads + Wait + Clone + Drop + RandomSource + AllocGlobal + Abort,
+    R: std::marker::Send + Sync + 'static,
+{
+    let (s, r) = channel(rt, rt.alloc(), capacity)?;
+    let weak = s.downgrade()?;
+    let one = blocked_receive(rt, &r, &weak, 1)?;
+    let other = blocked_receive(rt, &r, &weak, 2)?;
+    let mut ends = Ends::new(s, r);
+    ends_one(rt, &mut ends, one, first)?;
+    ends_one(rt, &mut ends, other, second)?;
+    assert_eq!(rt; waiting(&weak), [0; 4]);
     Ok(())
 }
 
@@ -50,19 +108,13 @@ where
     R: std::marker::Send + Sync + 'static,
 {
     let (s, r) = channel(rt, rt.alloc(), Some(1))?;
-    assert_eq!(rt; s.try_send(1u64), Ok(Ok(())));
-    let (weak, one, other) = (s.downgrade()?, s.try_clone()?, s.try_clone()?);
-    let one = thread::spawn(rt, move || one.send_blocking(2).map(Sent))?;
-    assert!(rt; are_waiting(&weak, Group::Sends, 1));
-    let other = thread::spawn(rt, move || other.send_blocking(3).map(Sent))?;
-    assert!(rt; are_waiting(&weak, Group::Sends, 2));
+    assert_eq!(rt; s.try_send(1), Ok(Ok(())));
+    let weak = s.downgrade()?;
+    let one = blocked_send(rt, &s, &weak, 2, 1)?;
+    let other = blocked_send(rt, &s, &weak, 3, 2)?;
     let mut ends = Ends::new(s, r);
-    let (call, answer, gives) = first;
-    assert_eq!(rt; ends.answer(rt, call)?, answer);
-    assert_eq!(rt; one.join(rt), Ok(gives));
-    let (call, answer, gives) = second;
-    assert_eq!(rt; ends.answer(rt, call)?, answer);
-    assert_eq!(rt; other.join(rt), Ok(gives));
+    ends_one(rt, &mut ends, one, &first)?;
+    ends_one(rt, &mut ends, other, &second)?;
     assert_eq!(rt; waiting(&weak), [0; 4]);
     Ok(())
 }

@@ -284,6 +284,106 @@ fn woken<R: Wait + Clone + Drop + AllocGlobal>(
     Ok(numbers)
 }
 
+/// A channel that holds these messages.
+fn filled<R: Wait + Clone + Drop + AllocGlobal + Abort>(
+    rt: &R,
+    capacity: Option<usize>,
+    held: &[u64],
+) -> Result<(Sender<u64, R>, Receiver<u64, R>), Fail> {
+    let (s, r) = channel(rt, rt.alloc(), capacity)?;
+    for m in held {
+        assert_eq!(rt; s.try_send(*m), Ok(Ok(())));
+    }
+    Ok((s, r))
+}
+
+/// Whether one of the kind waits on a sender, and else on a receiver.
+fn is_of_sender(kind: Kind) -> bool {
+    matches!(kind, Kind::Sending(_) | Kind::AwaitingClose)
+}
+
+/// A copy of the sender, if one of the list waits on it.
+fn sender_of<R: Wait + Clone + Drop>(
+    sender: &Sender<u64, R>,
+    kinds: &[Kind],
+) -> Result<Option<Sender<u64, R>>, Fail> {
+    if kinds.iter().any(|kind| is_of_sender(*kind)) {
+        return Ok(Some(sender.try_clone()?));
+    }
+    Ok(None)
+}
+
+/// A copy of the receiver, if one of the list waits on it.
+fn receiver_of<R: Wait + Clone + Drop>(
+    receiver: &Receiver<u64, R>,
+    kinds: &[Kind],
+) -> Result<Option<Receiver<u64, R>>, Fail> {
+    if kinds.iter().any(|kind| !is_of_sender(*kind)) {
+        return Ok(Some(receiver.try_clone()?));
+    }
+    Ok(None)
+}
+
+/// Starts those of the list, in order.
+fn start_all<'a, R: Wait + Clone + Drop + RandomSource + AllocGlobal + Abort>(
+    rt: &R,
+    kinds: &[Kind],
+    sender: Option<&'a Sender<u64, R>>,
+    receiver: Option<&'a Receiver<u64, R>>,
+    watched: &mut Vec<Watched<'a, R>>,
+) -> Result<(), Fail> {
+    for kind in kinds {
+        watched.push(start(rt, *kind, sender, receiver)?)?;
+    }
+    Ok(())
+}
+
+/// What a call answers, of one that waits or of the handles that nobody waits on.
+fn answered<R: Wait + Clone + Drop + RandomSource + AllocGlobal>(
+    rt: &R,
+    ends: &mut Ends<R>,
+    watched: &mut [Watched<'_, R>],
+    call: Call,
+) -> Result<Answer, Fail> {
+    match call {
+        Call::Poll(number) | Call::GiveUp(number) | Call::IntoMsg(number) => {
+            let one = watched.get_mut(number).ok_or("one that waits")?;
+            one.answer(call)
+        }
+        _ => ends.answer(rt, call),
+    }
+}
+
+/// Makes the calls in order, and looks at each answer and at who is woken after it.
+fn make_rows<R: Wait + Clone + Drop + RandomSource + AllocGlobal + Abort>(
+    rt: &R,
+    ends: &mut Ends<R>,
+    watched: &mut [Watched<'_, R>],
+    rows: &[Row<'_>],
+) -> Result<(), Fail> {
+    for (call, want, told) in rows {
+        let got = answered(rt, ends, watched, *call)?;
+        assert!(rt; got == *want, "{call:?} answers {got:?}");
+        let now = woken(rt, watched)?;
+        assert!(rt; now.as_slice() == *told, "{call:?} wakes {now:?}");
+    }
+    Ok(())
+}
+
+/// Starts those of the list, makes the calls, and gives up those who wait still.
+fn run_between<R: Wait + Clone + Drop + RandomSource + AllocGlobal + Abort>(
+    rt: &R,
+    ends: &mut Ends<R>,
+    sender: Option<&Sender<u64, R>>,
+    receiver: Option<&Receiver<u64, R>>,
+    kinds: &[Kind],
+    rows: &[Row<'_>],
+) -> Result<(), Fail> {
+    let mut watched = Vec::new(rt.alloc());
+    start_all(rt, kinds, sender, receiver, &mut watched)?;
+    make_rows(rt, ends, watched.as_mut_slice(), rows)
+}
+
 /// Makes the calls in order where those of the list wait. Those on a side that the list doesn't
 /// need are the last handles of that side.
 pub fn run<R: Wait + Clone + Drop + RandomSource + AllocGlobal + Abort>(
@@ -293,38 +393,19 @@ pub fn run<R: Wait + Clone + Drop + RandomSource + AllocGlobal + Abort>(
     kinds: &[Kind],
     rows: &[Row<'_>],
 ) -> Result<(), Fail> {
-    let (s, r) = channel(rt, rt.alloc(), capacity)?;
-    for m in held {
-        assert_eq!(rt; s.try_send(*m)?, Ok(()));
-    }
-    let (mut own_sender, mut own_receiver) = (None, None);
-    for kind in kinds {
-        match kind {
-            Kind::Sending(_) | Kind::AwaitingClose => own_sender = Some(s.try_clone()?),
-            Kind::Receiving | Kind::Streaming => own_receiver = Some(r.try_clone()?),
-        }
-    }
-    let mut watched = Vec::new(rt.alloc());
-    for kind in kinds {
-        watched.push(start(rt, *kind, own_sender.as_ref(), own_receiver.as_ref())?)?;
-    }
+    let (s, r) = filled(rt, capacity, held)?;
+    let sender = sender_of(&s, kinds)?;
+    let receiver = receiver_of(&r, kinds)?;
     let observer = s.downgrade()?;
     let mut ends = Ends::new(s, r);
-    for (call, want, told) in rows {
-        let got = match *call {
-            Call::Poll(number) | Call::GiveUp(number) | Call::IntoMsg(number) => {
-                watched
-                    .get_mut(number)
-                    .ok_or("one that waits")?
-                    .answer(*call)?
-            }
-            _ => ends.answer(rt, *call)?,
-        };
-        assert!(rt; got == *want, "{call:?} answers {got:?}");
-        let now = woken(rt, &watched)?;
-        assert!(rt; now.as_slice() == *told, "{call:?} wakes {now:?}");
-    }
-    drop(watched);
+    run_between(
+        rt,
+        &mut ends,
+        sender.as_ref(),
+        receiver.as_ref(),
+        kinds,
+        rows,
+    )?;
     drop(ends);
     assert_eq!(rt; waiting(&observer), [0; 4]);
     Ok(())
