@@ -3,7 +3,8 @@
 
 The pictures of docs/pictures are drawn anew from examples/NAME.chan and compared. Each picture has to
 be XML that Python's parser accepts, with a row of less than 1 KB for each line that the built
-chanrun prints of the same script, and that line in it; statuses and messages have to be chanrun's.
+chanrun prints of the same script, and that line in it, and room for all of them; statuses and
+messages have to be chanrun's.
 The terminal's form has to keep to 100 columns of ASCII. The gate leaves the programs built; where
 one isn't, `rt run` builds it. The last line counts the cases, and the status is 0 where all passed.
 
@@ -29,6 +30,7 @@ SECONDS = 120
 ROW_BYTES = 1024
 FRAME_BYTES = 8192
 COLUMNS = 100
+ROW_HEIGHT = 20
 TEXT = "{http://www.w3.org/2000/svg}text"
 REPLIES_AT = "236"
 
@@ -49,22 +51,35 @@ def run(program, given, arguments=()):
     )
 
 
-def replies_in(picture):
-    """The replies that a picture shows, in order."""
-    root = ElementTree.fromstring(picture)
+def replies_in(root):
+    """The texts of the replies that a picture shows, in order."""
     return [
-        text.text or "" for text in root.iter(TEXT)
+        text for text in root.iter(TEXT)
         if text.get("x") == REPLIES_AT and text.get("class") != "g"
     ]
+
+
+def wrong_with_places(root, shown):
+    """What is wrong with where the replies stand: in rows, and a row more below the last one."""
+    heights = [int(text.get("y")) for text in shown]
+    wrong = []
+    if any(below - above != ROW_HEIGHT for above, below in zip(heights, heights[1:])):
+        wrong.append("the replies don't stand row by row")
+    if heights and int(root.get("height")) < heights[-1] + ROW_HEIGHT:
+        wrong.append("it is too short for its rows")
+    return wrong
 
 
 def wrong_with_rows(picture, replies):
     """What is wrong with a picture of a script that has these replies."""
     try:
-        shown = replies_in(picture)
+        root = ElementTree.fromstring(picture)
     except ElementTree.ParseError as error:
         return [f"it is no XML: {error}"]
-    wrong = [] if shown == replies else ["the replies aren't chanrun's"]
+    shown = replies_in(root)
+    wrong = wrong_with_places(root, shown)
+    if [text.text or "" for text in shown] != replies:
+        wrong.append("the replies aren't chanrun's")
     rows = picture.split(b"\n")[11:-2] if replies else []
     if any(len(row) >= ROW_BYTES for row in rows):
         wrong.append("a row has 1 KB or more")
@@ -112,6 +127,15 @@ def stored(name, programs, write):
     return [] if ran.returncode == 0 and ran.stdout == path.read_bytes() else ["it isn't stored"]
 
 
+def documented(programs):
+    """Whether the documentation shows what a terminal gets."""
+    given = (TOP / "examples" / "forced.chan").read_bytes()
+    lines = run(programs["chandraw"], given, ["--text"]).stdout.decode().split("\n")
+    shown = "\n".join(f"    {line}".rstrip() for line in lines[:-1])
+    said = (TOP / "docs" / "LOOKING.md").read_text("utf-8")
+    return [] if shown in said else ["it isn't what docs/LOOKING.md shows"]
+
+
 def scripts():
     """The scripts of the repository, by their places."""
     paths = [*TOP.glob("examples/*.chan"), *TOP.glob("crates/chan*_program/stdin")]
@@ -132,6 +156,12 @@ def hostile():
     copies = [f"clone s0 s{LARGEST - number}" for number in range(300)]
     told = [f"closed o{number} s0\npoll o{number}" for number in range(40)]
     busy = [f"send o{number} s0 {LARGEST - number}\npoll o{number}" for number in range(count // 2)]
+    # a receive and sends wait beside a stream whose receiver the receive borrows
+    borrowed = [
+        "bounded 1", "next r0", "recv o0 r0", "poll o0", "try_send s0 1",
+        *(f"send o{number} s0 {number}\npoll o{number}" for number in range(1, 9)),
+        "settle", "next r0", "recv o9 r0", "poll o9", "settle", "try_send s0 10", "settle", "",
+    ]
     return {
         "10,000 lines": lines(*["try_send s0 1"] * count),
         "10,000 lines of operations": lines(*busy),
@@ -140,6 +170,7 @@ def hostile():
         "long lists": lines(*names, *waits, "close s0", "settle"),
         "longest words": lines(f"downgrade s0 ws{LARGEST}", f"upgrade ws{LARGEST} s{LARGEST}", f"drop ws{LARGEST}"),
         "a message of each way": lines(f"force_send s0 {LARGEST}", "next r0", f"close r0\ntry_send s0 {LARGEST}"),
+        "a stream whose receiver is borrowed": "\n".join(borrowed).encode(),
         "no byte": b"",
         "an empty line": b"\n",
         "markup in the first line": b"unbounded<script>&\"'\n",
@@ -180,6 +211,7 @@ def cases(programs, write):
     """Each case: its name, and what is wrong with it."""
     for name in PICTURES:
         yield f"picture {name}", stored(name, programs, write)
+    yield "terminal's form of forced", documented(programs)
     for name, given in (scripts() | hostile()).items():
         yield name, wrong_with(given, programs)
     for number in range(DRAWN):
