@@ -1,10 +1,10 @@
 #!/usr/bin/env python3
 """Runs the built chandraw on the repository's scripts, on drawn ones and on hostile input.
 
-The pictures of docs/pictures are drawn anew from examples/NAME.chan and compared. Each picture has to
-be XML that Python's parser accepts, with a row of less than 1 KB for each line that the built
-chanrun prints of the same script, and that line in it, and room for all of them; statuses and
-messages have to be chanrun's.
+The pictures of docs/pictures are drawn anew from examples/NAME.chan and compared, and so is the
+terminal's form in docs/LOOKING.md. Each picture has to be XML that Python's parser accepts, with a
+row of less than 1 KB for each line that the built chanrun prints of the same script, and that line
+in it, and room for all of them; statuses and messages have to be chanrun's.
 The terminal's form has to keep to 100 columns of ASCII. The gate leaves the programs built; where
 one isn't, `rt run` builds it. The last line counts the cases, and the status is 0 where all passed.
 
@@ -165,11 +165,17 @@ def hostile():
     return {
         "10,000 lines": lines(*["try_send s0 1"] * count),
         "10,000 lines of operations": lines(*busy),
-        "names up to the largest number": lines(*names, *waits, *copies, f"try_send s0 {LARGEST}", "settle"),
+        "names up to the largest number": lines(
+            *names, *waits, *copies, f"try_send s0 {LARGEST}", "settle"
+        ),
         "all are told at once": lines(*told, "drop r0", "settle"),
         "long lists": lines(*names, *waits, "close s0", "settle"),
-        "longest words": lines(f"downgrade s0 ws{LARGEST}", f"upgrade ws{LARGEST} s{LARGEST}", f"drop ws{LARGEST}"),
-        "a message of each way": lines(f"force_send s0 {LARGEST}", "next r0", f"close r0\ntry_send s0 {LARGEST}"),
+        "longest words": lines(
+            f"downgrade s0 ws{LARGEST}", f"upgrade ws{LARGEST} s{LARGEST}", f"drop ws{LARGEST}"
+        ),
+        "a message of each way": lines(
+            f"force_send s0 {LARGEST}", "next r0", "close r0", f"try_send s0 {LARGEST}"
+        ),
         "a stream whose receiver is borrowed": "\n".join(borrowed).encode(),
         "no byte": b"",
         "an empty line": b"\n",
@@ -187,10 +193,12 @@ def hostile():
 def wrong_arguments(programs):
     """The cases of other arguments: what was wrong, by the arguments."""
     message = b"chandraw takes --text, or no argument\n"
-    for arguments in (["--svg"], ["--text", "--text"], [""], ["--text", "x"], ["-text"], ["--texts"]):
+    others = (["--svg"], ["--text", "--text"], [""], ["--text", "x"], ["-text"], ["--texts"])
+    for arguments in others:
         ran = run(programs["chandraw"], b"unbounded\n", arguments)
         right = (ran.returncode, ran.stdout, ran.stderr) == (2, b"", message)
-        yield f"arguments {arguments}", [] if right else [f"status {ran.returncode}, {ran.stderr!r}"]
+        wrong = [] if right else [f"status {ran.returncode}, {ran.stderr!r}"]
+        yield f"arguments {arguments}", wrong
 
 
 def wrong_devices(programs):
