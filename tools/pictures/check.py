@@ -4,7 +4,8 @@
 The pictures of docs/pictures are drawn anew from examples/NAME.chan and compared, and so is the
 terminal's form in docs/LOOKING.md. Each picture has to be XML that Python's parser accepts, with a
 row of less than 1 KB for each line that the built chanrun prints of the same script, and that line
-in it, and room for all of them; statuses and messages have to be chanrun's.
+in it, and room for all of them; statuses and messages have to be chanrun's. The replies to `len`
+and `notice` have to agree with the messages and the waiting lists beside them.
 The terminal's form has to keep to 100 columns of ASCII. The gate leaves the programs built; where
 one isn't, `rt run` builds it. The last line counts the cases, and the status is 0 where all passed.
 
@@ -14,6 +15,7 @@ one isn't, `rt run` builds it. The last line counts the cases, and the status is
 """
 
 import pathlib
+import re
 import subprocess
 import sys
 import xml.etree.ElementTree as ElementTree
@@ -26,13 +28,19 @@ from drawn_scripts import LARGEST, drawn  # noqa: E402
 PICTURES = ("handed_on", "forced", "closes")
 DRAWN = 300
 SEED = 7
+# to how many of them questions are added, and after how many names each line asks
+ASKED = 20
+ASKED_NAMES = 14
 SECONDS = 120
 ROW_BYTES = 1024
 FRAME_BYTES = 8192
 COLUMNS = 100
 ROW_HEIGHT = 20
 TEXT = "{http://www.w3.org/2000/svg}text"
+LINES_AT = "44"
 REPLIES_AT = "236"
+# what stands behind a name in the waiting lists, by the reply to `notice`
+MARKS = {"absent": [], "untold": [""], "told": ["!"]}
 
 
 def built(name):
@@ -70,6 +78,39 @@ def wrong_with_places(root, shown):
     return wrong
 
 
+def cells_in(root):
+    """Each row with a reply: its line, its reply, what is held, and who waits, as words."""
+    titles = {
+        text.text: text.get("x") for text in root.iter(TEXT) if text.get("class") == "g"
+    }
+    lists = {titles[name] for name in ("sends", "receives", "streams", "closed") if name in titles}
+    rows = {}
+    for text in root.iter(TEXT):
+        if text.get("class") != "g":
+            rows.setdefault(text.get("y"), []).append((text.get("x"), text.text or ""))
+    for cells in rows.values():
+        shown = dict(cells)
+        if REPLIES_AT in shown:
+            waiting = [word for x, cell in cells if x in lists for word in cell.split()]
+            held = shown.get(titles["held"], "").split()
+            yield shown.get(LINES_AT, ""), shown[REPLIES_AT], held, waiting
+
+
+def wrong_with_cells(root):
+    """Where `len` and `notice` say something else than the messages and the lists beside them."""
+    wrong = []
+    for line, reply, held, waiting in cells_in(root):
+        verb, *names = line.split() or [""]
+        if verb == "len" and reply.isdigit():
+            count = sum(int(word[1:]) if word.startswith("+") else 1 for word in held)
+            wrong += [] if count == int(reply) else [f"`{line}` beside {held}"]
+        is_whole = not any(word.startswith("+") for word in waiting)
+        if verb == "notice" and reply in MARKS and is_whole:
+            marks = [mark for mark in ("", "!") if names[0] + mark in waiting]
+            wrong += [] if marks == MARKS[reply] else [f"`{line}` beside {waiting}"]
+    return wrong[:1]
+
+
 def wrong_with_rows(picture, replies):
     """What is wrong with a picture of a script that has these replies."""
     try:
@@ -77,7 +118,7 @@ def wrong_with_rows(picture, replies):
     except ElementTree.ParseError as error:
         return [f"it is no XML: {error}"]
     shown = replies_in(root)
-    wrong = wrong_with_places(root, shown)
+    wrong = wrong_with_places(root, shown) + wrong_with_cells(root)
     if [text.text or "" for text in shown] != replies:
         wrong.append("the replies aren't chanrun's")
     rows = picture.split(b"\n")[11:-2] if replies else []
@@ -215,6 +256,14 @@ def wrong_devices(programs):
     yield "a folder as input", [] if right else [f"status {ran.returncode}, {ran.stderr!r}"]
 
 
+def with_questions(given):
+    """A script that asks behind each line how many messages are held, and who waits."""
+    names = sorted(set(re.findall(rb"\b[or]\d+\b", given)))[:ASKED_NAMES]
+    questions = [b"len s0", *(b"notice " + name for name in names), b""]
+    first, *others = given.split(b"\n")
+    return b"\n".join([first, *(b"\n".join([line, *questions]) for line in others if line)])
+
+
 def cases(programs, write):
     """Each case: its name, and what is wrong with it."""
     for name in PICTURES:
@@ -224,6 +273,11 @@ def cases(programs, write):
         yield name, wrong_with(given, programs)
     for number in range(DRAWN):
         yield f"drawn script {number}", wrong_with(drawn(SEED, number), programs)
+    for number in range(ASKED):
+        given = with_questions(drawn(SEED, number))
+        yield f"drawn script {number} with questions", wrong_with(given, programs)
+    borrowed = with_questions(hostile()["a stream whose receiver is borrowed"])
+    yield "a stream whose receiver is borrowed, with questions", wrong_with(borrowed, programs)
     yield from wrong_arguments(programs)
     yield from wrong_devices(programs)
 
