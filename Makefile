@@ -23,6 +23,7 @@ test:
 	tools/examples
 	python3 tools/chanrun_runs.py
 	python3 tools/explorations/check.py
+	python3 tools/pictures/check.py
 	python3 tools/refused_requests.py
 	$(MAKE) --no-print-directory rust
 

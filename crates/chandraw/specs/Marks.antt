@@ -1,7 +1,7 @@
 -- The constant bytes of a picture.
 use Rattle.std.specs.Prelude.{ℕ, List, codes}
 use Rattle.chandraw.specs.declared.mark.Mark.{Mark}
-use Rattle.chandraw.specs.declared.mark.Mark.TheVariants.{SvgStart, SvgHeight, SvgHead, SvgStyle, SvgArrow, SvgCross, SvgRows, SvgLegend, SvgLegendEnd, SvgTitles, SvgEnd, Blank, Title, HeldName, SendsName, ReceivesName, StreamsName, ClosedsName, NumberText, LineText, PollText, PollName, ReplyText, RefusedText, NameText, CellText, AtX, TextStart, SqueezedName, SqueezedLine, SqueezedReply, TextEnd, LifePath, WaitPath, ToldPath, BorrowPath, MessagePath, LostPath, ClosingPath, EndPath, Move, LineTo, Down, Across, Space, Bar, PathEnd, Newline, TerminalHead, TerminalHeld, TerminalPoll, Legend, LegendEnd}
+use Rattle.chandraw.specs.declared.mark.Mark.TheVariants.{SvgStart, SvgHeight, SvgHead, SvgStyle, SvgArrow, SvgCross, SvgRows, SvgLegend, SvgLegendEnd, SvgTitles, SvgEnd, Blank, Title, HeldName, SendsName, ReceivesName, StreamsName, ClosedsName, NumberText, LineText, PollText, PollName, ReplyText, RefusedText, NameText, CellText, AtX, TextStart, SqueezedName, SqueezedLine, SqueezedReply, TextEnd, LifePath, WaitPath, ToldPath, BorrowPath, MessagePath, DisplacedPath, ClosingPath, EndPath, Move, LineTo, Down, Across, Space, Bar, PathEnd, Newline, TerminalHead, TerminalHeld, TerminalPoll, Legend, LegendEnd}
 
 -- What stands in a picture whatever the input is: the bytes of each mark.
 abbrev pub mark_bytes : Mark → List ℕ
@@ -42,7 +42,7 @@ mark_bytes WaitPath = codes "<path class=\"w\" d=\""
 mark_bytes ToldPath = codes "<path class=\"t\" d=\""
 mark_bytes BorrowPath = codes "<path class=\"b\" d=\""
 mark_bytes MessagePath = codes "<path class=\"m\" d=\""
-mark_bytes LostPath = codes "<path class=\"q\" d=\""
+mark_bytes DisplacedPath = codes "<path class=\"q\" d=\""
 mark_bytes ClosingPath = codes "<path class=\"c\" d=\"M0 "
 mark_bytes EndPath = codes "<path class=\"e\" d=\"M"
 mark_bytes Move = codes "M"

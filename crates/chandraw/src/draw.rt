@@ -1,6 +1,6 @@
 //! Drawing a script: it is read to its end, and then its lines are done and drawn in order.
 //!
-//! 1. The lines are gone through once for the size of the picture, up to the first faulty one.
+//! 1. The lines are done once for the size of the picture, up to the first faulty one.
 //! 2. What stands before the first reply is written, and then each line is done: the run answers
 //!    its command, each reply is a row, and the rows are written before the next line.
 //! 3. A faulty line ends the drawing. What stands behind the last reply is written then too.
@@ -21,9 +21,9 @@ ghost use Rattle.chandraw.specs.Pieces.{pieces_bytes, text_line};
 ghost use Rattle.chandraw.specs.Picture.{AreRows, HasPicture, HasRows, IsLineDrawn, IsScriptDrawn};
 
 use crate::answers::replies_to;
-use crate::layout::{Layout, Pieces};
+use crate::layout::Layout;
 use crate::mark::Mark;
-use crate::piece::{Form, Piece, add_pieces, add_row};
+use crate::piece::{Form, Piece, Pieces, add_pieces, add_row};
 use channel_model::Kind;
 use channel_run::Run;
 use chanrun::device::{Sink, Source};

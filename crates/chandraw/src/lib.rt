@@ -7,12 +7,17 @@
 //! for a terminal (`terminal`). `draw` goes through the lines.
 #![tactic(auto)]
 
+mod act;
 mod answers;
+mod cells;
 mod draw;
+mod lane;
 mod layout;
 mod mark;
+mod name;
 mod piece;
 pub mod program;
+mod size;
 mod svg;
 mod table;
 mod terminal;

@@ -42,6 +42,38 @@ pub struct Row {
     pub tail: Vec<Piece>,
 }
 
+/// Pieces that are being listed.
+#[derive(Drop)]
+pub(crate) struct Pieces {
+    alloc: Global,
+    pub list: Vec<Piece>,
+}
+
+impl Pieces {
+    pub fn new(alloc: Global) -> Pieces {
+        Pieces {
+            alloc,
+            list: Vec::new(alloc),
+        }
+    }
+
+    pub fn mark(&mut self, mark: Mark) -> Result<(), AllocError> {
+        self.list.push(Piece::Mark(mark))?;
+        Ok(())
+    }
+
+    pub fn number(&mut self, number: u64) -> Result<(), AllocError> {
+        self.list.push(Piece::Number(number))?;
+        Ok(())
+    }
+
+    pub fn text(&mut self, text: &[u8]) -> Result<(), AllocError> {
+        self.list
+            .push(Piece::Text(Vec::from_slice(self.alloc, text)?))?;
+        Ok(())
+    }
+}
+
 // Adds a byte, or another one in its place where it can't be printed.
 fn add_printed(page: &mut Vec<u8>, byte: u8) -> Result<(), AllocError>
     ensures { OnOk result (page.new.items ≡ page.old.items ++ printed byte) }

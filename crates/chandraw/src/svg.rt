@@ -3,21 +3,21 @@
 //! From left to right stand the number of the line, the line, the reply, a lane for each live name,
 //! the messages held, and the four waiting lists. Of what lasts (a name, a wait, a notice, a message
 //! on its way) one line is drawn when it ends.
-use crate::layout::{Pieces, Size, Told, fitted, held_texts, name_text, waiting_texts};
+use crate::cells::{fitted, held_texts, waiting_texts};
+use crate::lane::LANES;
+use crate::layout::RowTexts;
 use crate::mark::Mark;
-use crate::piece::Piece;
-use crate::table::{LANES, Name, Place, Stroke, Table, Trace};
+use crate::name::{Name, name_text};
+use crate::piece::{Piece, Pieces};
+use crate::size::Size;
+use crate::svg::lines::{add_closing, add_end, add_strokes};
+use crate::svg::places::{cells_x, height, lane_x, list_x, text_y};
+use crate::table::Table;
 use channel_model::Who;
 use std::alloc::{AllocError, Global};
 
-// how far rows and lanes are from one another, and where the first ones stand
-const ROW: u64 = 20;
-
-const TOP: u64 = 80;
-
-const LANE: u64 = 26;
-
-const LEFT: u64 = 404;
+mod lines;
+mod places;
 
 // how many letters fit into the cells
 const LINE_WIDTH: usize = 25;
@@ -29,47 +29,6 @@ const NAME_WIDTH: usize = 3;
 const HELD_WIDTH: usize = 16;
 
 const LIST_WIDTH: usize = 11;
-
-// how wide the cells behind the lanes are
-const HELD: u64 = 130;
-
-const LIST: u64 = 92;
-
-// where the text of a row stands
-fn text_y(row: u64) -> u64 {
-    row.saturating_mul(ROW).saturating_add(TOP)
-}
-
-// the middle of a row
-fn middle_y(row: u64) -> u64 {
-    text_y(row).saturating_sub(4)
-}
-
-// the middle of a lane
-fn lane_x(lane: usize) -> u64 {
-    (lane.min(LANES) as u64)
-        .saturating_mul(LANE)
-        .saturating_add(LEFT)
-}
-
-// where the cells behind the lanes begin; beside all lanes stands a number for the rest
-fn cells_x(size: Size) -> u64 {
-    let lanes = if size.lanes >= LANES {
-        LANES + 2
-    } else {
-        size.lanes
-    };
-    (lanes.min(LANES + 2) as u64)
-        .saturating_mul(LANE)
-        .saturating_add(LEFT)
-}
-
-// where the waiting list of this number begins
-fn list_x(size: Size, number: u64) -> u64 {
-    cells_x(size)
-        .saturating_add(HELD)
-        .saturating_add(number.saturating_mul(LIST))
-}
 
 // Adds a title over a column.
 fn add_title(pieces: &mut Pieces, x: u64, name: Mark) -> Result<(), AllocError> {
@@ -95,7 +54,7 @@ fn add_frame(pieces: &mut Pieces, size: Size) -> Result<(), AllocError> {
     pieces.mark(Mark::SvgStart)?;
     pieces.number(list_x(size, 4).max(720))?;
     pieces.mark(Mark::SvgHeight)?;
-    pieces.number(text_y(size.rows.saturating_add(1)).saturating_add(8))?;
+    pieces.number(height(size))?;
     add_head(pieces)
 }
 
@@ -180,83 +139,6 @@ fn add_name(
     }
     let text = name_text(alloc, name)?;
     add_name_at(pieces, table.row, lane, text.as_str())
-}
-
-// Adds a point of a line.
-fn add_point(pieces: &mut Pieces, mark: Mark, place: Place) -> Result<(), AllocError> {
-    pieces.mark(mark)?;
-    pieces.number(lane_x(place.lane))?;
-    pieces.mark(Mark::Space)?;
-    pieces.number(middle_y(place.row))
-}
-
-fn path_of(trace: Trace) -> Mark {
-    match trace {
-        Trace::Life => Mark::LifePath,
-        Trace::Wait => Mark::WaitPath,
-        Trace::Told => Mark::ToldPath,
-        Trace::Borrow => Mark::BorrowPath,
-        Trace::Message => Mark::MessagePath,
-        Trace::Lost => Mark::LostPath,
-    }
-}
-
-// Adds a line from one place to another.
-fn add_stroke(pieces: &mut Pieces, stroke: Stroke) -> Result<(), AllocError> {
-    add_point(pieces, Mark::Move, stroke.from)?;
-    if stroke.from.lane != stroke.to.lane {
-        return add_point(pieces, Mark::LineTo, stroke.to);
-    }
-    pieces.mark(Mark::Down)?;
-    pieces.number(middle_y(stroke.to.row))
-}
-
-// Adds the lines of one kind.
-fn add_trace(pieces: &mut Pieces, strokes: &[Stroke], trace: Trace) -> Result<(), AllocError> {
-    if !strokes.iter().any(|stroke| stroke.trace == trace) {
-        return Ok(());
-    }
-    pieces.mark(path_of(trace))?;
-    for stroke in strokes {
-        if stroke.trace == trace {
-            add_stroke(pieces, *stroke)?;
-        }
-    }
-    pieces.mark(Mark::PathEnd)
-}
-
-// Adds the lines of a row.
-fn add_strokes(pieces: &mut Pieces, strokes: &[Stroke]) -> Result<(), AllocError> {
-    add_trace(pieces, strokes, Trace::Life)?;
-    add_trace(pieces, strokes, Trace::Wait)?;
-    add_trace(pieces, strokes, Trace::Told)?;
-    add_trace(pieces, strokes, Trace::Borrow)?;
-    add_trace(pieces, strokes, Trace::Message)?;
-    add_trace(pieces, strokes, Trace::Lost)
-}
-
-// Adds a line across a row in which the channel is closed.
-fn add_closing(pieces: &mut Pieces, table: &Table, size: Size) -> Result<(), AllocError> {
-    if !table.row_closes {
-        return Ok(());
-    }
-    pieces.mark(Mark::ClosingPath)?;
-    pieces.number(text_y(table.row).saturating_add(5))?;
-    pieces.mark(Mark::Across)?;
-    pieces.number(list_x(size, 4))?;
-    pieces.mark(Mark::PathEnd)
-}
-
-// Adds a bar where a name ends.
-fn add_end(pieces: &mut Pieces, table: &Table) -> Result<(), AllocError> {
-    let Some(lane) = table.row_ended else {
-        return Ok(());
-    };
-    pieces.mark(Mark::EndPath)?;
-    pieces.number(lane_x(lane).saturating_sub(5))?;
-    pieces.mark(Mark::Space)?;
-    pieces.number(middle_y(table.row))?;
-    pieces.mark(Mark::Bar)
 }
 
 // Adds a cell behind the lanes, if there is something in it.
@@ -361,10 +243,10 @@ fn add_changes(
 }
 
 // What stands before a reply.
-fn head(alloc: Global, table: &Table, told: Told<'_>) -> Result<Vec<Piece>, AllocError> {
+fn head(alloc: Global, table: &Table, texts: RowTexts<'_>) -> Result<Vec<Piece>, AllocError> {
     let mut pieces = Pieces::new(alloc);
-    match told.number {
-        Some(number) => add_line(&mut pieces, table.row, number, told.line)?,
+    match texts.number {
+        Some(number) => add_line(&mut pieces, table.row, number, texts.line)?,
         None => {
             pieces.mark(Mark::PollText)?;
             pieces.number(text_y(table.row))?;
@@ -377,7 +259,7 @@ fn head(alloc: Global, table: &Table, told: Told<'_>) -> Result<Vec<Piece>, Allo
         Mark::ReplyText
     })?;
     pieces.number(text_y(table.row))?;
-    pieces.mark(if told.reply.len() > REPLY_WIDTH {
+    pieces.mark(if texts.reply.len() > REPLY_WIDTH {
         Mark::SqueezedReply
     } else {
         Mark::TextStart
@@ -402,13 +284,13 @@ pub(crate) fn row(
     alloc: Global,
     table: &Table,
     size: Size,
-    told: Told<'_>,
+    texts: RowTexts<'_>,
 ) -> Result<(Vec<Piece>, Vec<Piece>), AllocError> {
-    Ok((head(alloc, table, told)?, tail(alloc, table, size)?))
+    Ok((head(alloc, table, texts)?, tail(alloc, table, size)?))
 }
 
 /// What stands behind the last reply: the lines of all that lasts.
-pub(crate) fn closing(alloc: Global, table: &Table, _size: Size) -> Result<Vec<Piece>, AllocError> {
+pub(crate) fn closing(alloc: Global, table: &Table) -> Result<Vec<Piece>, AllocError> {
     let mut pieces = Pieces::new(alloc);
     add_strokes(&mut pieces, table.row_strokes.as_slice())?;
     pieces.mark(Mark::SvgEnd)?;

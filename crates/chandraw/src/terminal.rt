@@ -2,10 +2,14 @@
 //!
 //! The columns are those of the other form, and a lane is one letter wide. A text that is too long
 //! for its cell has its line to itself, and the next cell stands below it.
-use crate::layout::{Pieces, Size, Told, begins, fitted, held_texts, waiting_texts};
+use crate::cells::{fitted, held_texts, waiting_texts};
+use crate::lane::{LANES, Lane};
+use crate::layout::RowTexts;
 use crate::mark::Mark;
-use crate::piece::Piece;
-use crate::table::{LANES, Lane, Space, Table};
+use crate::name::NameKind;
+use crate::piece::{Piece, Pieces};
+use crate::size::Size;
+use crate::table::Table;
 use channel_model::{Notice, Who};
 use std::alloc::{AllocError, Global};
 
@@ -86,13 +90,13 @@ pub(crate) fn opening(
     Ok(pieces.list)
 }
 
-fn letter_of(space: Space) -> u8 {
-    match space {
-        Space::Sender => b's',
-        Space::Receiver => b'r',
-        Space::WeakSender => b'w',
-        Space::WeakReceiver => b'v',
-        Space::Operation => b'o',
+fn letter_of(kind: NameKind) -> u8 {
+    match kind {
+        NameKind::Sender => b's',
+        NameKind::Receiver => b'r',
+        NameKind::WeakSender => b'w',
+        NameKind::WeakReceiver => b'v',
+        NameKind::Operation => b'o',
     }
 }
 
@@ -101,8 +105,8 @@ fn lane_letter(table: &Table, lane: &Option<Lane>) -> u8 {
     let Some(lane) = lane else {
         return b' ';
     };
-    if begins(table, lane) || table.row == 0 {
-        return letter_of(lane.name.space);
+    if table.begins(lane) || table.row == 0 {
+        return letter_of(lane.name.kind);
     }
     match lane.notice {
         Notice::Absent => b'|',
@@ -135,7 +139,7 @@ fn lane_letters(alloc: Global, table: &Table, size: Size) -> Result<Vec<u8>, All
     }
     for lane in table.lanes.iter() {
         if let Some(lane) = lane {
-            if let (true, Some(borrowed)) = (begins(table, lane), lane.borrows) {
+            if let (true, Some(borrowed)) = (table.begins(lane), lane.borrows) {
                 let (from, to) = (table.lane_of(borrowed), table.lane_of(lane.name));
                 add_arrow(&mut letters, from, to);
             }
@@ -227,13 +231,13 @@ fn add_cells(
 }
 
 // What stands before a reply.
-fn head(alloc: Global, table: &Table, told: Told<'_>) -> Result<Vec<Piece>, AllocError> {
+fn head(alloc: Global, table: &Table, texts: RowTexts<'_>) -> Result<Vec<Piece>, AllocError> {
     let mut pieces = Pieces::new(alloc);
-    match told.number {
+    match texts.number {
         Some(number) => {
             add_number(&mut pieces, alloc, table, number)?;
-            pieces.text(told.line)?;
-            let column = LINE.saturating_add(told.line.len());
+            pieces.text(texts.line)?;
+            let column = LINE.saturating_add(texts.line.len());
             add_gap(&mut pieces, alloc, column, REPLY)?;
         }
         None => pieces.mark(Mark::TerminalPoll)?,
@@ -246,10 +250,10 @@ fn tail(
     alloc: Global,
     table: &Table,
     size: Size,
-    told: Told<'_>,
+    texts: RowTexts<'_>,
 ) -> Result<Vec<Piece>, AllocError> {
     let mut pieces = Pieces::new(alloc);
-    let column = REPLY.saturating_add(told.reply.len());
+    let column = REPLY.saturating_add(texts.reply.len());
     add_gap(&mut pieces, alloc, column, NAMES)?;
     add_cells(&mut pieces, alloc, table, size)?;
     Ok(pieces.list)
@@ -260,9 +264,9 @@ pub(crate) fn row(
     alloc: Global,
     table: &Table,
     size: Size,
-    told: Told<'_>,
+    texts: RowTexts<'_>,
 ) -> Result<(Vec<Piece>, Vec<Piece>), AllocError> {
-    Ok((head(alloc, table, told)?, tail(alloc, table, size, told)?))
+    Ok((head(alloc, table, texts)?, tail(alloc, table, size, texts)?))
 }
 
 /// What stands behind the last reply: what the letters mean.

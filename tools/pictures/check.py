@@ -1,0 +1,303 @@
+#!/usr/bin/env python3
+"""Runs the built chandraw on the repository's scripts, on drawn ones and on hostile input.
+
+The pictures of docs/pictures are drawn anew from examples/NAME.chan and compared, and so is the
+terminal's form in docs/LOOKING.md. Each picture has to be XML that Python's parser accepts, with a
+row of less than 1 KB for each line that the built chanrun prints of the same script, and that line
+in it, and room for all of them; statuses and messages have to be chanrun's. The replies to `len`
+and `notice` have to agree with the messages and the waiting lists beside them.
+The terminal's form has to keep to 100 columns of ASCII. The gate leaves the programs built; where
+one isn't, `rt run` builds it. The last line counts the cases, and the status is 0 where all passed.
+
+    tools/pictures/check.py                 compares
+    tools/pictures/check.py --write         stores the pictures in place of comparing them
+    tools/pictures/check.py PROGRAM         checks this chandraw
+"""
+
+import pathlib
+import re
+import subprocess
+import sys
+import xml.etree.ElementTree as ElementTree
+
+TOP = pathlib.Path(__file__).resolve().parent.parent.parent
+sys.path.insert(0, str(TOP / "tools"))
+
+from drawn_scripts import LARGEST, drawn  # noqa: E402
+
+PICTURES = ("handed_on", "forced", "closes")
+DRAWN = 300
+SEED = 7
+# to how many of them questions are added, and after how many names each line asks
+ASKED = 20
+ASKED_NAMES = 14
+SECONDS = 120
+ROW_BYTES = 1024
+FRAME_BYTES = 8192
+COLUMNS = 100
+ROW_HEIGHT = 20
+TEXT = "{http://www.w3.org/2000/svg}text"
+LINES_AT = "44"
+REPLIES_AT = "236"
+# what stands behind a name in the waiting lists, by the reply to `notice`
+MARKS = {"absent": [], "untold": [""], "told": ["!"]}
+
+
+def built(name):
+    """The program as the gate leaves it, or as `rt run` builds it."""
+    crate = TOP / "crates" / name
+    program = crate / "out" / name
+    if not program.is_file():
+        given = b"unbounded\n"
+        subprocess.run(["rt", "run"], cwd=crate, input=given, stdout=subprocess.DEVNULL)
+    return program
+
+
+def run(program, given, arguments=()):
+    return subprocess.run(
+        [program, *arguments], input=given, capture_output=True, timeout=SECONDS
+    )
+
+
+def replies_in(root):
+    """The texts of the replies that a picture shows, in order."""
+    return [
+        text for text in root.iter(TEXT)
+        if text.get("x") == REPLIES_AT and text.get("class") != "g"
+    ]
+
+
+def wrong_with_places(root, shown):
+    """What is wrong with where the replies stand: in rows, and a row more below the last one."""
+    heights = [int(text.get("y")) for text in shown]
+    wrong = []
+    if any(below - above != ROW_HEIGHT for above, below in zip(heights, heights[1:])):
+        wrong.append("the replies don't stand row by row")
+    if heights and int(root.get("height")) < heights[-1] + ROW_HEIGHT:
+        wrong.append("it is too short for its rows")
+    return wrong
+
+
+def cells_in(root):
+    """Each row with a reply: its line, its reply, what is held, and who waits, as words."""
+    titles = {
+        text.text: text.get("x") for text in root.iter(TEXT) if text.get("class") == "g"
+    }
+    lists = {titles[name] for name in ("sends", "receives", "streams", "closed") if name in titles}
+    rows = {}
+    for text in root.iter(TEXT):
+        if text.get("class") != "g":
+            rows.setdefault(text.get("y"), []).append((text.get("x"), text.text or ""))
+    for cells in rows.values():
+        shown = dict(cells)
+        if REPLIES_AT in shown:
+            waiting = [word for x, cell in cells if x in lists for word in cell.split()]
+            held = shown.get(titles["held"], "").split()
+            yield shown.get(LINES_AT, ""), shown[REPLIES_AT], held, waiting
+
+
+def wrong_with_cells(root):
+    """Where `len` and `notice` say something else than the messages and the lists beside them."""
+    wrong = []
+    for line, reply, held, waiting in cells_in(root):
+        verb, *names = line.split() or [""]
+        if verb == "len" and reply.isdigit():
+            count = sum(int(word[1:]) if word.startswith("+") else 1 for word in held)
+            wrong += [] if count == int(reply) else [f"`{line}` beside {held}"]
+        is_whole = not any(word.startswith("+") for word in waiting)
+        if verb == "notice" and reply in MARKS and is_whole:
+            marks = [mark for mark in ("", "!") if names[0] + mark in waiting]
+            wrong += [] if marks == MARKS[reply] else [f"`{line}` beside {waiting}"]
+    return wrong[:1]
+
+
+def wrong_with_rows(picture, replies):
+    """What is wrong with a picture of a script that has these replies."""
+    try:
+        root = ElementTree.fromstring(picture)
+    except ElementTree.ParseError as error:
+        return [f"it is no XML: {error}"]
+    shown = replies_in(root)
+    wrong = wrong_with_places(root, shown) + wrong_with_cells(root)
+    if [text.text or "" for text in shown] != replies:
+        wrong.append("the replies aren't chanrun's")
+    rows = picture.split(b"\n")[11:-2] if replies else []
+    if any(len(row) >= ROW_BYTES for row in rows):
+        wrong.append("a row has 1 KB or more")
+    if len(picture) >= FRAME_BYTES + ROW_BYTES * len(replies):
+        wrong.append("it is too large")
+    return wrong
+
+
+def wrong_with_text(text, replies):
+    """What is wrong with a terminal's form."""
+    wrong = []
+    lines = text.decode("ascii", "replace").split("\n")
+    if any(len(line) > COLUMNS for line in lines):
+        wrong.append("the terminal's form has more than 100 columns")
+    if not all(line.isprintable() and line.isascii() for line in lines):
+        wrong.append("the terminal's form has what can't be printed")
+    if any(reply not in text.decode() for reply in replies):
+        wrong.append("the terminal's form lacks a reply")
+    return wrong
+
+
+def wrong_with(given, programs):
+    """What is wrong with both forms of a script, where they should say what chanrun says."""
+    answered = run(programs["chanrun"], given)
+    picture = run(programs["chandraw"], given)
+    text = run(programs["chandraw"], given, ["--text"])
+    wrong = []
+    for form in (picture, text):
+        if (form.returncode, form.stderr) != (answered.returncode, answered.stderr):
+            wrong.append(f"status {form.returncode}, {form.stderr!r}")
+    replies = answered.stdout.decode().split("\n")[:-1]
+    if answered.returncode == 1:
+        return wrong + (["something was drawn"] if picture.stdout + text.stdout else [])
+    wrong += wrong_with_rows(picture.stdout, replies)
+    return wrong + wrong_with_text(text.stdout, replies)
+
+
+def stored(name, programs, write):
+    """Whether a picture of the documentation is the one that is drawn."""
+    given = (TOP / "examples" / f"{name}.chan").read_bytes()
+    ran = run(programs["chandraw"], given)
+    path = TOP / "docs" / "pictures" / f"{name}.svg"
+    if write:
+        path.write_bytes(ran.stdout)
+    return [] if ran.returncode == 0 and ran.stdout == path.read_bytes() else ["it isn't stored"]
+
+
+def documented(programs):
+    """Whether the documentation shows what a terminal gets."""
+    given = (TOP / "examples" / "forced.chan").read_bytes()
+    lines = run(programs["chandraw"], given, ["--text"]).stdout.decode().split("\n")
+    shown = "\n".join(f"    {line}".rstrip() for line in lines[:-1])
+    said = (TOP / "docs" / "LOOKING.md").read_text("utf-8")
+    return [] if shown in said else ["it isn't what docs/LOOKING.md shows"]
+
+
+def scripts():
+    """The scripts of the repository, by their places."""
+    paths = [*TOP.glob("examples/*.chan"), *TOP.glob("crates/chan*_program/stdin")]
+    return {
+        str(path.relative_to(TOP)): path.read_bytes()
+        for path in sorted(paths) if "explore" not in str(path)
+    }
+
+
+def hostile():
+    """Scripts that are large, have names up to the largest number, or aren't text."""
+    def lines(*texts):
+        return "\n".join(["unbounded", *texts, ""]).encode()
+
+    count = 10_000
+    names = [f"recv o{LARGEST - number} r0" for number in range(300)]
+    waits = [f"poll o{LARGEST - number}" for number in range(300)]
+    copies = [f"clone s0 s{LARGEST - number}" for number in range(300)]
+    told = [f"closed o{number} s0\npoll o{number}" for number in range(40)]
+    busy = [f"send o{number} s0 {LARGEST - number}\npoll o{number}" for number in range(count // 2)]
+    # a receive and sends wait beside a stream whose receiver the receive borrows
+    borrowed = [
+        "bounded 1", "next r0", "recv o0 r0", "poll o0", "try_send s0 1",
+        *(f"send o{number} s0 {number}\npoll o{number}" for number in range(1, 9)),
+        "settle", "next r0", "recv o9 r0", "poll o9", "settle", "try_send s0 10", "settle", "",
+    ]
+    return {
+        "10,000 lines": lines(*["try_send s0 1"] * count),
+        "10,000 lines of operations": lines(*busy),
+        "names up to the largest number": lines(
+            *names, *waits, *copies, f"try_send s0 {LARGEST}", "settle"
+        ),
+        "all are told at once": lines(*told, "drop r0", "settle"),
+        "long lists": lines(*names, *waits, "close s0", "settle"),
+        "longest words": lines(
+            f"downgrade s0 ws{LARGEST}", f"upgrade ws{LARGEST} s{LARGEST}", f"drop ws{LARGEST}"
+        ),
+        "a message of each way": lines(
+            f"force_send s0 {LARGEST}", "next r0", "close r0", f"try_send s0 {LARGEST}"
+        ),
+        "a stream whose receiver is borrowed": "\n".join(borrowed).encode(),
+        "no byte": b"",
+        "an empty line": b"\n",
+        "markup in the first line": b"unbounded<script>&\"'\n",
+        "markup": b"unbounded\nlen s0\n</svg><script>alert(1)</script>\n",
+        "bytes that aren't text": bytes(range(256)) * 8,
+        "bytes behind a channel": b"unbounded\n\xff\xfe\x00]]>\n",
+        "no line end": b"unbounded\nlen s0",
+        "a long line": b"unbounded\nlen s0" + b"0" * 300 + b"\n",
+        "capacity zero": b"bounded 0\n",
+        "too long": b"unbounded\n" * 110_000,
+    }
+
+
+def wrong_arguments(programs):
+    """The cases of other arguments: what was wrong, by the arguments."""
+    message = b"chandraw takes --text, or no argument\n"
+    others = (["--svg"], ["--text", "--text"], [""], ["--text", "x"], ["-text"], ["--texts"])
+    for arguments in others:
+        ran = run(programs["chandraw"], b"unbounded\n", arguments)
+        right = (ran.returncode, ran.stdout, ran.stderr) == (2, b"", message)
+        wrong = [] if right else [f"status {ran.returncode}, {ran.stderr!r}"]
+        yield f"arguments {arguments}", wrong
+
+
+def wrong_devices(programs):
+    """The cases of a full device and of input that can't be read."""
+    given = b"unbounded\nlen s0\n"
+    with open("/dev/full", "wb") as full:
+        ran = subprocess.run(
+            [programs["chandraw"]], input=given, stdout=full, stderr=subprocess.PIPE
+        )
+    right = (ran.returncode, ran.stderr) == (1, b"writing failed\n")
+    yield "a full device", [] if right else [f"status {ran.returncode}, {ran.stderr!r}"]
+    ran = subprocess.run(f'"{programs["chandraw"]}" < /', shell=True, capture_output=True)
+    right = (ran.returncode, ran.stdout, ran.stderr) == (1, b"", b"reading failed\n")
+    yield "a folder as input", [] if right else [f"status {ran.returncode}, {ran.stderr!r}"]
+
+
+def with_questions(given):
+    """A script that asks behind each line how many messages are held, and who waits."""
+    names = sorted(set(re.findall(rb"\b[or]\d+\b", given)))[:ASKED_NAMES]
+    questions = [b"len s0", *(b"notice " + name for name in names), b""]
+    first, *others = given.split(b"\n")
+    return b"\n".join([first, *(b"\n".join([line, *questions]) for line in others if line)])
+
+
+def cases(programs, write):
+    """Each case: its name, and what is wrong with it."""
+    for name in PICTURES:
+        yield f"picture {name}", stored(name, programs, write)
+    yield "terminal's form of forced", documented(programs)
+    for name, given in (scripts() | hostile()).items():
+        yield name, wrong_with(given, programs)
+    for number in range(DRAWN):
+        yield f"drawn script {number}", wrong_with(drawn(SEED, number), programs)
+    for number in range(ASKED):
+        given = with_questions(drawn(SEED, number))
+        yield f"drawn script {number} with questions", wrong_with(given, programs)
+    borrowed = with_questions(hostile()["a stream whose receiver is borrowed"])
+    yield "a stream whose receiver is borrowed, with questions", wrong_with(borrowed, programs)
+    yield from wrong_arguments(programs)
+    yield from wrong_devices(programs)
+
+
+def main():
+    arguments = sys.argv[1:]
+    write = "--write" in arguments
+    given = [argument for argument in arguments if argument != "--write"]
+    programs = {
+        "chanrun": built("chanrun_program"),
+        "chandraw": pathlib.Path(given[0]) if given else built("chandraw_program"),
+    }
+    passed = failed = 0
+    for name, wrong in cases(programs, write):
+        passed, failed = passed + (not wrong), failed + bool(wrong)
+        if wrong:
+            print(f"chandraw: {name}: {'; '.join(wrong)}")
+    print(f"chandraw: {passed} passed, {failed} failed")
+    return 1 if failed else 0
+
+
+if __name__ == "__main__":
+    sys.exit(main())
