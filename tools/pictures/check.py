@@ -5,19 +5,24 @@ The pictures of docs/pictures are drawn anew from examples/NAME.chan and compare
 terminal's form in docs/LOOKING.md. Each picture has to be XML that Python's parser accepts, with a
 row of less than 1 KB for each line that the built chanrun prints of the same script, and that line
 in it, and room for all of them; statuses and messages have to be chanrun's. The replies to `len`
-and `notice` have to agree with the messages and the waiting lists beside them.
-The terminal's form has to keep to 100 columns of ASCII. The gate leaves the programs built; where
-one isn't, `rt run` builds it. The last line counts the cases, and the status is 0 where all passed.
+and `notice` have to agree with the messages and the waiting lists beside them. The terminal's form
+has to keep to 100 columns of ASCII. Where a request for memory is refused, the picture has to be
+whole still, or else a beginning of it, with the message that says so.
+
+The gate leaves the programs built; where one isn't, `rt run` builds it. The last line counts the
+cases, and the status is 0 where all passed.
 
     tools/pictures/check.py                 compares
     tools/pictures/check.py --write         stores the pictures in place of comparing them
     tools/pictures/check.py PROGRAM         checks this chandraw
 """
 
+import os
 import pathlib
 import re
 import subprocess
 import sys
+import tempfile
 import xml.etree.ElementTree as ElementTree
 
 TOP = pathlib.Path(__file__).resolve().parent.parent.parent
@@ -256,6 +261,42 @@ def wrong_devices(programs):
     yield "a folder as input", [] if right else [f"status {ran.returncode}, {ran.stderr!r}"]
 
 
+def refused(program, given, arguments, folder):
+    """What is wrong where each request for memory is refused in turn."""
+    def ended(number):
+        environment = dict(
+            os.environ, LD_PRELOAD=str(folder / "refuse.so"), REFUSED=str(number),
+            COUNTED=str(folder / "counted"),
+        )
+        ran = subprocess.run(
+            [program, *arguments], input=given, capture_output=True, env=environment,
+            timeout=SECONDS,
+        )
+        return ran.stdout, ran.returncode, ran.stderr
+
+    whole = ended(0)
+    count = int((folder / "counted").read_text().split()[-1])
+    for number in range(1, count + 1):
+        page, status, message = ended(number)
+        is_refused = (status, message) == (1, b"out of memory\n") and whole[0].startswith(page)
+        if not is_refused and (page, status, message) != whole:
+            return [f"request {number} of {count}: status {status}, {message!r}"]
+    return [] if count else ["it asks for no memory"]
+
+
+def wrong_memory(programs):
+    """The cases of refused memory: both forms of a script."""
+    given = (TOP / "examples" / "handed_on.chan").read_bytes()
+    source = TOP / "tools" / "refused_requests" / "refuse.c"
+    with tempfile.TemporaryDirectory() as made:
+        folder = pathlib.Path(made)
+        command = ["cc", "-O2", "-shared", "-fPIC", "-o", folder / "refuse.so", source, "-ldl"]
+        subprocess.run(command, check=True)
+        for arguments in ([], ["--text"]):
+            wrong = refused(programs["chandraw"], given, arguments, folder)
+            yield f"refused memory {arguments}", wrong
+
+
 def with_questions(given):
     """A script that asks behind each line how many messages are held, and who waits."""
     names = sorted(set(re.findall(rb"\b[or]\d+\b", given)))[:ASKED_NAMES]
@@ -280,6 +321,7 @@ def cases(programs, write):
     yield "a stream whose receiver is borrowed, with questions", wrong_with(borrowed, programs)
     yield from wrong_arguments(programs)
     yield from wrong_devices(programs)
+    yield from wrong_memory(programs)
 
 
 def main():
