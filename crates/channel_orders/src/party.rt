@@ -122,6 +122,14 @@ fn wants_memory(reply: &Reply<u64>) -> bool
 }
 
 /// Makes a step, unless memory is refused.
+///
+/// # Examples
+///
+/// ```
+/// let mut run = Run::new(rt.alloc(), Kind::Unbounded)?;
+/// assert_eq!(rt; make(&mut run, Step::TrySend(0, 7))?, Reply::TrySent(Ok(())));
+/// assert_eq!(rt; make(&mut run, Step::TryRecv(0))?, Reply::Received(Ok(7)));
+/// ```
 pub fn make(run: &mut Run<u64>, step: Step<u64>) -> Result<Reply<u64>, OutOfMemory>
     ensures { (kind : Kind) (past : Past ℕ) → StandsFor kind past run.old → IfOk result (λ reply.
         (reply ≡ answer_of kind past step) × StandsFor kind (past_made kind past step) run.new) }
