@@ -8,7 +8,7 @@ help:
 	@echo 'make test   the gate: proofs from nothing, must-fail edits, tests and programs; make rust'
 	@echo 'make rust   builds and tests the Rust crate, and compares it with the proved chanrun'
 	@echo 'make check  every crate, lowest first, over what earlier checks kept'
-	@echo 'make bench  measures the waiting list, the handles, the parallel map, scripts and runs'
+	@echo 'make bench  measures the waiting list, the handles, the parallel map, scripts, runs and orders'
 
 run:
 	cd crates/trysend && rt run
@@ -39,4 +39,6 @@ bench:
 	cd crates/bench_map && rt run -- measure
 	cd crates/chanrun_program && rt run < ../../examples/tour.chan > /dev/null
 	tools/script_times.py
+	cd crates/chanexplore_program && rt run < stdin > /dev/null
+	tools/explore_times.py
 	. tools/rust_cargo.sh && cd rust && cargo run --quiet --release --features run --example run_steps

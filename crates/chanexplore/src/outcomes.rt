@@ -1,4 +1,6 @@
 //! The outcomes of orders, and how many orders lead to each.
+ghost use Rattle.std.specs.Prelude.{◌≡◌, ◌+◌, ◌-◌, ◌<◌, ◌^◌, [], IfOk, OnErr, OnOk};
+ghost use Rattle.chanexplore.specs.Counts.{orders_in};
 
 use crate::plan::Plan;
 use channel_model::OutOfMemory;
@@ -20,6 +22,8 @@ pub struct Tally {
 }
 
 /// The outcomes of the orders so far.
+///
+/// Each order that it was handed is counted once. That it is counted for its outcome isn't said.
 #[derive(Drop)]
 pub struct Outcomes {
     alloc: Global,
@@ -27,9 +31,9 @@ pub struct Outcomes {
     starts: Vec<usize>,
     // how many lines all parties have
     lines: usize,
-    // each outcome by the last answer to each line, party by party, each with a line end; nothing
-    // stands before the line end where a line wasn't reached
-    tallies: BTreeMap<String, Tally>,
+    /// Each outcome by the last answer to each line, party by party, each with a line end; nothing
+    /// stands before the line end where a line wasn't reached.
+    pub tallies: BTreeMap<String, Tally>,
 }
 
 // The text of an answer, as `chanrun` writes it.
@@ -50,7 +54,9 @@ fn spots_of(alloc: Global, order: &[Turn]) -> Result<Vec<(usize, usize)>, AllocE
 
 impl Outcomes {
     /// No order was made yet.
-    pub fn new(alloc: Global, plan: &Plan) -> Result<Outcomes, AllocError> {
+    pub fn new(alloc: Global, plan: &Plan) -> Result<Outcomes, AllocError>
+        ensures { IfOk result (λ outcomes. outcomes.tallies.entries ≡ []) }
+    {
         let mut starts = Vec::new(alloc);
         let mut lines: usize = 0;
         for party in plan.parties.iter() {
@@ -103,7 +109,12 @@ impl Outcomes {
     }
 
     // Counts an order for its outcome.
-    fn count(&mut self, order: Vec<Turn>) -> Result<(), AllocError> {
+    fn count(&mut self, order: Vec<Turn>) -> Result<(), AllocError>
+        ensures ok { orders_in self.old.tallies.entries < 2 ^ 64 - 1
+            → OnOk result (orders_in self.new.tallies.entries
+            ≡ orders_in self.old.tallies.entries + 1) }
+        ensures err { OnErr result (self.new.tallies.entries ≡ self.old.tallies.entries) }
+    {
         let first = spots_of(self.alloc, order.as_slice())?;
         let answers = self.last_answers(order)?;
         let text = self.text_of(answers)?;
@@ -123,6 +134,13 @@ impl Outcomes {
 }
 
 impl Visitor for Outcomes {
+    ghost use Rattle.std.specs.Prelude.{◌≡◌, ◌<◌, ◌^◌, length};
+    ghost use Rattle.chanexplore.specs.Counts.{orders_in};
+
+    // each is counted once
+    ghost has_seen = { λ outcomes seen. length seen < 2 ^ 64
+        → orders_in outcomes.tallies.entries ≡ length seen };
+
     fn visit(&mut self, order: Vec<Turn>) -> Result<(), OutOfMemory> {
         match self.count(order) {
             Ok(()) => Ok(()),

@@ -1,8 +1,13 @@
 //! What the input says: the channel, the lines before the parties, and the parties' lines.
+ghost use Rattle.std.specs.Prelude.{ℕ, [], IfOk, OnOk};
+ghost use Rattle.channel_model.specs.declared.step.Kind.{Kind};
 ghost use Rattle.channel_model.specs.Capacity.{HasPositiveCapacity};
+ghost use Rattle.channel_model.specs.Past.{Past};
+ghost use Rattle.channel_run.specs.StandsFor.{StandsFor};
+ghost use Rattle.chanrun.specs.Script.{past_after_all, past_after_command};
 
-use channel_model::{Kind, OutOfMemory, Refusal, Reply, Who};
-use channel_orders::party::{Act, Opening, step_again};
+use channel_model::{Kind, OutOfMemory, Who};
+use channel_orders::party::{Act, Opening, make, step_again};
 use channel_run::Run;
 use chanrun::grammar::{Command, Fault, LINE_LIMIT, command_of, kind_of, split_line, who_of};
 use chanrun::script::ScriptError;
@@ -85,13 +90,14 @@ pub fn act_of(alloc: Global, line: &[u8]) -> Result<Result<Act, Fault>, AllocErr
 }
 
 // Does a line that stands before the parties.
-fn prepare(run: &mut Run<u64>, command: &Command) -> Result<(), OutOfMemory> {
+fn prepare(run: &mut Run<u64>, command: &Command) -> Result<(), OutOfMemory>
+    ensures { (kind : Kind) (past : Past ℕ) → StandsFor kind past run.old
+        → OnOk result (StandsFor kind (past_after_command kind past command.now) run.new) }
+{
     match command {
         Command::Make(step) => {
-            match run.step(step_again(step)) {
-                Reply::Refused(Refusal::OutOfMemory, _) => Err(OutOfMemory),
-                _ => Ok(()),
-            }
+            let _reply = make(run, step_again(step))?;
+            Ok(())
         }
         Command::Notice(_) => Ok(()),
         Command::Settle => {
@@ -104,6 +110,7 @@ fn prepare(run: &mut Run<u64>, command: &Command) -> Result<(), OutOfMemory> {
 // Does the lines that stand before the parties, in order.
 fn prepare_all(alloc: Global, kind: Kind, before: &[Command]) -> Result<Run<u64>, OutOfMemory>
     requires { HasPositiveCapacity kind }
+    ensures { IfOk result (λ run. StandsFor kind (past_after_all kind [] before.now) run) }
 {
     let mut run = Run::new(alloc, kind)?;
     for command in before {
@@ -113,6 +120,13 @@ fn prepare_all(alloc: Global, kind: Kind, before: &[Command]) -> Result<Run<u64>
 }
 
 impl Opening for Plan {
+    ghost use Rattle.std.specs.Prelude.{[]};
+    ghost use Rattle.chanrun.specs.Script.{past_after_all};
+
+    ghost kind = { λ plan. plan.kind };
+
+    ghost past = { λ plan. past_after_all plan.kind [] plan.before.items };
+
     fn open(&self, alloc: Global) -> Result<Run<u64>, OutOfMemory> {
         prepare_all(alloc, self.kind, self.before.as_slice())
     }

@@ -33,6 +33,14 @@ struct Watched<'w, W> {
 }
 
 impl<W: Watch> Visitor for Watched<'_, W> {
+    ghost use Rattle.std.specs.Prelude.{◌≡◌, ◌^◌, ◌-◌, ◌<◌, length, min};
+    ghost use Rattle.chanexplore.specs.Counts.{orders_in};
+
+    // as many are shown, and each is counted once
+    ghost has_seen = { λ watched seen. (watched.orders ≡ min (length seen) (2 ^ 64 - 1))
+        × (length seen < 2 ^ 64
+        → orders_in watched.outcomes.tallies.entries ≡ length seen) };
+
     fn visit(&mut self, order: Vec<Turn>) -> Result<(), OutOfMemory> {
         self.outcomes.visit(order)?;
         self.orders = self.orders.saturating_add(1);

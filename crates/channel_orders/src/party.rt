@@ -1,6 +1,13 @@
 //! Parties: what their lines ask for, where they stand, and what answers them.
+ghost use Rattle.std.specs.Prelude.{◌≡◌, ℕ, IfOk};
+ghost use Rattle.channel_model.specs.declared.step.Kind.{Kind};
+ghost use Rattle.channel_model.specs.Past.{Past};
+ghost use Rattle.channel_model.specs.Answers.{answer_of, past_made};
+ghost use Rattle.channel_run.specs.StandsFor.{StandsFor};
+ghost use Rattle.channel_orders.specs.Orders.{poll_of};
+ghost use Rattle.channel_orders.specs.Trail.{wants_memory};
 
-use channel_model::{Notice, OutOfMemory, Reply, Step, Who};
+use channel_model::{Notice, OutOfMemory, Refusal, Reply, Step, Who};
 use channel_run::Run;
 use std::alloc::Global;
 
@@ -8,8 +15,15 @@ use std::alloc::Global;
 ///
 /// Each order is made on a channel of its own, so it is opened again for each.
 pub trait Opening {
+    /// What kind of channel it is.
+    ghost kind: { Self → Kind };
+
+    /// What was done on it before the parties.
+    ghost past: { Self → Past ℕ };
+
     /// Makes the channel.
-    fn open(&self, alloc: Global) -> Result<Run<u64>, OutOfMemory>;
+    fn open(&self, alloc: Global) -> Result<Run<u64>, OutOfMemory>
+        ensures { IfOk result (λ run. StandsFor (kind self.now) (past self.now) run) };
 }
 
 /// What a line of a party asks for.
@@ -26,7 +40,7 @@ pub enum Act {
 /// Where a party stands.
 #[derive(Clone, Copy)]
 pub struct Place {
-    /// How many of its lines are behind it.
+    /// How many of its lines it has done.
     pub done: usize,
     /// Whether the next one awaits, and its poll was pending.
     pub waiting: bool,
@@ -53,7 +67,9 @@ pub struct Turn {
 }
 
 /// The poll by which somebody is awaited.
-pub fn poll_of(who: Who) -> Step<u64> {
+pub fn poll_of(who: Who) -> Step<u64>
+    ensures { result ≡ poll_of who }
+{
     match who {
         Who::Op(op) => Step::Poll(op),
         Who::Receiver(receiver) => Step::PollNext(receiver),
@@ -61,7 +77,9 @@ pub fn poll_of(who: Who) -> Step<u64> {
 }
 
 /// The same step again.
-pub fn step_again(step: &Step<u64>) -> Step<u64> {
+pub fn step_again(step: &Step<u64>) -> Step<u64>
+    ensures { result ≡ step.now }
+{
     match *step {
         Step::TrySend(sender, message) => Step::TrySend(sender, message),
         Step::ForceSend(sender, message) => Step::ForceSend(sender, message),
@@ -94,4 +112,31 @@ pub fn step_again(step: &Step<u64>) -> Step<u64> {
         Step::PollNext(receiver) => Step::PollNext(receiver),
         Step::DropOp(op) => Step::DropOp(op),
     }
+}
+
+// Whether memory was refused.
+fn wants_memory(reply: &Reply<u64>) -> bool
+    ensures { result ≡ wants_memory reply.now }
+{
+    matches!(reply, Reply::Refused(Refusal::OutOfMemory, _))
+}
+
+/// Makes a step, unless memory is refused.
+///
+/// # Examples
+///
+/// ```
+/// let mut run = Run::new(rt.alloc(), Kind::Unbounded)?;
+/// assert_eq!(rt; make(&mut run, Step::TrySend(0, 7))?, Reply::TrySent(Ok(())));
+/// assert_eq!(rt; make(&mut run, Step::TryRecv(0))?, Reply::Received(Ok(7)));
+/// ```
+pub fn make(run: &mut Run<u64>, step: Step<u64>) -> Result<Reply<u64>, OutOfMemory>
+    ensures { (kind : Kind) (past : Past ℕ) → StandsFor kind past run.old → IfOk result (λ reply.
+        (reply ≡ answer_of kind past step) × StandsFor kind (past_made kind past step) run.new) }
+{
+    let reply = run.step(step);
+    if wants_memory(&reply) {
+        return Err(OutOfMemory);
+    }
+    Ok(reply)
 }

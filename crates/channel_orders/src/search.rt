@@ -6,6 +6,14 @@
 //! earlier step, so each order has a channel of its own, on which the choices are made from the
 //! first on.
 
+ghost use Rattle.std.specs.Prelude.{◌≡◌, ℕ, suc, ◌≤◌, ◌^◌, ◌+◌, List, [], ◌∷◌, ◌++◌, take, max, IfOk, IfErr, OnOk, OnErr, MatchOption};
+ghost use Rattle.channel_model.specs.declared.step.Kind.{Kind};
+ghost use Rattle.channel_orders.specs.Lines.{acts_in};
+ghost use Rattle.channel_orders.specs.Orders.{Moment, all_orders, orders_of, turn_of, turns_from};
+ghost use Rattle.channel_orders.specs.Searches.{HasSearched};
+ghost use Rattle.channel_orders.specs.Trail.{IsAt, IsEnd, IsNext, IsOf, Spot, Stands, Tree, begun, behind_all, due_at, tree_of};
+ghost use Rattle.channel_orders.specs.declared.party.Turn.{Turn};
+
 use crate::party::{Act, Opening, Turn};
 use crate::scene::Scene;
 use channel_model::OutOfMemory;
@@ -13,8 +21,15 @@ use std::alloc::Global;
 
 /// Who is handed each order.
 pub trait Visitor {
+    /// It was handed these orders, one after the other, and no other.
+    ghost has_seen: { Self → List (List Turn) → Type 0 };
+
     /// Takes an order, with what answered each turn.
-    fn visit(&mut self, order: Vec<Turn>) -> Result<(), OutOfMemory>;
+    fn visit(&mut self, order: Vec<Turn>) -> Result<(), OutOfMemory>
+        ensures ok { (seen : List (List Turn)) → has_seen self.old seen
+            → OnOk result (has_seen self.new (seen ++ order.items ∷ [])) }
+        ensures err { (seen : List (List Turn)) → has_seen self.old seen
+            → OnErr result (has_seen self.new seen) };
 }
 
 /// What a search came to.
@@ -33,6 +48,16 @@ struct Choice {
     next: Option<usize>,
 }
 
+// Puts an item at the end of a list.
+fn keep<X: Drop>(list: &mut Vec<X>, item: X) -> Result<(), OutOfMemory>
+    ensures { OnOk result (list.new.items ≡ list.old.items ++ item ∷ []) }
+{
+    match list.push(item) {
+        Ok(()) => Ok(()),
+        Err(_) => Err(OutOfMemory),
+    }
+}
+
 // Gives the turn to this party, and notes who else could have it.
 fn choose(
     scene: &mut Scene,
@@ -40,17 +65,23 @@ fn choose(
     party: usize,
     choices: &mut Vec<Choice>,
     turns: &mut Vec<Turn>,
-) -> Result<(), OutOfMemory> {
+) -> Result<(), OutOfMemory>
+    ensures { (tree : Tree) (spot : Spot) (more : ℕ) (next : Turn × Moment)
+        → IsOf tree (acts_in parties.now) → IsAt tree spot choices.old.items turns.old.items
+        → Stands tree.kind spot.moment scene.old.run scene.old.places.items
+        → spot.more ≡ suc more → turn_of tree.kind tree.parties spot.moment party ≡ Some next
+        → OnOk result ((after : Spot) × IsAt tree after choices.new.items turns.new.items
+        × Stands tree.kind after.moment scene.new.run scene.new.places.items
+        × (behind_all turns.old.items (begun tree more
+        (next ∷ turns_from tree.kind tree.parties spot.moment (party + 1))) ++ spot.left
+        ≡ due_at tree turns.new.items after)) }
+{
     let next = scene.first_able_behind(parties, party);
     let Some(turn) = scene.go(parties, party)? else {
         return Ok(());
     };
-    if choices.push(Choice { party, next }).is_err() {
-        return Err(OutOfMemory);
-    }
-    if turns.push(turn).is_err() {
-        return Err(OutOfMemory);
-    }
+    keep(choices, Choice { party, next })?;
+    keep(turns, turn)?;
     Ok(())
 }
 
@@ -60,14 +91,18 @@ fn again(
     parties: &[Vec<Act>],
     choices: &[Choice],
     turns: &mut Vec<Turn>,
-) -> Result<(), OutOfMemory> {
+) -> Result<(), OutOfMemory>
+    ensures { (tree : Tree) (spot : Spot) (made : List Turn) → IsOf tree (acts_in parties.now)
+        → IsAt tree spot choices.now made → turns.old.items ≡ []
+        → Stands tree.kind tree.first scene.old.run scene.old.places.items
+        → OnOk result ((turns.new.items ≡ made)
+        × Stands tree.kind spot.moment scene.new.run scene.new.places.items) }
+{
     for choice in choices {
         let Some(turn) = scene.go(parties, choice.party)? else {
             return Ok(());
         };
-        if turns.push(turn).is_err() {
-            return Err(OutOfMemory);
-        }
+        keep(turns, turn)?;
     }
     Ok(())
 }
@@ -78,7 +113,13 @@ fn complete(
     parties: &[Vec<Act>],
     choices: &mut Vec<Choice>,
     turns: &mut Vec<Turn>,
-) -> Result<(), OutOfMemory> {
+) -> Result<(), OutOfMemory>
+    ensures { (tree : Tree) (spot : Spot) → IsOf tree (acts_in parties.now)
+        → IsAt tree spot choices.old.items turns.old.items
+        → Stands tree.kind spot.moment scene.old.run scene.old.places.items
+        → OnOk result (IsEnd tree turns.new.items choices.new.items
+        (due_at tree turns.old.items spot)) }
+{
     for _turn in 0..u64::MAX {
         let Some(party) = scene.first_able(parties, 0) else {
             return Ok(());
@@ -91,11 +132,15 @@ fn complete(
 
 // Takes back the turns behind the last one that another party could have had, and that one too. It
 // answers who is to have it next.
-fn take_back(choices: &mut Vec<Choice>) -> Option<usize> {
-    for _taken in 0..choices.len() {
-        let choice = choices.pop()?;
-        if choice.next.is_some() {
-            return choice.next;
+fn take_back(choices: &mut Vec<Choice>) -> Option<usize>
+    ensures { (tree : Tree) (spot : Spot) (order : List Turn)
+        → IsAt tree spot choices.old.items order
+        → MatchOption result (spot.left ≡ [])
+        (λ party. IsNext tree party choices.new.items spot.left) }
+{
+    while let Some(choice) = choices.pop() {
+        if let Some(party) = choice.next {
+            return Some(party);
         }
     }
     None
@@ -107,8 +152,13 @@ fn first_order<O: Opening>(
     opening: &O,
     parties: &[Vec<Act>],
     choices: &mut Vec<Choice>,
-) -> Result<Vec<Turn>, OutOfMemory> {
-    let mut scene = Scene::begin(alloc, opening, parties.len())?;
+) -> Result<Vec<Turn>, OutOfMemory>
+    ensures { (most : ℕ) → 2 ^ 64 ≤ most → choices.old.items ≡ []
+        → let tree = tree_of (O.kind opening.now) (O.past opening.now) (acts_in parties.now) most in
+        IfOk result (λ order. IsEnd tree order.items choices.new.items
+        (orders_of tree.kind tree.parties most tree.first)) }
+{
+    let mut scene = Scene::begin(alloc, opening, parties)?;
     let mut turns = Vec::new(alloc);
     complete(&mut scene, parties, choices, &mut turns)?;
     Ok(turns)
@@ -122,8 +172,13 @@ fn next_order<O: Opening>(
     parties: &[Vec<Act>],
     choices: &mut Vec<Choice>,
     party: usize,
-) -> Result<Vec<Turn>, OutOfMemory> {
-    let mut scene = Scene::begin(alloc, opening, parties.len())?;
+) -> Result<Vec<Turn>, OutOfMemory>
+    ensures { (most : ℕ) (orders : List (List Turn)) → 2 ^ 64 ≤ most
+        → let tree = tree_of (O.kind opening.now) (O.past opening.now) (acts_in parties.now) most in
+        IsNext tree party choices.old.items orders
+        → IfOk result (λ order. IsEnd tree order.items choices.new.items orders) }
+{
+    let mut scene = Scene::begin(alloc, opening, parties)?;
     let mut turns = Vec::new(alloc);
     again(&mut scene, parties, choices.as_slice(), &mut turns)?;
     choose(&mut scene, parties, party, choices, &mut turns)?;
@@ -139,7 +194,20 @@ pub fn search<O: Opening, V: Visitor>(
     parties: &[Vec<Act>],
     limit: u64,
     visitor: &mut V,
-) -> Result<Searched, OutOfMemory> {
+) -> Result<Searched, OutOfMemory>
+    ensures ok { (most : ℕ) → 2 ^ 64 ≤ most → IfOk result (λ searched. HasSearched
+        (all_orders (O.kind opening.now) (O.past opening.now) (acts_in parties.now) most)
+        (max limit 1) searched) }
+    ensures handed { (most : ℕ) (seen : List (List Turn)) → 2 ^ 64 ≤ most
+        → V.has_seen visitor.old seen → IfOk result (λ searched. V.has_seen visitor.new
+        (seen ++ take searched.orders
+        (all_orders (O.kind opening.now) (O.past opening.now) (acts_in parties.now) most))) }
+    ensures refused { (most : ℕ) (seen : List (List Turn)) → 2 ^ 64 ≤ most
+        → V.has_seen visitor.old seen → IfErr result (λ _. (count : ℕ) × V.has_seen visitor.new
+        (seen ++ take count
+        (all_orders (O.kind opening.now) (O.past opening.now) (acts_in parties.now) most))) }
+{
+    let limit = limit.max(1);
     let mut choices = Vec::new(alloc);
     let order = first_order(alloc, opening, parties, &mut choices)?;
     visitor.visit(order)?;
@@ -154,7 +222,7 @@ pub fn search<O: Opening, V: Visitor>(
         visitor.visit(order)?;
     }
     Ok(Searched {
-        orders: limit.max(1),
+        orders: limit,
         whole: take_back(&mut choices).is_none(),
     })
 }
