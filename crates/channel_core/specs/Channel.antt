@@ -194,7 +194,7 @@ module _ {T W : Type 0} where
   SendWaits None ticket channel payload ticket' channel' = (channel' ≡ channel) × (ticket' ≡ ticket)
   SendWaits (Some message) ticket channel payload ticket' channel' =
       (channel' ≡ record channel { sends = channel'.sends })
-          × Waits ticket channel.sends payload ticket' channel'.sends
+      × Waits ticket channel.sends payload ticket' channel'.sends
 
   -- a receive that can't go on waits, and nothing else changes
   abbrev pub RecvWaits : Option ℕ → Channel T W → W → Option ℕ → Channel T W → Type 0

@@ -251,7 +251,7 @@ verb_of word =
     if bytes_eq word (codes "settle") then Some verb.Settle
     else if bytes_eq word (codes "send") then Some verb.Send
     else option_or (option_map verb.One (one_word_verb word))
-        (option_map verb.Two (two_word_verb word))
+    (option_map verb.Two (two_word_verb word))
 
 -- the command of a verb, if there is one
 abbrev pub command_by : Option Verb → List Word → Result Command Fault

@@ -60,7 +60,7 @@ abbrev pub texts_after : Kind → Past ℕ → List Command → List ℕ
 texts_after kind past [] = []
 texts_after kind past (command ∷ commands) =
     command_text kind past command
-        ++ texts_after kind (past_after_command kind past command) commands
+    ++ texts_after kind (past_after_command kind past command) commands
 
 -- ---- scripts
 

@@ -38,8 +38,10 @@ module _ {W : Type 0} where
   IsChain slab before [] behind = Unit {0}
   IsChain slab before (item ∷ rest) behind =
       (get slab item.0 ≡ Some (record {
-          before = before; behind = first_key rest behind; notice = item.1
-        }))
+        before = before;
+        behind = first_key rest behind;
+        notice = item.1;
+      }))
       × IsChain slab (Some item.0) rest behind
 
   -- an entry, if there is one under this key, and what is read from its neighbour on

@@ -65,7 +65,7 @@ module _ {W : Type 0} where
   LosesOne list key =
       (told_count (without list key) + (if is_among key list.told then 1 else 0) ≡ told_count list)
       × (untold_count (without list key) + (if is_among key (untold_keys list) then 1 else 0)
-          ≡ untold_count list)
+      ≡ untold_count list)
 
   -- the key's entry keeps its place, with another payload
   abbrev pub repaid : Waiting W → ℕ → W → Waiting W
