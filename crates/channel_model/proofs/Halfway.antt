@@ -12,7 +12,7 @@ use Rattle.channel_model.specs.Operations.{live_operations}
 use Rattle.channel_model.specs.Messages.{accepted_by, accepted_messages, held_messages, received_by, taken_by, taken_messages}
 use Rattle.channel_model.specs.Capacity.{capacity_of, is_full}
 use Rattle.channel_model.specs.Closing.{has_none, is_close, is_closed}
-use Rattle.channel_model.specs.Rosters.{Roster, Rosters, tell_all, tell_one, wait}
+use Rattle.channel_model.specs.Rosters.{Roster, Rosters, tell_all, tell_one}
 use Rattle.channel_model.specs.Notices.{after_accepting, after_closing, after_last_receiver, after_own_move, after_receiving, rosters}
 use Rattle.channel_model.specs.Legal.{IsLegal}
 use Rattle.std.proofs.lemmas.Bool.{leb-true, leb-false}

@@ -1,5 +1,5 @@
 -- When a channel is closed, and when it has no receiver.
-use Rattle.std.specs.Prelude.{[], ◌∷◌, List, Bool, true, false, ◌||◌}
+use Rattle.std.specs.Prelude.{ℕ, [], ◌∷◌, List, Bool, true, false, ◌||◌}
 use Rattle.channel_model.specs.declared.step.Step.{Step}
 use Rattle.channel_model.specs.declared.step.Step.TheVariants.{Close}
 use Rattle.channel_model.specs.Past.{Past}
@@ -15,13 +15,20 @@ abbrev pub has_none : {X : Type 0} → List X → Bool
 has_none [] = true
 has_none (first ∷ rest) = false
 
+-- A channel is closed after a step that leaves these senders and receivers: it was before, or the
+-- step closed it by hand, or no sender is left, or no receiver is.
+abbrev pub closed_after : {T : Type 0} → (before : Bool) → Step T → (senders receivers : List ℕ)
+    → Bool
+closed_after before step senders receivers =
+    before || is_close step || has_none senders || has_none receivers
+
 -- At some moment of the past somebody closed it by hand, or no sender was live, or no receiver was.
 -- So a closed channel stays closed.
 abbrev pub is_closed : {T : Type 0} → Past T → Bool
 is_closed [] = false
-is_closed (pair ∷ past) =
-    is_closed past || is_close pair.0
-    || has_none (live_senders (pair ∷ past)) || has_none (live_receivers (pair ∷ past))
+is_closed ((step, reply) ∷ past) =
+    closed_after (is_closed past) step (live_senders ((step, reply) ∷ past))
+    (live_receivers ((step, reply) ∷ past))
 
 -- No receiver is live. Such a channel is closed; one that was closed by hand may have receivers
 -- still.

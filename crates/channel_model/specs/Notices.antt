@@ -12,7 +12,8 @@ use Rattle.event_list.specs.Keys.{is_among}
 use Rattle.channel_model.specs.Past.{Past}
 use Rattle.channel_model.specs.Operations.{Operation, is_finished_send, live_operations, operation_in}
 use Rattle.channel_model.specs.Messages.{accepted_by, received_by}
-use Rattle.channel_model.specs.Closing.{has_no_receiver, is_closed}
+use Rattle.channel_model.specs.Handles.{live_receivers}
+use Rattle.channel_model.specs.Closing.{has_none, is_closed}
 use Rattle.channel_model.specs.Rosters.{Rosters, hand_on, notice_in, tell_all, tell_one, leave, nobody, wait}
 
 -- ---- First the entry of the one who acts is moved.
@@ -80,16 +81,28 @@ abbrev pub after_last_receiver : (none_before none_now : Bool) → Rosters → R
 after_last_receiver false true all = record all { closeds = tell_all all.closeds }
 after_last_receiver before now all = all
 
--- Who waits after this past, and who was told: first the own entry is moved, then the others are
--- told. On a new channel nobody waits.
+-- First the own entry is moved; then a message that was accepted or received tells.
+abbrev pub after_messages : {T : Type 0} → List (ℕ × Operation T) → Step T → Reply T → Rosters
+    → Rosters
+after_messages operations step reply all =
+    after_receiving (received_by reply)
+    (after_accepting (accepted_by operations step reply)
+    (after_own_move operations step reply all))
+
+-- Then the closing of the channel tells, and the end of the last of these receivers.
+abbrev pub after_ending : (closed_before closed_now : Bool)
+    → (receivers_before receivers_now : List ℕ) → Rosters → Rosters
+after_ending closed_before closed_now receivers_before receivers_now all =
+    after_last_receiver (has_none receivers_before) (has_none receivers_now)
+    (after_closing closed_before closed_now all)
+
+-- Who waits after this past, and who was told. On a new channel nobody waits.
 abbrev pub rosters : {T : Type 0} → Past T → Rosters
 rosters [] = record { sends = nobody; receives = nobody; streams = nobody; closeds = nobody }
 rosters ((step, reply) ∷ past) =
-    after_last_receiver (has_no_receiver past) (has_no_receiver ((step, reply) ∷ past))
-    (after_closing (is_closed past) (is_closed ((step, reply) ∷ past))
-    (after_receiving (received_by reply)
-    (after_accepting (accepted_by (live_operations past) step reply)
-    (after_own_move (live_operations past) step reply (rosters past)))))
+    after_ending (is_closed past) (is_closed ((step, reply) ∷ past))
+    (live_receivers past) (live_receivers ((step, reply) ∷ past))
+    (after_messages (live_operations past) step reply (rosters past))
 
 -- Whether somebody waits, and was told. An operation is in one roster at most.
 abbrev pub notice_of : {T : Type 0} → Past T → Who → Notice

@@ -1,6 +1,6 @@
 -- What a run answers to a step, and what it shows then, by what it shows before. Private methods
 -- promise it, and what a past decides follows from it; no public clause has to cite this module.
-use Rattle.std.specs.Prelude.{◌≡◌, ◌⊎◌, MatchOption, ℕ, List, Option, Some, None, Bool, true, false, ◌||◌, drop, slice_get}
+use Rattle.std.specs.Prelude.{◌≡◌, ◌⊎◌, MatchOption, ℕ, List, Option, Some, None, Bool, true, false, if◌then◌else◌, drop, slice_get}
 use Rattle.futures.specs.declared.task.Poll.TheVariants.{Ready}
 use Rattle.channel_core.specs.declared.state.Group.{Group}
 use Rattle.channel_core.specs.declared.state.Group.TheVariants.{Sends, Receives, Streams, Closeds}
@@ -18,13 +18,13 @@ use Rattle.channel_model.specs.declared.step.Step.TheVariants.{Capacity, Close, 
 use Rattle.channel_model.specs.declared.step.Reply.{Reply}
 use Rattle.channel_model.specs.declared.step.Reply.TheVariants.{SendPolled, RecvPolled, ClosedPolled, NextPolled, Refused}
 use Rattle.channel_model.specs.Past.{Past}
-use Rattle.channel_model.specs.Handles.{without, receivers_after, senders_after, weak_receivers_after, weak_senders_after}
+use Rattle.channel_model.specs.Handles.{receivers_after, senders_after, weak_receivers_after, weak_senders_after}
 use Rattle.channel_model.specs.Operations.{Operation, awaiting_close, operation_in, receiving, sending, operations_after}
-use Rattle.channel_model.specs.Messages.{received_by, taken_by, with_last, accepted_by}
-use Rattle.channel_model.specs.Closing.{has_none}
+use Rattle.channel_model.specs.Messages.{taken_by, with_last, accepted_by}
+use Rattle.channel_model.specs.Closing.{closed_after}
 use Rattle.channel_model.specs.Replies.{is_pending, reply_in}
 use Rattle.channel_model.specs.Rosters.{Roster, Rosters, notice_in}
-use Rattle.channel_model.specs.Notices.{after_accepting, after_closing, after_last_receiver, after_receiving, after_own_move}
+use Rattle.channel_model.specs.Notices.{after_ending, after_messages}
 use Rattle.channel_model.specs.Polling.{IsQuiet, told_polls}
 use Rattle.channel_model.specs.Answers.{IsAnswer, message_in, past_after}
 use Rattle.channel_model.specs.View.{View, AreAlike}
@@ -43,35 +43,37 @@ abbrev pub messages_after : {T : Type 0} → View T → Step T → Reply T → L
 messages_after run step reply =
     without_first (taken_by reply) (with_last run.messages (accepted_by run.operations step reply))
 
--- Only these steps close a channel, since an open one has somebody on each side.
-abbrev pub closed_after : {T : Type 0} → View T → Step T → Bool
-closed_after run (Close side) = true
-closed_after run (DropSender name) = run.closed || has_none (without name run.senders)
-closed_after run (DropReceiver name) = run.closed || has_none (without name run.receivers)
-closed_after run step = run.closed
+-- Only these steps can close a channel, since an open one has somebody on each side.
+abbrev pub may_close : {T : Type 0} → Step T → Bool
+may_close (Close side) = true
+may_close (DropSender name) = true
+may_close (DropReceiver name) = true
+may_close step = false
 
--- whom a closing and the end of the last receiver tell
-abbrev pub closing_in : {T : Type 0} → View T → Step T → Rosters → Rosters
-closing_in run (Close side) all = after_closing run.closed true all
-closing_in run (DropSender name) all =
-    after_closing run.closed (run.closed || has_none (without name run.senders)) all
-closing_in run (DropReceiver name) all =
-    after_last_receiver (has_none run.receivers) (has_none (without name run.receivers))
-    (after_closing run.closed (run.closed || has_none (without name run.receivers)) all)
-closing_in run step all = all
+abbrev pub closed_in : {T : Type 0} → View T → Step T → Reply T → Bool
+closed_in run step reply =
+    if may_close step
+    then closed_after run.closed step (senders_after step reply run.senders)
+    (receivers_after step reply run.receivers)
+    else run.closed
+
+-- whom the end of the channel, or of the last receiver, tells
+abbrev pub ending_in : {T : Type 0} → View T → Step T → Reply T → Rosters → Rosters
+ending_in run step reply all =
+    if may_close step
+    then after_ending run.closed (closed_in run step reply) run.receivers
+    (receivers_after step reply run.receivers) all
+    else all
 
 abbrev pub rosters_after : {T : Type 0} → View T → Step T → Reply T → Rosters
 rosters_after run step reply =
-    closing_in run step
-    (after_receiving (received_by reply)
-    (after_accepting (accepted_by run.operations step reply)
-    (after_own_move run.operations step reply run.rosters)))
+    ending_in run step reply (after_messages run.operations step reply run.rosters)
 
 abbrev pub after_step : {T : Type 0} → View T → Step T → Reply T → View T
 after_step run step reply = record {
   capacity = run.capacity;
   messages = messages_after run step reply;
-  closed = closed_after run step;
+  closed = closed_in run step reply;
   senders = senders_after step reply run.senders;
   receivers = receivers_after step reply run.receivers;
   weak_senders = weak_senders_after step reply run.weak_senders;

@@ -1,5 +1,5 @@
 //! The handles of a channel: how many senders and receivers there are, and who is the last.
-ghost use Rattle.std.specs.Prelude.{◌≡◌, ◌==◌, ◌&&◌, not, None, true};
+ghost use Rattle.std.specs.Prelude.{◌≡◌, ◌==◌, ◌&&◌, not, None, true, false, ◌<◌};
 ghost use Rattle.event_list.specs.Waiting.{RingsEach};
 ghost use Rattle.channel_core.specs.Counts.{may_add, count_added, upgrade_answer, count_upgraded};
 ghost use Rattle.channel_core.specs.Channel.{sender_dropped, receiver_dropped_by};
@@ -112,6 +112,7 @@ impl<T: Drop, W: Drop> Core<T, W> {
     }
 
     /// Gives a sender up. The last one closes the channel; the answer is whether that happened.
+    /// An open channel has somebody on the other side still.
     ///
     /// # Examples
     ///
@@ -123,6 +124,7 @@ impl<T: Drop, W: Drop> Core<T, W> {
     pub fn drop_sender<B: Bell<W>>(&mut self, bell: &mut B) -> bool
         ensures reply { result ≡ ((self.old.senders == 1) && not self.old.closed) }
         ensures after { self.new ≡ (sender_dropped self.old).channel }
+        ensures other_side { self.old.closed ≡ false → 0 < self.old.receivers }
         ensures rung { RingsEach B.rings bell.old (sender_dropped self.old).rung bell.new }
     {
         match self.senders {
@@ -155,6 +157,7 @@ impl<T: Drop, W: Drop> Core<T, W> {
     pub fn drop_receiver<B: Bell<W>>(&mut self, stream: &mut Option<Ticket>, bell: &mut B) -> bool
         ensures reply { result ≡ ((self.old.receivers == 1) && not self.old.closed) }
         ensures after { self.new ≡ (receiver_dropped_by stream.old self.old).channel }
+        ensures other_side { self.old.closed ≡ false → 0 < self.old.senders }
         ensures rung { RingsEach B.rings bell.old
             (receiver_dropped_by stream.old self.old).rung bell.new }
         ensures ticket { stream.new ≡ None }

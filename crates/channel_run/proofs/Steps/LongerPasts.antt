@@ -9,20 +9,20 @@ use Rattle.channel_model.specs.declared.step.Reply.{Reply}
 use Rattle.channel_model.specs.declared.step.Reply.TheVariants.{Upgraded, SendPolled}
 use Rattle.event_list.specs.Keys.{is_among, AreDifferent}
 use Rattle.channel_model.specs.Past.{Past}
-use Rattle.channel_model.specs.Handles.{live_receivers, live_senders, live_weak_receivers, live_weak_senders, without, senders_after, receivers_after, weak_senders_after, weak_receivers_after}
+use Rattle.channel_model.specs.Handles.{live_receivers, live_senders, live_weak_receivers, live_weak_senders, senders_after, receivers_after, weak_senders_after, weak_receivers_after}
 use Rattle.channel_model.specs.Operations.{Operation, awaiting_close, is_finished_send, live_operations, receiving, sending, unsent_message, names_of, operations_after}
 use Rattle.channel_model.specs.Messages.{accepted_by, held_messages, received_by, taken_by, with_last}
-use Rattle.channel_model.specs.Closing.{has_no_receiver, has_none, is_closed}
+use Rattle.channel_model.specs.Closing.{closed_after, has_none, is_close, is_closed}
 use Rattle.channel_model.specs.Replies.{due_reply, reply_in}
 use Rattle.channel_model.specs.Refusals.{refusal_of, refusal_in}
 use Rattle.channel_model.specs.Rosters.{Rosters, wait}
-use Rattle.channel_model.specs.Notices.{after_accepting, after_closing, after_last_receiver, after_own_move, after_receiving, rosters}
+use Rattle.channel_model.specs.Notices.{after_accepting, after_closing, after_ending, after_last_receiver, after_messages, after_own_move, after_receiving, rosters}
 use Rattle.channel_model.specs.Legal.{IsAllowed}
 use Rattle.channel_model.specs.Covered.{IsCovered}
 use Rattle.channel_model.specs.Standing.{standing_of}
 use Rattle.channel_model.specs.View.{AreSameNames, AreSameOperations, View, view_of}
 use Rattle.channel_run.specs.StandsFor.{StandsFor}
-use Rattle.channel_run.specs.RunSteps.{after_step, closed_after, closing_in, messages_after, rosters_after, without_first}
+use Rattle.channel_run.specs.RunSteps.{after_step, closed_in, ending_in, messages_after, rosters_after, without_first}
 use Rattle.channel_model.proofs.Conserved.{count_of}
 use Rattle.channel_model.proofs.HeldMessages.{held_messages-after}
 use Rattle.channel_model.proofs.CoveredPasts.{IsCovered-IsLegal}
@@ -108,58 +108,78 @@ operations_after-same operations others step reply once same = same
 
 -- ---- whether it is closed
 
-by_hand : (before no_sender no_receiver : Bool)
-    → (((before || true) || no_sender) || no_receiver) ≡ true
-by_hand true no_sender no_receiver = refl
-by_hand false no_sender no_receiver = refl
+-- where it was open, a receiver is there still
+receivers_stay : (before : Bool) (receivers : List ℕ) → (before ≡ false → 0 < length receivers)
+    → before ≡ (((before || false) || false) || has_none receivers)
+receivers_stay true receivers some = refl
+receivers_stay false [] some = let one : 0 < 0 = some refl in absurd (omega arith)
+receivers_stay false (first ∷ receivers) some = refl
 
--- no sender is left, or one is and a closed channel stays so
-senders_left : (before no_sender : Bool) (receivers : List ℕ)
-    → (before ≡ false → 0 < length receivers)
-    → (before || no_sender) ≡ (((before || false) || no_sender) || has_none receivers)
-senders_left true no_sender receivers some = refl
-senders_left false true receivers some = refl
-senders_left false false [] some = let one : 0 < 0 = some refl in absurd (omega arith)
-senders_left false false (first ∷ receivers) some = refl
+-- or a sender
+senders_stay : (before : Bool) (senders : List ℕ) → (before ≡ false → 0 < length senders)
+    → before ≡ (((before || false) || has_none senders) || false)
+senders_stay true senders some = refl
+senders_stay false [] some = let one : 0 < 0 = some refl in absurd (omega arith)
+senders_stay false (first ∷ senders) some = refl
 
-receivers_left : (before no_receiver : Bool) (senders : List ℕ)
-    → (before ≡ false → 0 < length senders)
-    → (before || no_receiver) ≡ (((before || false) || has_none senders) || no_receiver)
-receivers_left true no_receiver senders some = refl
-receivers_left false no_receiver [] some = let one : 0 < 0 = some refl in absurd (omega arith)
-receivers_left false no_receiver (first ∷ senders) some = refl
+-- A step that may close does to a run what it does after the past, with names in any order.
+module _ {T : Type 0} (kind : Kind) (past : Past T) (run : View T) (step : Step T) (reply : Reply T)
+    (stands : StandsFor kind past run) where
+  same_senders : has_none (senders_after step reply run.senders) ≡ has_none (live_senders ((step, reply) ∷ past))
+  same_senders = has_none-same (senders_after step reply run.senders) (senders_after step reply (live_senders past))
+      (senders_after-same run.senders (live_senders past)
+      (live_senders-AreDifferent kind past stands.legal) stands.shows.senders step reply)
 
-or_false : (before : Bool) → before ≡ (before || false)
-or_false true = refl
-or_false false = refl
+  same_receivers : has_none (receivers_after step reply run.receivers)
+      ≡ has_none (live_receivers ((step, reply) ∷ past))
+  same_receivers =
+      has_none-same (receivers_after step reply run.receivers) (receivers_after step reply (live_receivers past))
+      (receivers_after-same run.receivers (live_receivers past)
+      (live_receivers-AreDifferent kind past stands.legal) stands.shows.receivers step reply)
+
+  closed_after-same : closed_after run.closed step (senders_after step reply run.senders)
+      (receivers_after step reply run.receivers) ≡ is_closed ((step, reply) ∷ past)
+  closed_after-same =
+      ap (λ before. closed_after before step (senders_after step reply run.senders)
+      (receivers_after step reply run.receivers)) stands.shows.closed
+      ∙ ap (λ none. ((is_closed past || is_close step) || none)
+      || has_none (receivers_after step reply run.receivers)) same_senders
+      ∙ ap (λ none. ((is_closed past || is_close step) || has_none (live_senders ((step, reply) ∷ past))) || none)
+      same_receivers
+
+  ending-same : (all : Rosters) → after_ending run.closed
+      (closed_after run.closed step (senders_after step reply run.senders)
+      (receivers_after step reply run.receivers)) run.receivers (receivers_after step reply run.receivers) all
+      ≡ after_ending (is_closed past) (is_closed ((step, reply) ∷ past)) (live_receivers past)
+      (live_receivers ((step, reply) ∷ past)) all
+  ending-same all =
+      ap (λ now. after_ending run.closed now run.receivers (receivers_after step reply run.receivers) all)
+      closed_after-same
+      ∙ ap (λ before. after_ending before (is_closed ((step, reply) ∷ past)) run.receivers
+      (receivers_after step reply run.receivers) all) stands.shows.closed
+      ∙ ap (λ none. after_last_receiver none (has_none (receivers_after step reply run.receivers))
+      (after_closing (is_closed past) (is_closed ((step, reply) ∷ past)) all))
+      (has_none-same run.receivers (live_receivers past) stands.shows.receivers)
+      ∙ ap (λ none. after_last_receiver (has_none (live_receivers past)) none
+      (after_closing (is_closed past) (is_closed ((step, reply) ∷ past)) all)) same_receivers
 
 closed-step : {T : Type 0} (kind : Kind) (past : Past T) (run : View T) (step : Step T) (reply : Reply T)
     → StandsFor kind past run → IsCovered (standing_of kind past)
-    → closed_after run step ≡ is_closed ((step, reply) ∷ past)
+    → closed_in run step reply ≡ is_closed ((step, reply) ∷ past)
 closed-step kind past run (Close side) reply stands covered =
-    sym (by_hand (is_closed past) (has_none (live_senders past)) (has_none (live_receivers past)))
+    closed_after-same kind past run (Close side) reply stands
 closed-step kind past run (DropSender name) reply stands covered =
-    ap (λ closed. closed || has_none (without name run.senders)) stands.shows.closed
-    ∙ ap (λ none. is_closed past || none) (has_none-same (without name run.senders) (without name (live_senders past))
-    (AreSameNames-without run.senders (live_senders past) name
-    (live_senders-AreDifferent kind past stands.legal) stands.shows.senders))
-    ∙ senders_left (is_closed past) (has_none (without name (live_senders past)))
-    (live_receivers past) covered.open_receivers
+    closed_after-same kind past run (DropSender name) reply stands
 closed-step kind past run (DropReceiver name) reply stands covered =
-    ap (λ closed. closed || has_none (without name run.receivers)) stands.shows.closed
-    ∙ ap (λ none. is_closed past || none) (has_none-same (without name run.receivers)
-    (without name (live_receivers past)) (AreSameNames-without run.receivers (live_receivers past) name
-    (live_receivers-AreDifferent kind past stands.legal) stands.shows.receivers))
-    ∙ receivers_left (is_closed past) (has_none (without name (live_receivers past)))
-    (live_senders past) covered.open_senders
-closed-step kind past run (CloneSender of new) reply stands covered = stands.shows.closed ∙ or_false (is_closed past)
-    ∙ senders_left (is_closed past) false (live_receivers past) covered.open_receivers
+    closed_after-same kind past run (DropReceiver name) reply stands
+closed-step kind past run (CloneSender of new) reply stands covered = stands.shows.closed
+    ∙ receivers_stay (is_closed past) (live_receivers past) covered.open_receivers
 closed-step kind past run (UpgradeSender of new) (Upgraded true) stands covered = stands.shows.closed
-    ∙ or_false (is_closed past) ∙ senders_left (is_closed past) false (live_receivers past) covered.open_receivers
-closed-step kind past run (CloneReceiver of new) reply stands covered = stands.shows.closed ∙ or_false (is_closed past)
-    ∙ receivers_left (is_closed past) false (live_senders past) covered.open_senders
+    ∙ receivers_stay (is_closed past) (live_receivers past) covered.open_receivers
+closed-step kind past run (CloneReceiver of new) reply stands covered = stands.shows.closed
+    ∙ senders_stay (is_closed past) (live_senders past) covered.open_senders
 closed-step kind past run (UpgradeReceiver of new) (Upgraded true) stands covered = stands.shows.closed
-    ∙ or_false (is_closed past) ∙ receivers_left (is_closed past) false (live_senders past) covered.open_senders
+    ∙ senders_stay (is_closed past) (live_senders past) covered.open_senders
 closed-step kind past run step reply stands covered = stands.shows.closed
     ∙ sym (is_closed-kept kind past step reply covered refl refl refl)
 
@@ -186,8 +206,8 @@ some_if_positive (first ∷ names) some = refl
 -- whom the closing tells, after a step with the reply that is due
 Closing : {T : Type 0} → Past T → View T → Step T → Reply T → Rosters → Type 0
 Closing past run step reply all =
-    closing_in run step all ≡ after_last_receiver (has_no_receiver past) (has_no_receiver ((step, reply) ∷ past))
-    (after_closing (is_closed past) (is_closed ((step, reply) ∷ past)) all)
+    ending_in run step reply all ≡ after_ending (is_closed past) (is_closed ((step, reply) ∷ past))
+    (live_receivers past) (live_receivers ((step, reply) ∷ past)) all
 
 -- neither the one nor the other changed
 nothing_told : (none_before none_now closed_before closed_now : Bool) (all : Rosters)
@@ -214,33 +234,11 @@ closing-step : {T : Type 0} (kind : Kind) (past : Past T) (run : View T) (step :
     → Closing past run step (due_reply kind past step) all
 unfolding Closing
 closing-step kind past run (Close side) all stands covered may =
-    ap (λ before. after_closing before true all) stands.shows.closed
-    ∙ ap (λ now. after_closing (is_closed past) now all)
-    (closed-step kind past run (Close side) (due_reply kind past (Close side)) stands covered)
-    ∙ sym (after_last_receiver-kept (has_no_receiver past) (has_no_receiver past) _ refl)
+    ending-same kind past run (Close side) (due_reply kind past (Close side)) stands all
 closing-step kind past run (DropSender name) all stands covered may =
-    ap (λ now. after_closing run.closed now all)
-    (closed-step kind past run (DropSender name) (due_reply kind past (DropSender name)) stands covered)
-    ∙ ap (λ before. after_closing before (is_closed ((DropSender name, due_reply kind past (DropSender name)) ∷ past))
-    all) stands.shows.closed
-    ∙ sym (after_last_receiver-kept (has_no_receiver past) (has_no_receiver past) _ refl)
+    ending-same kind past run (DropSender name) (due_reply kind past (DropSender name)) stands all
 closing-step kind past run (DropReceiver name) all stands covered may =
-    ap (λ now. after_last_receiver (has_none run.receivers) (has_none (without name run.receivers))
-    (after_closing run.closed now all)) (closed-step kind past run (DropReceiver name)
-    (due_reply kind past (DropReceiver name)) stands covered)
-    ∙ ap (λ before. after_last_receiver (has_none run.receivers) (has_none (without name run.receivers))
-    (after_closing before (is_closed ((DropReceiver name, due_reply kind past (DropReceiver name)) ∷ past)) all))
-    stands.shows.closed
-    ∙ ap (λ none. after_last_receiver none (has_none (without name run.receivers))
-    (after_closing (is_closed past) (is_closed
-    ((DropReceiver name, due_reply kind past (DropReceiver name)) ∷ past)) all))
-    (has_none-same run.receivers (live_receivers past) stands.shows.receivers)
-    ∙ ap (λ none. after_last_receiver (has_no_receiver past) none
-    (after_closing (is_closed past) (is_closed
-    ((DropReceiver name, due_reply kind past (DropReceiver name)) ∷ past)) all))
-    (has_none-same (without name run.receivers) (without name (live_receivers past))
-    (AreSameNames-without run.receivers (live_receivers past) name
-    (live_receivers-AreDifferent kind past stands.legal) stands.shows.receivers))
+    ending-same kind past run (DropReceiver name) (due_reply kind past (DropReceiver name)) stands all
 closing-step kind past run (CloneReceiver of new) all stands covered may =
     nothing_told _ _ (is_closed past) _ all (sym (some_among of (live_receivers past) may.known))
     (sym (closed-step kind past run (CloneReceiver of new)
@@ -257,21 +255,18 @@ rosters-step : {T : Type 0} (kind : Kind) (past : Past T) (run : View T) (step :
     → rosters_after run step (due_reply kind past step) ≡ rosters ((step, due_reply kind past step) ∷ past)
 unfolding Closing
 rosters-step {T} kind past run step stands covered may =
-    ap (λ (all : Rosters). closing_in run step
-    (after_receiving (received_by (due_reply kind past step))
-    (after_accepting (accepted_by run.operations step (due_reply kind past step))
-    (after_own_move run.operations step (due_reply kind past step) all)))) stands.shows.rosters
-    ∙ ap (λ (all : Rosters). closing_in run step
-    (after_receiving (received_by (due_reply kind past step))
-    (after_accepting (accepted_by run.operations step (due_reply kind past step)) all)))
-    (after_own_move-same run.operations (live_operations past) step (due_reply kind past step) (rosters past)
-    stands.shows.operations)
-    ∙ ap (λ (found : Option T). closing_in run step
-    (after_receiving (received_by (due_reply kind past step))
-    (after_accepting found
-    (after_own_move (live_operations past) step (due_reply kind past step) (rosters past)))))
-    (accepted_by-same run.operations (live_operations past) step (due_reply kind past step) stands.shows.operations)
+    ap (λ (all : Rosters). ending_in run step due (after_messages run.operations step due all)) stands.shows.rosters
+    ∙ ap (λ (all : Rosters). ending_in run step due
+    (after_receiving (received_by due) (after_accepting (accepted_by run.operations step due) all)))
+    (after_own_move-same run.operations (live_operations past) step due (rosters past) stands.shows.operations)
+    ∙ ap (λ (found : Option T). ending_in run step due
+    (after_receiving (received_by due)
+    (after_accepting found (after_own_move (live_operations past) step due (rosters past)))))
+    (accepted_by-same run.operations (live_operations past) step due stands.shows.operations)
     ∙ closing-step kind past run step _ stands covered may
+  where
+    due : Reply T
+    due = due_reply kind past step
 
 -- ---- the step
 

@@ -1,5 +1,5 @@
 -- The steps that give a receiver or an operation up.
-use Rattle.std.proofs.Common.{◌≡◌, ℕ, suc, ◌+◌, ◌-◌, List, [], ◌∷◌, Bool, true, false, ◌==◌, cond, None, Option, refl, sym, ◌∙◌, ap, subst, length, arith}
+use Rattle.std.proofs.Common.{◌≡◌, ℕ, suc, ◌+◌, ◌-◌, ◌<◌, List, [], ◌∷◌, Bool, true, false, ◌==◌, cond, None, Option, refl, sym, ◌∙◌, ap, subst, length, arith}
 use Rattle.std.specs.Prelude.{is_some}
 use Rattle.std.specs.Map.{keys_of}
 use Rattle.std.proofs.lemmas.Bool.{eq-eqb, eqb-true, false≢true, ne_eqb}
@@ -40,7 +40,8 @@ module _ {T W : Type 0} (kept : Kept T W) (receivers' : List (ℕ × Option ℕ)
     (name : ℕ) (once : AreDifferent (keys_of kept.receivers))
     (there : is_among name (keys_of kept.receivers) ≡ true)
     (change : Changed name kept.receivers receivers' None)
-    (fewer : length kept.receivers ≡ suc (length receivers')) where
+    (fewer : length kept.receivers ≡ suc (length receivers'))
+    (other : kept.core.closed ≡ false → 0 < kept.core.senders) where
   abbrev before : View T
   before = shown_by kept
 
@@ -105,6 +106,14 @@ module _ {T W : Type 0} (kept : Kept T W) (receivers' : List (ℕ × Option ℕ)
       (λ none. false≢true (sym e ∙ eq-eqb kept.core.receivers 1
       (whole.count_receivers ∙ fewer ∙ ap suc (sym (length-map receivers' (λ entry. entry.0)) ∙ none))))
 
+  -- where an open core counts a sender, one has a name
+  has_sender : kept.core.closed ≡ false → has_none kept.senders ≡ false
+  has_sender c = has_none-length kept.senders ∙ ne_eqb (length kept.senders) 0
+      (λ none. absurd (by_count kept.core.senders (length kept.senders) (other c) whole.count_senders none))
+    where
+      by_count : (count names : ℕ) → 0 < count → count ≡ names → names ≡ 0 → ⊥
+      by_count count names some e none = omega arith
+
   some_before : has_none (keys_of kept.receivers) ≡ false
   some_before = has_none-length (keys_of kept.receivers)
       ∙ ne_eqb (length (keys_of kept.receivers)) 0 (λ none. absurd
@@ -145,7 +154,7 @@ module _ {T W : Type 0} (kept : Kept T W) (receivers' : List (ℕ × Option ℕ)
           (fits-ended (remaining 0) (own_left name (rosters_by kept))
           (fits-left 0 (sym (last e))))
           (made-left Done kept.core.closed (ended_told (own_left name (rosters_by kept)))
-          (made-drop_last_receiver_closed before name f some_before (none_left e)))
+          (made-drop_last_receiver_closed before name has_sender f some_before (none_left e)))
       go true e false f =
           stepped before (DropReceiver name) Done (left_with (ending (closed_now (remaining 0))).channel) (ended_told
           (closed_told (own_left name (rosters_by kept))))
@@ -154,13 +163,13 @@ module _ {T W : Type 0} (kept : Kept T W) (receivers' : List (ℕ × Option ℕ)
           (fits-closed (left_with (remaining 0))
           (own_left name (rosters_by kept)) (fits-left 0 (sym (last e)))))
           (made-left Done true (ended_told (closed_told (own_left name (rosters_by kept))))
-          (made-drop_last_receiver before name f some_before (none_left e)))
+          (made-drop_last_receiver before name has_sender f some_before (none_left e)))
       go false e closed f =
           stepped before (DropReceiver name) Done (left_with (remaining (kept.core.receivers - 1)))
           (own_left name (rosters_by kept))
           (fits-left (kept.core.receivers - 1) (let counts = whole.count_receivers in omega arith))
           (made-left Done kept.core.closed (own_left name (rosters_by kept))
-          (made-drop_receiver before name (some_left e)))
+          (made-drop_receiver before name has_sender (some_left e)))
 
 -- ---- an operation is given up
 

@@ -1,6 +1,8 @@
 -- The steps that need no ticket: what the run keeps fits together after each, and the step was made.
-use Rattle.std.proofs.Common.{◌≡◌, ℕ, zero, suc, ◌-◌, ◌==◌, List, [], ◌∷◌, ◌++◌, Bool, true, false, not, cond, Some, None, Ok, Option, refl, sym, ◌∙◌, ap, subst, length, drop, arith}
+use Rattle.std.proofs.Common.{◌≡◌, ℕ, zero, suc, ◌-◌, ◌<◌, ◌==◌, List, [], ◌∷◌, ◌++◌, Bool, true, false, not, cond, Some, None, Ok, Option, refl, sym, ◌∙◌, ap, subst, length, drop, arith}
 use Rattle.std.proofs.lemmas.Bool.{eqb-true, eq-eqb, ne_eqb}
+use Rattle.std.proofs.lemmas.List.{length-map}
+use Rattle.std.specs.Map.{keys_of}
 use Rattle.std.specs.Prelude.{slice_get}
 use Rattle.channel_model.specs.declared.step.Side.{Side}
 use Rattle.channel_model.specs.declared.step.Step.TheVariants.{TrySend, ForceSend, TryRecv, Close, DropSender}
@@ -153,12 +155,28 @@ module _ {T W : Type 0} where
             (fits-closed kept all fits)
             (made-close run side e)
 
+    -- where an open core counts a receiver, one has a name
+    some_receiver : (kept.core.closed ≡ false → 0 < kept.core.receivers)
+        → kept.core.closed ≡ false → has_none (keys_of kept.receivers) ≡ false
+    some_receiver other c = has_none-length (keys_of kept.receivers)
+        ∙ ne_eqb (length (keys_of kept.receivers)) 0 (λ none. absurd
+        (by_count kept.core.receivers (length kept.receivers) (length (keys_of kept.receivers))
+        (other c) whole.count_receivers (length-map kept.receivers (λ entry. entry.0)) none))
+      where
+        by_count : (count entries names : ℕ) → 0 < count → count ≡ entries → names ≡ entries
+            → names ≡ 0 → ⊥
+        by_count count entries names some e f none = omega arith
+
     pub stepped-drop_sender : (name : ℕ)
         → length kept.senders ≡ suc (length (without name kept.senders))
+        → (kept.core.closed ≡ false → 0 < kept.core.receivers)
         → Stepped run (DropSender name) Done
         (record kept { core = (sender_dropped kept.core).channel; senders = without name kept.senders })
-    stepped-drop_sender name fewer = go (kept.core.senders == 1) refl kept.core.closed refl
+    stepped-drop_sender name fewer other = go (kept.core.senders == 1) refl kept.core.closed refl
       where
+        has_receiver : kept.core.closed ≡ false → has_none (keys_of kept.receivers) ≡ false
+        has_receiver = some_receiver other
+
         last : (kept.core.senders == 1) ≡ true → length (without name kept.senders) ≡ 0
         last e = let one = eqb-true kept.core.senders 1 e in let counts = whole.count_senders in omega arith
 
@@ -198,7 +216,7 @@ module _ {T W : Type 0} where
             stepped run (DropSender name) Done (record kept
             { core = record kept.core { senders = 0 }; senders = without name kept.senders }) all (counted 0
             (sym (last e)))
-            (made-drop_sender_closed run name f)
+            (made-drop_sender_closed run name has_receiver f)
         go true e false f =
             stepped run (DropSender name) Done (record kept {
               core = (closed_now (record kept.core { senders = 0 })).channel;
@@ -207,7 +225,7 @@ module _ {T W : Type 0} where
             }) (closed_told all)
             (fits-closed (record kept { core = record kept.core { senders = 0 }; senders = without name kept.senders }) all
             (counted 0 (sym (last e))))
-            (made-drop_last_sender run name f (has_none-length (without name kept.senders)
+            (made-drop_last_sender run name has_receiver f (has_none-length (without name kept.senders)
             ∙ ap (λ count. count == 0) (last e)))
         go false e closed f =
             stepped run (DropSender name) Done (record kept {
@@ -216,4 +234,4 @@ module _ {T W : Type 0} where
                   kept.senders;
             }) all
             (counted (kept.core.senders - 1) (let counts = whole.count_senders in omega arith))
-            (made-drop_sender run name (not_last e))
+            (made-drop_sender run name has_receiver (not_last e))

@@ -89,6 +89,7 @@ impl<T, W> Core<T, W> {
     }
 
     /// Gives a sender up. The last one closes the channel; the answer is whether that happened.
+    /// An open channel has somebody on the other side still.
     ///
     /// # Examples
     ///

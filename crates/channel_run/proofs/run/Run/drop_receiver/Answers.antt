@@ -34,7 +34,8 @@ invariant_of-self g c =
     let is = stepped-drop_receiver (kept_of c.self.inside) c.take.new.entries.entries c.self.invariant.0 c.args.name
     c.take.ensures.different known c.take.ensures.left
     (c.take.ensures.fewer (ap (λ found. is_some found) c.take.ensures.value
-    ∙ is_among-entry_at c.self.inside.receivers.entries c.args.name ∙ known)) in
+    ∙ is_among-entry_at c.self.inside.receivers.entries c.args.name ∙ known))
+    c.drop_receiver.ensures.other_side in
     let ticket : c.flatten-ticket.result ≡ ticket_at stream_ticket c.self.inside.receivers.entries c.args.name =
     c.flatten-ticket.ensures ∙ ap (λ found. option_flatten found) c.take.ensures.value
     ∙ flat (entry_at c.self.inside.receivers.entries c.args.name) in
@@ -52,7 +53,8 @@ returns g c =
     let is = stepped-drop_receiver (kept_of c.self.inside) c.take.new.entries.entries c.self.invariant.0 c.args.name
     c.take.ensures.different known c.take.ensures.left
     (c.take.ensures.fewer (ap (λ found. is_some found) c.take.ensures.value
-    ∙ is_among-entry_at c.self.inside.receivers.entries c.args.name ∙ known)) in
+    ∙ is_among-entry_at c.self.inside.receivers.entries c.args.name ∙ known))
+    c.drop_receiver.ensures.other_side in
     let ticket : c.flatten-ticket.result ≡ ticket_at stream_ticket c.self.inside.receivers.entries c.args.name =
     c.flatten-ticket.ensures ∙ ap (λ found. option_flatten found) c.take.ensures.value
     ∙ flat (entry_at c.self.inside.receivers.entries c.args.name) in

@@ -28,7 +28,7 @@ invariant_of-self g c =
     rw (← c.remove.ensures.left) (c.remove.ensures.fewer (sym c.has.ensures ∙ c.if-not-has.false)) in
     rw (c.drop_sender.ensures.after, c.remove.ensures.left) (
       (stepped-drop_sender (kept_of c.self.inside) c.self.invariant.0
-          c.args.name fewer).whole,
+          c.args.name fewer c.drop_sender.ensures.other_side).whole,
       c.self.invariant.1,
     )
 
@@ -45,4 +45,4 @@ returns g c =
     rw (← c.self.view_is, c.drop_sender.ensures.after, c.remove.ensures.left)
     (StepsTo-made run _ step _ (not_refused run step known refl free refl)
     (stepped-drop_sender (kept_of c.self.inside) c.self.invariant.0
-    c.args.name fewer).made)
+    c.args.name fewer c.drop_sender.ensures.other_side).made)
