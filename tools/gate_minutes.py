@@ -27,19 +27,32 @@ def work_of(words, folder):
     return crate, "tests" if "--test" in words else "proof"
 
 
+def stat_of(number):
+    """What the system tells of a process, from its state on: its parent is the second."""
+    return pathlib.Path(f"/proc/{number}/stat").read_text().rpartition(")")[2].split()
+
+
+def is_ours(number):
+    """Whether the process, or one that it comes from, works at the top of this repository."""
+    while number != "0":
+        if os.readlink(f"/proc/{number}/cwd") == ROOT:
+            return True
+        number = stat_of(number)[1]
+    return False
+
+
 def processes():
     """Each process of the prover in this repository: its identity, its work, its seconds."""
     for number in filter(str.isdigit, os.listdir("/proc")):
         try:
             words = pathlib.Path(f"/proc/{number}/cmdline").read_text().split("\0")
-            folder = os.readlink(f"/proc/{number}/cwd")
-            fields = pathlib.Path(f"/proc/{number}/stat").read_text().rpartition(")")[2].split()
+            if words[0].endswith("/rattle") and "--crate-name" in words and is_ours(number):
+                fields = stat_of(number)
+                seconds = (int(fields[11]) + int(fields[12])) / TICKS
+                folder = os.readlink(f"/proc/{number}/cwd")
+                yield (number, fields[19]), work_of(words, folder), seconds
         except (OSError, UnicodeDecodeError):
             continue
-        is_prover = words[0].endswith("/rattle") and "--crate-name" in words
-        if is_prover and any(ROOT + "/crates/" in word for word in [folder + "/", *words]):
-            seconds = (int(fields[11]) + int(fields[12])) / TICKS
-            yield (number, fields[19]), work_of(words, folder), seconds
 
 
 def main():
