@@ -1,7 +1,7 @@
 //! What both sides say of a channel, call by call: rows of calls, with the answers of all questions
 //! after each.
 use async_channel::{
-    CloneError, Receiver, Sender, StampMaker, WeakReceiver, WeakSender, bounded, unbounded,
+    Receiver, Sender, StampMaker, Tag, WeakReceiver, WeakSender, bounded, unbounded,
 };
 use std::alloc::{AllocError, AllocGlobal, Global};
 use std::process::Abort;
@@ -41,17 +41,41 @@ struct Handles<R: Wait + Clone + Drop> {
     weak_receivers: Vec<WeakReceiver<u64, R>>,
 }
 
+/// Gives up the last handle of a kind.
+fn drop_last<H: Drop>(handles: &mut Vec<H>) -> Result<(), Fail> {
+    match handles.pop() {
+        Some(handle) => Ok(drop(handle)),
+        None => Err("a handle".into()),
+    }
+}
+
+/// Copies the first sender.
+fn copy_sender<R: Wait + Clone + Drop>(senders: &mut Vec<Sender<u64, R>>) -> Result<(), Fail> {
+    let copy = senders.first().ok_or("a sender")?.try_clone()?;
+    Ok(senders.push(copy)?)
+}
+
+/// Copies the first receiver.
+fn copy_receiver<R: Wait + Clone + Drop>(
+    receivers: &mut Vec<Receiver<u64, R>>,
+) -> Result<(), Fail> {
+    let copy = receivers.first().ok_or("a receiver")?.try_clone()?;
+    Ok(receivers.push(copy)?)
+}
+
 impl<R: Wait + Clone + Drop> Handles<R> {
     fn make(&mut self, call: Call) -> Result<(), Fail> {
         match call {
-            Send(_) | CloseSender | CopySender | DowngradeSender => self.by_sender(call),
-            Take | CloseReceiver | CopyReceiver | DowngradeReceiver => self.by_receiver(call),
+            Send(_) | CloseSender | DowngradeSender => self.by_sender(call),
+            Take | CloseReceiver | DowngradeReceiver => self.by_receiver(call),
+            CopySender => copy_sender(&mut self.senders),
+            CopyReceiver => copy_receiver(&mut self.receivers),
             CopyWeakSender | UpgradeSender => self.by_weak_sender(call),
             CopyWeakReceiver | UpgradeReceiver => self.by_weak_receiver(call),
-            DropSender => Ok(drop(self.senders.pop().ok_or("a sender")?)),
-            DropReceiver => Ok(drop(self.receivers.pop().ok_or("a receiver")?)),
-            DropWeakSender => Ok(drop(self.weak_senders.pop().ok_or("a weak sender")?)),
-            DropWeakReceiver => Ok(drop(self.weak_receivers.pop().ok_or("a weak receiver")?)),
+            DropSender => drop_last(&mut self.senders),
+            DropReceiver => drop_last(&mut self.receivers),
+            DropWeakSender => drop_last(&mut self.weak_senders),
+            DropWeakReceiver => drop_last(&mut self.weak_receivers),
         }
     }
 
@@ -59,10 +83,6 @@ impl<R: Wait + Clone + Drop> Handles<R> {
         let sender = self.senders.first().ok_or("a sender")?;
         match call {
             Send(m) => drop(sender.try_send(m)?),
-            CopySender => {
-                let copy = sender.try_clone()?;
-                self.senders.push(copy)?;
-            }
             DowngradeSender => self.weak_senders.push(sender.downgrade()?)?,
             _ => drop(sender.close()),
         }
@@ -73,10 +93,6 @@ impl<R: Wait + Clone + Drop> Handles<R> {
         let receiver = self.receivers.first().ok_or("a receiver")?;
         match call {
             Take => drop(receiver.try_recv()),
-            CopyReceiver => {
-                let copy = receiver.try_clone()?;
-                self.receivers.push(copy)?;
-            }
             DowngradeReceiver => self.weak_receivers.push(receiver.downgrade()?)?,
             _ => drop(receiver.close()),
         }
@@ -157,6 +173,62 @@ fn handles_of<R: Wait + Clone + Drop>(
     })
 }
 
+/// What a channel was made with, and both ends of another one.
+#[derive(Drop)]
+struct Made<'a, R: Wait + Clone + Drop> {
+    capacity: Option<usize>,
+    tag: Tag,
+    other_s: &'a Sender<u64, R>,
+    other_r: &'a Receiver<u64, R>,
+}
+
+impl<R: Wait + Clone + Drop + AllocGlobal + Abort> Made<'_, R> {
+    /// Looks at what a sender says after the call.
+    fn look_at_sender(&self, rt: &R, s: &Sender<u64, R>, row: &(Call, &str)) -> Result<(), Fail> {
+        let (call, want) = row;
+        let said = said_by_sender(rt.alloc(), s)?;
+        assert!(rt; said.as_str() == *want, "{call:?}: {said}");
+        assert!(rt; s.capacity() == self.capacity && s.tag.same_channel(&self.tag));
+        assert!(rt; s.same_channel(s) && !s.same_channel(self.other_s));
+        Ok(())
+    }
+
+    /// Looks at what a receiver says after the call.
+    fn look_at_receiver(
+        &self,
+        rt: &R,
+        r: &Receiver<u64, R>,
+        row: &(Call, &str),
+    ) -> Result<(), Fail> {
+        let (call, want) = row;
+        let said = said_by_receiver(rt.alloc(), r)?;
+        assert!(rt; said.as_str() == *want, "{call:?}: {said}");
+        assert!(rt; r.is_terminated() == (r.is_closed() && r.is_empty()));
+        assert!(rt; r.capacity() == self.capacity && r.tag.same_channel(&self.tag));
+        assert!(rt; r.same_channel(r) && !r.same_channel(self.other_r));
+        Ok(())
+    }
+
+    /// Makes the calls in order, and looks at all strong handles after each.
+    fn make_rows(
+        &self,
+        rt: &R,
+        handles: &mut Handles<R>,
+        rows: &[(Call, &str)],
+    ) -> Result<(), Fail> {
+        for row in rows {
+            handles.make(row.0)?;
+            for s in &handles.senders {
+                self.look_at_sender(rt, s, row)?;
+            }
+            for r in &handles.receivers {
+                self.look_at_receiver(rt, r, row)?;
+            }
+        }
+        Ok(())
+    }
+}
+
 /// Makes the calls in order on a new channel. After each all strong handles say the same of it:
 /// how many messages it holds, how many senders and receivers live, and which of the questions are
 /// answered by true.
@@ -165,32 +237,32 @@ fn run<R: Wait + Clone + Drop + AllocGlobal + Abort>(
     capacity: Option<usize>,
     rows: &[(Call, &str)],
 ) -> Result<(), Fail> {
-    let alloc = rt.alloc();
     let mut maker = StampMaker::new();
-    let (other_s, other_r) = unbounded(rt, alloc, &mut maker)?;
+    let (other_s, other_r) = unbounded(rt, rt.alloc(), &mut maker)?;
+    run_beside(rt, &mut maker, &other_s, &other_r, capacity, rows)
+}
+
+/// Makes the calls in order on a new channel, which isn't the one of these ends.
+fn run_beside<R: Wait + Clone + Drop + AllocGlobal + Abort>(
+    rt: &R,
+    maker: &mut StampMaker,
+    other_s: &Sender<u64, R>,
+    other_r: &Receiver<u64, R>,
+    capacity: Option<usize>,
+    rows: &[(Call, &str)],
+) -> Result<(), Fail> {
     let (s, r) = match capacity {
-        Some(cap) if cap > 0 => bounded(rt, alloc, cap, &mut maker)?,
-        _ => unbounded(rt, alloc, &mut maker)?,
+        Some(cap) if cap > 0 => bounded(rt, rt.alloc(), cap, maker)?,
+        _ => unbounded(rt, rt.alloc(), maker)?,
     };
-    let tag = s.tag;
-    let mut handles = handles_of(alloc, s, r)?;
-    for (call, want) in rows {
-        handles.make(*call)?;
-        for s in &handles.senders {
-            let said = said_by_sender(alloc, s)?;
-            assert!(rt; said.as_str() == *want, "{call:?}: {said}");
-            assert!(rt; s.capacity() == capacity && s.tag.same_channel(&tag));
-            assert!(rt; s.same_channel(s) && !s.same_channel(&other_s));
-        }
-        for r in &handles.receivers {
-            let said = said_by_receiver(alloc, r)?;
-            assert!(rt; said.as_str() == *want, "{call:?}: {said}");
-            assert!(rt; r.is_terminated() == (r.is_closed() && r.is_empty()));
-            assert!(rt; r.capacity() == capacity && r.tag.same_channel(&tag));
-            assert!(rt; r.same_channel(r) && !r.same_channel(&other_r));
-        }
-    }
-    Ok(())
+    let made = Made {
+        capacity,
+        tag: s.tag,
+        other_s,
+        other_r,
+    };
+    let mut handles = handles_of(rt.alloc(), s, r)?;
+    made.make_rows(rt, &mut handles, rows)
 }
 
 #[test]

@@ -1,53 +1,111 @@
 //! A hundred thousand of each: no limit shows that the contracts don't tell.
 use crate::probe::channel;
+use async_channel::{Receiver, Recv, Sender};
 use futures::task::Poll;
 use futures::test::MockTask;
+use std::alloc::AllocGlobal;
+use std::process::Abort;
+use std::sync::Wait;
 use std::test::Fail;
 
 const MANY: u64 = 100_000;
 
-#[test]
-fn messages(rt: HostRuntime) -> Result<(), Fail> {
-    let (s, r) = channel(&rt, rt.alloc(), None)?;
+/// Sends so many messages, each by its number.
+fn send_many<R: Wait + Clone + Drop + Abort>(rt: &R, s: &Sender<u64, R>) {
     for m in 0..MANY {
         assert_eq!(rt; s.try_send(m), Ok(Ok(())));
     }
-    assert_eq!(rt; (s.len() as u64, r.len() as u64), (MANY, MANY));
+}
+
+/// Receives so many messages, and looks at the number of each.
+fn receive_many<R: Wait + Clone + Drop + Abort>(rt: &R, r: &Receiver<u64, R>) {
     for m in 0..MANY {
         assert_eq!(rt; r.try_recv(), Ok(m));
     }
+}
+
+#[test]
+fn messages(rt: HostRuntime) -> Result<(), Fail> {
+    let (s, r) = channel(&rt, rt.alloc(), None)?;
+    send_many(&rt, &s);
+    assert_eq!(rt; (s.len() as u64, r.len() as u64), (MANY, MANY));
+    receive_many(&rt, &r);
     assert!(rt; r.is_empty());
+    Ok(())
+}
+
+/// A receive that waits.
+fn waiting_receive<'a, R: Wait + Clone + Drop + Abort>(
+    rt: &R,
+    task: &MockTask,
+    r: &'a Receiver<u64, R>,
+) -> Recv<'a, u64, R> {
+    let mut recv = r.recv();
+    assert!(rt; matches!(&task.poll(&mut recv), Poll::Pending));
+    recv
+}
+
+/// Polls each receive, and looks at the number of its message.
+fn end_all<R: Wait + Clone + Drop + Abort>(
+    rt: &R,
+    task: &MockTask,
+    receives: &mut [Recv<'_, u64, R>],
+) {
+    for (m, recv) in (0..MANY).zip(receives.iter_mut()) {
+        assert!(rt; matches!(&task.poll(recv), Poll::Ready(Ok(Ok(got))) if *got == m));
+    }
+}
+
+/// Starts so many receives, sends as many messages, and polls all receives to their end.
+fn start_and_end<R: Wait + Clone + Drop + AllocGlobal + Abort>(
+    rt: &R,
+    task: &MockTask,
+    s: &Sender<u64, R>,
+    r: &Receiver<u64, R>,
+) -> Result<(), Fail> {
+    let mut receives = Vec::new(rt.alloc());
+    for _ in 0..MANY {
+        receives.push(waiting_receive(rt, task, r))?;
+    }
+    send_many(rt, s);
+    end_all(rt, task, &mut receives);
     Ok(())
 }
 
 #[test]
 fn receives_that_wait(rt: HostRuntime) -> Result<(), Fail> {
-    let (s, r) = channel(&rt, rt.alloc(), None)?;
     let task = MockTask::new(&rt)?;
-    let mut receives = Vec::new(rt.alloc());
+    let (s, r) = channel(&rt, rt.alloc(), None)?;
+    start_and_end(&rt, &task, &s, &r)
+}
+
+/// Both handles of a channel.
+type Pair<R> = (Sender<u64, R>, Receiver<u64, R>);
+
+fn copy_of_both<R: Wait + Clone + Drop>(
+    s: &Sender<u64, R>,
+    r: &Receiver<u64, R>,
+) -> Result<Pair<R>, Fail> {
+    Ok((s.try_clone()?, r.try_clone()?))
+}
+
+fn copy_many<R: Wait + Clone + Drop + AllocGlobal + Abort>(
+    rt: &R,
+    s: &Sender<u64, R>,
+    r: &Receiver<u64, R>,
+) -> Result<(), Fail> {
+    let mut copies = Vec::new(rt.alloc());
     for _ in 0..MANY {
-        let mut recv = r.recv();
-        assert!(rt; matches!(&task.poll(&mut recv), Poll::Pending));
-        receives.push(recv)?;
+        copies.push(copy_of_both(s, r)?)?;
     }
-    for m in 0..MANY {
-        assert_eq!(rt; s.try_send(m), Ok(Ok(())));
-    }
-    for (m, recv) in (0..MANY).zip(&mut receives) {
-        assert!(rt; matches!(&task.poll(recv), Poll::Ready(Ok(Ok(got))) if *got == m));
-    }
+    assert_eq!(rt; (s.sender_count(), r.receiver_count()), (100_001, 100_001));
     Ok(())
 }
 
 #[test]
 fn copies_of_both_handles(rt: HostRuntime) -> Result<(), Fail> {
-    let (s, r) = channel::<u64, _>(&rt, rt.alloc(), None)?;
-    let mut copies = Vec::new(rt.alloc());
-    for _ in 0..MANY {
-        copies.push((s.try_clone()?, r.try_clone()?))?;
-    }
-    assert_eq!(rt; (s.sender_count(), r.receiver_count()), (100_001, 100_001));
-    drop(copies);
+    let (s, r) = channel(&rt, rt.alloc(), None)?;
+    copy_many(&rt, &s, &r)?;
     assert_eq!(rt; (s.sender_count(), r.receiver_count()), (1, 1));
     Ok(())
 }

@@ -1,34 +1,51 @@
 //! Operations and streams, polled by hand.
 use crate::probe::channel;
+use async_channel::Sender;
 use futures::StreamExt;
 use futures::executor::block_on;
 use futures::task::Poll;
 use futures::test::MockTask;
+use std::process::Abort;
+use std::sync::Wait;
 use std::test::Fail;
 
-#[test]
-fn a_send_polled_to_its_end(rt: HostRuntime) -> Result<(), Fail> {
-    let (s, _r) = channel(&rt, rt.alloc(), Some(1))?;
-    let task = MockTask::new(&rt)?;
-    let mut send = s.send(7u64);
+/// Polls a send into a channel that has room.
+fn a_send_with_room<R: Wait + Clone + Drop + Abort>(rt: &R, task: &MockTask, s: &Sender<u64, R>) {
+    let mut send = s.send(7);
     assert!(rt; matches!(&task.poll(&mut send), Poll::Ready(Ok(Ok(())))));
     assert!(rt; send.is_terminated());
     assert!(rt; matches!(&task.poll(&mut send), Poll::Pending));
     assert!(rt; send.is_terminated());
     assert_eq!(rt; s.len(), 1);
     assert_eq!(rt; send.into_msg(), None);
+}
+
+/// Polls a send into a full channel.
+fn a_send_without_room<R: Wait + Clone + Drop + Abort>(
+    rt: &R,
+    task: &MockTask,
+    s: &Sender<u64, R>,
+) {
     let mut send = s.send(8);
     assert!(rt; matches!(&task.poll(&mut send), Poll::Pending));
     assert!(rt; !send.is_terminated());
     assert_eq!(rt; send.into_msg(), Some(8));
     assert_eq!(rt; s.len(), 1);
+}
+
+#[test]
+fn a_send_polled_to_its_end(rt: HostRuntime) -> Result<(), Fail> {
+    let task = MockTask::new(&rt)?;
+    let (s, _r) = channel(&rt, rt.alloc(), Some(1)).expect(&rt, "a channel");
+    a_send_with_room(&rt, &task, &s);
+    a_send_without_room(&rt, &task, &s);
     Ok(())
 }
 
 #[test]
 fn a_closed_future(rt: HostRuntime) -> Result<(), Fail> {
-    let (s, r) = channel::<u64, _>(&rt, rt.alloc(), None)?;
     let task = MockTask::new(&rt)?;
+    let (s, r) = channel::<u64, _>(&rt, rt.alloc(), None).expect(&rt, "a channel");
     let mut closed = s.closed();
     assert!(rt; matches!(&task.poll(&mut closed), Poll::Pending));
     assert!(rt; r.close());
@@ -42,8 +59,8 @@ fn a_closed_future(rt: HostRuntime) -> Result<(), Fail> {
 
 #[test]
 fn a_finished_receive_acts_as_new(rt: HostRuntime) -> Result<(), Fail> {
-    let (s, r) = channel(&rt, rt.alloc(), None)?;
     let task = MockTask::new(&rt)?;
+    let (s, r) = channel(&rt, rt.alloc(), None).expect(&rt, "a channel");
     assert_eq!(rt; s.try_send(1u64), Ok(Ok(())));
     let mut recv = r.recv();
     assert!(rt; matches!(&task.poll(&mut recv), Poll::Ready(Ok(Ok(1)))));
@@ -55,8 +72,8 @@ fn a_finished_receive_acts_as_new(rt: HostRuntime) -> Result<(), Fail> {
 
 #[test]
 fn a_second_pending_poll_wakes_nobody(rt: HostRuntime) -> Result<(), Fail> {
-    let (_s, r) = channel::<u64, _>(&rt, rt.alloc(), None)?;
     let task = MockTask::new(&rt)?;
+    let (_s, r) = channel::<u64, _>(&rt, rt.alloc(), None).expect(&rt, "a channel");
     let mut recv = r.recv();
     for _ in 0..2 {
         assert!(rt; matches!(&task.poll(&mut recv), Poll::Pending));
@@ -67,8 +84,8 @@ fn a_second_pending_poll_wakes_nobody(rt: HostRuntime) -> Result<(), Fail> {
 
 #[test]
 fn a_ready_poll_wakes_nobody(rt: HostRuntime) -> Result<(), Fail> {
-    let (s, r) = channel(&rt, rt.alloc(), None)?;
     let task = MockTask::new(&rt)?;
+    let (s, r) = channel(&rt, rt.alloc(), None).expect(&rt, "a channel");
     assert_eq!(rt; s.try_send(1u64), Ok(Ok(())));
     let mut recv = r.recv();
     assert!(rt; matches!(&task.poll(&mut recv), Poll::Ready(Ok(Ok(1)))));
@@ -76,13 +93,17 @@ fn a_ready_poll_wakes_nobody(rt: HostRuntime) -> Result<(), Fail> {
     Ok(())
 }
 
+/// Sends three messages, and gives the sender up.
+fn send_three<R: Wait + Clone + Drop + Abort>(rt: &R, s: Sender<u64, R>) {
+    for m in 0..3 {
+        assert_eq!(rt; s.try_send(m), Ok(Ok(())));
+    }
+}
+
 #[test]
 fn a_stream_is_collected(rt: HostRuntime) -> Result<(), Fail> {
     let (s, r) = channel(&rt, rt.alloc(), None)?;
-    for m in 0..3u64 {
-        assert_eq!(rt; s.try_send(m), Ok(Ok(())));
-    }
-    drop(s);
+    send_three(&rt, s);
     assert!(rt; !r.is_terminated());
     let all = block_on(&rt, r.collect(rt.alloc()))??;
     assert_eq!(rt; all.as_slice(), [Ok(0), Ok(1), Ok(2)].as_slice());

@@ -29,7 +29,7 @@ pub enum Call {
 }
 
 /// What a call answers.
-#[derive(Debug, Drop, PartialEq, Eq)]
+#[derive(Clone, Copy, Debug, PartialEq, Eq)]
 pub enum Answer {
     TrySent(Result<(), TrySendError<u64>>),
     Forced(Result<Option<u64>, SendError<u64>>),
@@ -96,22 +96,37 @@ impl<R: Wait + Clone + Drop + RandomSource + AllocGlobal> Probe<R> {
     }
 }
 
+/// What comes of a send that is polled to its end.
+fn sent_by_polls<R: Wait + Clone + Drop + RandomSource + AllocGlobal>(
+    rt: &R,
+    sender: &Sender<u64, R>,
+    message: u64,
+) -> Result<Answer, Fail> {
+    Ok(Answer::Sent(block_on(rt, sender.send(message))??))
+}
+
+/// Polls a closed operation to its end.
+fn closed_by_polls<R: Wait + Clone + Drop + RandomSource + AllocGlobal>(
+    rt: &R,
+    sender: &Sender<u64, R>,
+) -> Result<Answer, Fail> {
+    block_on(rt, sender.closed())??;
+    Ok(Answer::Done)
+}
+
 fn sent<R: Wait + Clone + Drop + RandomSource + AllocGlobal>(
     rt: &R,
     sender: &Sender<u64, R>,
     call: Call,
 ) -> Result<Answer, Fail> {
-    Ok(match call {
-        Call::TrySend(m) => Answer::TrySent(sender.try_send(m)?),
-        Call::ForceSend(m) => Answer::Forced(sender.force_send(m)?),
-        Call::Send(m) => Answer::Sent(block_on(rt, sender.send(m))??),
-        Call::SendBlocking(m) => Answer::Sent(sender.send_blocking(m)?),
-        Call::AwaitClosed => {
-            block_on(rt, sender.closed())??;
-            Answer::Done
-        }
-        _ => Answer::Flag(sender.close()),
-    })
+    match call {
+        Call::TrySend(m) => Ok(Answer::TrySent(sender.try_send(m)?)),
+        Call::ForceSend(m) => Ok(Answer::Forced(sender.force_send(m)?)),
+        Call::Send(m) => sent_by_polls(rt, sender, m),
+        Call::SendBlocking(m) => Ok(Answer::Sent(sender.send_blocking(m)?)),
+        Call::AwaitClosed => closed_by_polls(rt, sender),
+        _ => Ok(Answer::Flag(sender.close())),
+    }
 }
 
 fn received<R: Wait + Clone + Drop + RandomSource + AllocGlobal>(
@@ -127,6 +142,19 @@ fn received<R: Wait + Clone + Drop + RandomSource + AllocGlobal>(
     })
 }
 
+/// Makes the calls in order, and looks at each answer.
+fn make_rows<R: Wait + Clone + Drop + RandomSource + AllocGlobal + Abort>(
+    rt: &R,
+    probe: &mut Probe<R>,
+    rows: &[(Call, Answer)],
+) -> Result<(), Fail> {
+    for (call, want) in rows {
+        let got = probe.answer(rt, *call)?;
+        assert!(rt; got == *want, "{call:?} answers {got:?}");
+    }
+    Ok(())
+}
+
 /// Makes the calls in order on a new channel, and looks at each answer.
 pub fn run<R: Wait + Clone + Drop + RandomSource + AllocGlobal + Abort>(
     rt: &R,
@@ -138,9 +166,5 @@ pub fn run<R: Wait + Clone + Drop + RandomSource + AllocGlobal + Abort>(
         sender: Some(sender),
         receiver: Some(receiver),
     };
-    for (call, want) in rows {
-        let got = probe.answer(rt, *call)?;
-        assert!(rt; got == *want, "{call:?} answers {got:?}");
-    }
-    Ok(())
+    make_rows(rt, &mut probe, rows)
 }

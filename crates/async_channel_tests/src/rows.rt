@@ -9,8 +9,8 @@ use std::test::Fail;
 #[test]
 fn the_first_example(rt: HostRuntime) -> Result<(), Fail> {
     let (s, r) = channel(&rt, rt.alloc(), None)?;
-    assert_eq!(rt; block_on(&rt, s.send("Hello"))?, Ok(Ok(())));
-    assert_eq!(rt; block_on(&rt, r.recv())?, Ok(Ok("Hello")));
+    assert_eq!(rt; block_on(&rt, s.send("Hello")).ok(), Some(Ok(Ok(()))));
+    assert_eq!(rt; block_on(&rt, r.recv()).ok(), Some(Ok(Ok("Hello"))));
     Ok(())
 }
 

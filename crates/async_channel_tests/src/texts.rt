@@ -1,12 +1,14 @@
 //! What handles and errors write.
 use crate::probe::channel;
 use async_channel::{
-    CloneError, MakeError, NoMemory, OutOfMemory, RecvError, SendError, TryRecvError, TrySendError,
+    CloneError, MakeError, NoMemory, OutOfMemory, Receiver, RecvError, SendError, Sender,
+    TryRecvError, TrySendError,
 };
 use std::alloc::Global;
 use std::error::Error;
 use std::fmt::Debug;
 use std::process::Abort;
+use std::sync::Wait;
 use std::test::Fail;
 
 /// A message without texts.
@@ -84,12 +86,21 @@ fn texts_of_own_errors(rt: HostRuntime) -> Result<(), Fail> {
     reads(&rt, alloc, &CloneError::OutOfMemory, memory, "OutOfMemory")
 }
 
+/// Looks at what the handles of a channel write.
+fn handles_show<R: Wait + Clone + Drop + Abort>(
+    rt: &R,
+    alloc: Global,
+    s: &Sender<Silent, R>,
+    r: &Receiver<Silent, R>,
+) -> Result<(), Fail> {
+    shows(rt, alloc, s, "Sender { .. }")?;
+    shows(rt, alloc, r, "Receiver { .. }")?;
+    shows(rt, alloc, &s.downgrade()?, "WeakSender { .. }")?;
+    shows(rt, alloc, &r.downgrade()?, "WeakReceiver { .. }")
+}
+
 #[test]
 fn texts_of_handles(rt: HostRuntime) -> Result<(), Fail> {
-    let alloc = rt.alloc();
-    let (s, r) = channel::<Silent, _>(&rt, alloc, None)?;
-    shows(&rt, alloc, &s, "Sender { .. }")?;
-    shows(&rt, alloc, &r, "Receiver { .. }")?;
-    shows(&rt, alloc, &s.downgrade()?, "WeakSender { .. }")?;
-    shows(&rt, alloc, &r.downgrade()?, "WeakReceiver { .. }")
+    let (s, r) = channel(&rt, rt.alloc(), None)?;
+    handles_show(&rt, rt.alloc(), &s, &r)
 }

@@ -4,6 +4,7 @@ use async_channel::{Receiver, RecvError, SendError, Sender, TryRecvError, TrySen
 use futures::StreamExt;
 use futures::executor::block_on;
 use std::alloc::{AllocError, AllocGlobal, Global};
+use std::process::Abort;
 use std::random::RandomSource;
 use std::sync::Wait;
 use std::sync::atomic::{AtomicU64, Ordering};
@@ -112,7 +113,8 @@ fn try_recv(rt: HostRuntime) -> Result<(), Fail> {
         let sender = thread::spawn(
             &rt,
             move || matches!(block_on(&rt, s.send(7u64)), Ok(Ok(Ok(())))),
-        )?;
+        );
+        let sender = sender.expect(&rt, "a thread");
         assert!(rt; holds(&r, 1));
         assert_eq!(rt; r.try_recv(), Ok(7));
         assert!(rt; closes(&r));
@@ -138,7 +140,10 @@ fn send(rt: HostRuntime) -> Result<(), Fail> {
     let (s, r) = channel(&rt, rt.alloc(), None)?;
     assert!(rt; send_all(&rt, &s));
     drop(r);
-    assert_eq!(rt; block_on(&rt, s.send(777))?, Ok(Err(SendError(777))));
+    assert_eq!(rt;
+        block_on(&rt, s.send(777)).ok(),
+        Some(Ok(Err(SendError(777))))
+    );
     Ok(())
 }
 
@@ -176,38 +181,64 @@ fn len(rt: HostRuntime) -> Result<(), Fail> {
     Ok(())
 }
 
+/// Sends each number, and answers whether all were accepted and the length never passed the
+/// capacity.
+fn send_within<R: Wait + Clone + Drop + RandomSource + AllocGlobal>(
+    rt: &R,
+    s: &Sender<u64, R>,
+    capacity: usize,
+) -> bool {
+    for number in 0..COUNT {
+        let is_sent = matches!(block_on(rt, s.send(number)), Ok(Ok(Ok(()))));
+        if !is_sent || s.len() > capacity {
+            return false;
+        }
+    }
+    true
+}
+
+/// Receives each number in order, and looks at the length after each.
+fn receive_within<R: Wait + Clone + Drop + RandomSource + AllocGlobal + Abort>(
+    rt: &R,
+    r: &Receiver<u64, R>,
+    capacity: usize,
+) {
+    for number in 0..COUNT {
+        assert_eq!(rt; block_on(rt, r.recv()).ok(), Some(Ok(Ok(number))));
+        assert!(rt; r.len() <= capacity);
+    }
+}
+
 #[test]
 fn len_under_threads(rt: HostRuntime) -> Result<(), Fail> {
     for capacity in [1, 10, 1_000] {
         let (s, r) = channel(&rt, rt.alloc(), Some(capacity))?;
-        let sender = thread::spawn(&rt, move || {
-            for number in 0..COUNT {
-                let is_sent = matches!(block_on(&rt, s.send(number)), Ok(Ok(Ok(()))));
-                if !is_sent || s.len() > capacity {
-                    return false;
-                }
-            }
-            true
-        })?;
-        for number in 0..COUNT {
-            assert_eq!(rt; block_on(&rt, r.recv())?, Ok(Ok(number)));
-            assert!(rt; r.len() <= capacity);
-        }
+        let sender = thread::spawn(&rt, move || send_within(&rt, &s, capacity));
+        let sender = sender.expect(&rt, "a thread");
+        receive_within(&rt, &r, capacity);
         assert!(rt; sender.join(&rt));
         assert_eq!(rt; r.len(), 0);
     }
     Ok(())
 }
 
+/// Receives each number in order, and then the end.
+fn receive_to_the_end<R: Wait + Clone + Drop + RandomSource + AllocGlobal + Abort>(
+    rt: &R,
+    r: &Receiver<u64, R>,
+) {
+    for number in 0..COUNT {
+        assert_eq!(rt; block_on(rt, r.recv()).ok(), Some(Ok(Ok(number))));
+    }
+    assert_eq!(rt; block_on(rt, r.recv()).ok(), Some(Ok(Err(RecvError))));
+}
+
 #[test]
 fn spsc(rt: HostRuntime) -> Result<(), Fail> {
     for capacity in [Some(3), None] {
         let (s, r) = channel(&rt, rt.alloc(), capacity)?;
-        let sender = thread::spawn(&rt, move || send_all(&rt, &s))?;
-        for number in 0..COUNT {
-            assert_eq!(rt; block_on(&rt, r.recv())?, Ok(Ok(number)));
-        }
-        assert_eq!(rt; block_on(&rt, r.recv())?, Ok(Err(RecvError)));
+        let sender = thread::spawn(&rt, move || send_all(&rt, &s)).expect(&rt, "a thread");
+        receive_to_the_end(&rt, &r);
         assert!(rt; sender.join(&rt));
     }
     Ok(())
@@ -216,8 +247,8 @@ fn spsc(rt: HostRuntime) -> Result<(), Fail> {
 #[test]
 fn mpmc(rt: HostRuntime) -> Result<(), Fail> {
     for capacity in [Some(3), None] {
-        let (s, r) = channel(&rt, rt.alloc(), capacity)?;
         let seen = tally(rt.alloc())?;
+        let (s, r) = channel(&rt, rt.alloc(), capacity).expect(&rt, "a channel");
         let (sender, receiver, noted) = (&s, &r, seen.as_slice());
         thread::scope(thread::scope_env(), &rt, |scope| {
             for _ in 0..THREADS {
@@ -236,8 +267,8 @@ fn mpmc(rt: HostRuntime) -> Result<(), Fail> {
 #[test]
 fn mpmc_stream(rt: HostRuntime) -> Result<(), Fail> {
     for capacity in [Some(3), None] {
-        let (s, r) = channel(&rt, rt.alloc(), capacity)?;
         let seen = tally(rt.alloc())?;
+        let (s, r) = channel(&rt, rt.alloc(), capacity).expect(&rt, "a channel");
         let (sender, noted) = (&s, seen.as_slice());
         thread::scope(thread::scope_env(), &rt, |scope| {
             for _ in 0..THREADS {
