@@ -3,7 +3,7 @@ use channel_core::{Core, Group, Quiet};
 use channel_run::{End, Kind, Reply, Run, Side, Step, run_all};
 use event_list::{Ticket, WaitList};
 use futures::task::Poll;
-use std::alloc::{AllocError, Global};
+use std::alloc::Global;
 use std::process::Abort;
 use std::test::Fail;
 
@@ -12,14 +12,13 @@ const MANY: u64 = 100_000;
 /// How many operations of a run live at once: a run looks some of them up one by one.
 const NAMES: u64 = 10_000;
 
-fn listen(list: &mut WaitList<u64>, tickets: &mut Vec<Ticket>) -> Result<(), Fail> {
+fn listen(rt: &impl Abort, list: &mut WaitList<u64>, tickets: &mut Vec<Ticket>) {
     for number in 0..MANY {
         let Ok(ticket) = list.listen(number) else {
-            return Err("no room".into());
+            panic!(rt; "no room");
         };
-        tickets.push(ticket)?;
+        tickets.push(ticket).expect(rt, "memory");
     }
-    Ok(())
 }
 
 fn tell(rt: &impl Abort, list: &mut WaitList<u64>) {
@@ -39,18 +38,16 @@ fn leave(rt: &impl Abort, list: &mut WaitList<u64>, tickets: Vec<Ticket>) {
 fn a_waiting_list(rt: HostRuntime) -> Result<(), Fail> {
     let mut list = WaitList::new(rt.alloc());
     let mut tickets = Vec::new(rt.alloc());
-    listen(&mut list, &mut tickets)?;
+    listen(&rt, &mut list, &mut tickets);
     tell(&rt, &mut list);
     leave(&rt, &mut list, tickets);
     Ok(())
 }
 
-fn fill(rt: &impl Abort, core: &mut Core<u64, u64>) -> Result<(), Fail> {
+fn fill(rt: &impl Abort, core: &mut Core<u64, u64>) {
     for m in 0..MANY {
-        let sent = core.try_send(m, &mut Quiet)?;
-        assert!(rt; sent.is_ok());
+        assert_eq!(rt; core.try_send(m, &mut Quiet), Ok(Ok(())));
     }
-    Ok(())
 }
 
 fn empty(rt: &impl Abort, core: &mut Core<u64, u64>) {
@@ -64,56 +61,47 @@ fn empty(rt: &impl Abort, core: &mut Core<u64, u64>) {
 #[test]
 fn messages_in_a_core(rt: HostRuntime) -> Result<(), Fail> {
     let mut core = Core::unbounded(rt.alloc());
-    fill(&rt, &mut core)?;
+    fill(&rt, &mut core);
     empty(&rt, &mut core);
     Ok(())
 }
 
-fn wait(
-    rt: &impl Abort,
-    core: &mut Core<u64, u64>,
-    tickets: &mut Vec<Option<Ticket>>,
-) -> Result<(), Fail> {
+fn wait(rt: &impl Abort, core: &mut Core<u64, u64>, tickets: &mut Vec<Option<Ticket>>) {
     for number in 0..MANY {
         let mut ticket = None;
-        let polled = core.poll_recv(&mut ticket, number, &mut Quiet)?;
-        assert!(rt; polled == Poll::Pending);
-        tickets.push(ticket)?;
+        let polled = core.poll_recv(&mut ticket, number, &mut Quiet);
+        assert!(rt; polled == Ok(Poll::Pending));
+        tickets.push(ticket).expect(rt, "memory");
     }
     assert!(rt; core.waiting(Group::Receives) as u64 == MANY);
-    Ok(())
 }
 
-fn receive(
-    rt: &impl Abort,
-    core: &mut Core<u64, u64>,
-    tickets: Vec<Option<Ticket>>,
-) -> Result<(), Fail> {
+fn receive(rt: &impl Abort, core: &mut Core<u64, u64>, tickets: Vec<Option<Ticket>>) {
     assert!(rt; core.told(Group::Receives) as u64 == MANY);
     for (m, ticket) in (0..MANY).zip(tickets) {
         let mut ticket = ticket;
-        let polled = core.poll_recv(&mut ticket, m, &mut Quiet)?;
-        assert!(rt; polled == Poll::Ready(Ok(m)));
+        let polled = core.poll_recv(&mut ticket, m, &mut Quiet);
+        assert!(rt; polled == Ok(Poll::Ready(Ok(m))));
     }
     assert!(rt; core.waiting(Group::Receives) == 0);
-    Ok(())
 }
 
 #[test]
 fn receives_at_a_core(rt: HostRuntime) -> Result<(), Fail> {
     let mut core = Core::unbounded(rt.alloc());
     let mut tickets = Vec::new(rt.alloc());
-    wait(&rt, &mut core, &mut tickets)?;
-    fill(&rt, &mut core)?;
-    receive(&rt, &mut core, tickets)
+    wait(&rt, &mut core, &mut tickets);
+    fill(&rt, &mut core);
+    receive(&rt, &mut core, tickets);
+    Ok(())
 }
 
-fn sends(alloc: Global) -> Result<Vec<Step<u64>>, AllocError> {
+fn sends(rt: &impl Abort, alloc: Global) -> Vec<Step<u64>> {
     let mut steps = Vec::new(alloc);
     for m in 0..MANY {
-        steps.push(Step::TrySend(0, m))?;
+        steps.push(Step::TrySend(0, m)).expect(rt, "memory");
     }
-    Ok(steps)
+    steps
 }
 
 fn look(rt: &impl Abort, end: &mut End<u64>) {
@@ -123,9 +111,9 @@ fn look(rt: &impl Abort, end: &mut End<u64>) {
 
 #[test]
 fn steps_of_a_run(rt: HostRuntime) -> Result<(), Fail> {
-    let steps = sends(rt.alloc())?;
+    let steps = sends(&rt, rt.alloc());
     let Ok(mut end) = run_all(rt.alloc(), Kind::Unbounded, steps) else {
-        return Err("memory was refused".into());
+        panic!(rt; "memory was refused");
     };
     look(&rt, &mut end);
     Ok(())

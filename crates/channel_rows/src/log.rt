@@ -45,47 +45,39 @@ impl Log {
     }
 
     /// Takes down the reply to a step.
-    pub fn replied(
-        &mut self,
-        rt: &impl Abort,
-        asked: Asked,
-        reply: Reply<u64>,
-    ) -> Result<(), AllocError> {
-        let is_answer = self.is_answer(asked, &reply)?;
-        assert!(rt; is_answer, "{reply:?}");
-        writeln!(self.text, "{}", ReplyText(reply))
+    pub fn replied(&mut self, rt: &impl Abort, asked: Asked, reply: Reply<u64>) {
+        assert!(rt;
+            self.is_answer(asked, &reply).expect(rt, "memory"),
+            "{reply:?}"
+        );
+        writeln!(self.text, "{}", ReplyText(reply)).expect(rt, "memory");
     }
 
     /// Takes down the replies to a list of steps.
-    pub fn replied_all(
-        &mut self,
-        rt: &impl Abort,
-        asked: Vec<Asked>,
-        replies: Vec<Reply<u64>>,
-    ) -> Result<(), AllocError> {
+    pub fn replied_all(&mut self, rt: &impl Abort, asked: Vec<Asked>, replies: Vec<Reply<u64>>) {
         assert!(rt; asked.len() == replies.len());
         for (asked, reply) in asked.into_iter().zip(replies) {
-            self.replied(rt, asked, reply)?;
+            self.replied(rt, asked, reply);
         }
-        Ok(())
     }
 
-    pub fn noticed(&mut self, notice: Notice) -> Result<(), AllocError> {
-        writeln!(self.text, "{}", NoticeText(notice))
+    pub fn noticed(&mut self, rt: &impl Abort, notice: Notice) {
+        writeln!(self.text, "{}", NoticeText(notice)).expect(rt, "memory");
     }
 
-    pub fn settled(&mut self, rt: &impl Abort, settled: Settled<u64>) -> Result<(), AllocError> {
+    pub fn settled(&mut self, rt: &impl Abort, settled: Settled<u64>) {
         let Settled { polls, finished } = settled;
-        writeln!(self.text, "settled {polls} {}", finished.len())?;
+        writeln!(self.text, "settled {polls} {}", finished.len()).expect(rt, "memory");
         for (who, reply) in finished {
-            self.polled(rt, who, reply)?;
+            self.polled(rt, who, reply);
         }
-        Ok(())
     }
 
-    fn polled(&mut self, rt: &impl Abort, who: Who, reply: Reply<u64>) -> Result<(), AllocError> {
-        let is_wanted = self.is_wanted(poll_of(who), &reply)?;
-        assert!(rt; is_wanted, "{reply:?}");
-        writeln!(self.text, "{} {}", WhoText(who), ReplyText(reply))
+    fn polled(&mut self, rt: &impl Abort, who: Who, reply: Reply<u64>) {
+        assert!(rt;
+            self.is_wanted(poll_of(who), &reply).expect(rt, "memory"),
+            "{reply:?}"
+        );
+        writeln!(self.text, "{} {}", WhoText(who), ReplyText(reply)).expect(rt, "memory");
     }
 }

@@ -6,7 +6,7 @@ use crate::asked::Asked;
 use crate::log::Log;
 use channel_run::{End, Kind, Run, Step, run_all};
 use chanrun::grammar::{Command, command_of, kind_of};
-use std::alloc::{AllocError, Global};
+use std::alloc::Global;
 use std::process::Abort;
 use std::test::Fail;
 use worked_rows::{Row, TOPICS};
@@ -46,48 +46,28 @@ fn commands(alloc: Global, lines: &str) -> Result<Vec<Command>, Fail> {
 }
 
 /// Makes one step, sees one notice, or settles.
-fn make(
-    rt: &impl Abort,
-    run: &mut Run<u64>,
-    command: Command,
-    log: &mut Log,
-) -> Result<(), AllocError> {
+fn make(rt: &impl Abort, run: &mut Run<u64>, command: Command, log: &mut Log) {
     match command {
         Command::Make(step) => {
             let asked = Asked::of(&step);
-            log.replied(rt, asked, run.step(step))
+            log.replied(rt, asked, run.step(step));
         }
-        Command::Notice(who) => log.noticed(run.notice_of(who)),
-        Command::Settle => match run.settle() {
-            Ok(settled) => log.settled(rt, settled),
-            Err(_) => Err(AllocError),
-        },
+        Command::Notice(who) => log.noticed(rt, run.notice_of(who)),
+        Command::Settle => log.settled(rt, run.settle().expect(rt, "memory")),
     }
 }
 
-fn make_all(
-    rt: &impl Abort,
-    run: &mut Run<u64>,
-    commands: Vec<Command>,
-    log: &mut Log,
-) -> Result<(), AllocError> {
+fn make_all(rt: &impl Abort, run: &mut Run<u64>, commands: Vec<Command>, log: &mut Log) {
     for command in commands {
-        make(rt, run, command, log)?;
+        make(rt, run, command, log);
     }
-    Ok(())
 }
 
-fn step_by_step(
-    rt: &impl Abort,
-    alloc: Global,
-    kind: Kind,
-    commands: Vec<Command>,
-    log: &mut Log,
-) -> Result<(), Fail>
+fn step_by_step(rt: &impl Abort, alloc: Global, kind: Kind, commands: Vec<Command>, log: &mut Log)
     requires { HasPositiveCapacity kind }
 {
-    let mut run = Run::new(alloc, kind)?;
-    Ok(make_all(rt, &mut run, commands, log)?)
+    let mut run = Run::new(alloc, kind).expect(rt, "memory");
+    make_all(rt, &mut run, commands, log);
 }
 
 /// The steps that the commands begin with, what is known of each, and the commands behind them.
@@ -99,49 +79,42 @@ struct Beginning {
 }
 
 impl Beginning {
-    fn of(alloc: Global, commands: Vec<Command>) -> Result<Beginning, AllocError> {
+    fn of(rt: &impl Abort, alloc: Global, commands: Vec<Command>) -> Beginning {
         let mut beginning = Beginning {
             steps: Vec::new(alloc),
             asked: Vec::new(alloc),
             others: Vec::new(alloc),
         };
         for command in commands {
-            beginning.take(command)?;
+            beginning.take(rt, command);
         }
-        Ok(beginning)
+        beginning
     }
 
-    fn take(&mut self, command: Command) -> Result<(), AllocError> {
+    fn take(&mut self, rt: &impl Abort, command: Command) {
         match command {
             Command::Make(step) if self.others.is_empty() => {
-                self.asked.push(Asked::of(&step))?;
-                self.steps.push(step)?;
+                self.asked.push(Asked::of(&step)).expect(rt, "memory");
+                self.steps.push(step).expect(rt, "memory");
             }
-            other => self.others.push(other)?,
+            other => self.others.push(other).expect(rt, "memory"),
         }
-        Ok(())
     }
 }
 
-fn as_list(
-    rt: &impl Abort,
-    alloc: Global,
-    kind: Kind,
-    commands: Vec<Command>,
-    log: &mut Log,
-) -> Result<(), Fail>
+fn as_list(rt: &impl Abort, alloc: Global, kind: Kind, commands: Vec<Command>, log: &mut Log)
     requires { HasPositiveCapacity kind }
 {
     let Beginning {
         steps,
         asked,
         others,
-    } = Beginning::of(alloc, commands)?;
+    } = Beginning::of(rt, alloc, commands);
     let Ok(End { replies, mut run }) = run_all(alloc, kind, steps) else {
-        return Err("memory was refused".into());
+        panic!(rt; "memory was refused");
     };
-    log.replied_all(rt, asked, replies).expect(rt, "memory");
-    Ok(make_all(rt, &mut run, others, log)?)
+    log.replied_all(rt, asked, replies);
+    make_all(rt, &mut run, others, log);
 }
 
 /// Makes the script in this way.
@@ -159,13 +132,20 @@ fn make_script(
         Way::StepByStep => step_by_step(rt, alloc, kind, commands, log),
         Way::AsList => as_list(rt, alloc, kind, commands, log),
     }
+    Ok(())
+}
+
+/// What the script's run answered, made in this way.
+fn log_of(rt: &impl Abort, alloc: Global, script: &str, way: Way) -> Result<Log, Fail> {
+    let mut log = Log::new(alloc);
+    make_script(rt, alloc, script, way, &mut log)?;
+    Ok(log)
 }
 
 fn holds(rt: &impl Abort, alloc: Global, row: Row, way: Way) -> Result<(), Fail> {
     let script = row.script(alloc)?;
-    let replies = row.replies(alloc)?;
-    let mut log = Log::new(alloc);
-    make_script(rt, alloc, script.as_str(), way, &mut log)?;
+    let log = log_of(rt, alloc, script.as_str(), way)?;
+    let replies = row.replies(alloc).expect(rt, "memory");
     let (name, text) = (row.name, log.text);
     assert!(rt; text == replies, "{name}: {text:?} in place of {replies:?}");
     Ok(())
