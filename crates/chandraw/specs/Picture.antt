@@ -36,14 +36,16 @@ pub record IsPicture (form : Form) (text bytes : List ℕ) : Type 0 where
 
 -- rows of this text were written
 abbrev pub HasRows : Form → (text : List ℕ) → (written written' : Option (List ℕ)) → Type 0
-HasRows form text written written' = (bytes : List ℕ) × AreRows form text bytes × Appends written written' bytes
+HasRows form text written written' =
+    (bytes : List ℕ) × AreRows form text bytes × Appends written written' bytes
 
 -- a picture of this text was written
 abbrev pub HasPicture : Form → (text : List ℕ) → (written written' : Option (List ℕ)) → Type 0
-HasPicture form text written written' = (bytes : List ℕ) × IsPicture form text bytes × Appends written written' bytes
+HasPicture form text written written' =
+    (bytes : List ℕ) × IsPicture form text bytes × Appends written written' bytes
 
--- A line was drawn after a past that stood for the run: rows of what answers its command were written. Or it is
--- faulty, and nothing was written.
+-- A line was drawn after a past that stood for the run: rows of what answers its command were
+-- written. Or it is faulty, and nothing was written.
 abbrev pub IsLineDrawn : Form → Kind → Past ℕ → (line : List ℕ) → Option Fault → (run : View ℕ)
     → (written written' : Option (List ℕ)) → Type 0
 IsLineDrawn form kind past line None run written written' =
@@ -53,10 +55,11 @@ IsLineDrawn form kind past line None run written written' =
 IsLineDrawn form kind past line (Some fault) run written written' =
     (command_of line ≡ Err fault) × (written' ≡ written)
 
--- A script was read whole, and a picture of its text was written: of the replies to its lines up to the first faulty
--- one, if there is one.
-pub record IsScriptDrawn (form : Form) (fault : Option (ℕ × Fault)) (left left' : Option (List ℕ)) (ended : Bool)
-    (written written' : Option (List ℕ)) : Type 0 where
+-- A script was read whole, and a picture of its text was written: of the replies to its lines up to
+-- the first faulty one, if there is one.
+pub record IsScriptDrawn (form : Form) (fault : Option (ℕ × Fault))
+    (left left' : Option (List ℕ)) (ended : Bool) (written written' : Option (List ℕ))
+    : Type 0 where
   pub input : List ℕ
   pub read : HasRead left left' ended input
   pub first : script_fault input ≡ fault

@@ -45,7 +45,8 @@ pieces_bytes form pieces = flat_map (piece_bytes form) pieces
 -- a reply, escaped, between pieces
 abbrev pub row_bytes : Form → Row → List ℕ
 row_bytes form row =
-    pieces_bytes form row.head.items ++ (escaped form (string_bytes row.reply) ++ pieces_bytes form row.tail.items)
+    pieces_bytes form row.head.items
+    ++ (escaped form (string_bytes row.reply) ++ pieces_bytes form row.tail.items)
 
 -- a reply's text as a line
 abbrev pub text_line : {A : Type 0} → String A → List ℕ

@@ -13,31 +13,50 @@ fn who_text(alloc: Global, table: &Table, who: Who) -> Result<String, AllocError
     Ok(text)
 }
 
-/// The first of those who wait in a list, as texts.
-pub(crate) fn waiting_texts(
+/// Adds the first of those who wait in a list, as texts.
+pub(crate) fn add_waiting(
+    texts: &mut Vec<String>,
     alloc: Global,
     table: &Table,
     list: &[Who],
     width: usize,
-) -> Result<Vec<String>, AllocError> {
-    let mut texts = Vec::new(alloc);
+) -> Result<(), AllocError> {
     for who in list.iter().take(width) {
         texts.push(who_text(alloc, table, *who)?)?;
     }
-    Ok(texts)
+    Ok(())
 }
 
-/// The first messages that are held, as texts.
-pub(crate) fn held_texts(
+/// Those who wait in a list, to this width.
+pub(crate) fn waiting_cell(
+    alloc: Global,
+    table: &Table,
+    list: &[Who],
+    width: usize,
+) -> Result<Vec<u8>, AllocError> {
+    let mut texts = Vec::new(alloc);
+    add_waiting(&mut texts, alloc, table, list, width)?;
+    fitted(alloc, texts.as_slice(), list.len(), width)
+}
+
+// Adds the first messages that are held, as texts.
+fn add_messages(
+    texts: &mut Vec<String>,
     alloc: Global,
     table: &Table,
     width: usize,
-) -> Result<Vec<String>, AllocError> {
-    let mut texts = Vec::new(alloc);
+) -> Result<(), AllocError> {
     for held in table.held.iter().take(width) {
         texts.push(format!(in alloc; "{}", held.message)?)?;
     }
-    Ok(texts)
+    Ok(())
+}
+
+/// The messages that are held, to this width.
+pub(crate) fn held_cell(alloc: Global, table: &Table, width: usize) -> Result<Vec<u8>, AllocError> {
+    let mut texts = Vec::new(alloc);
+    add_messages(&mut texts, alloc, table, width)?;
+    fitted(alloc, texts.as_slice(), table.held.len(), width)
 }
 
 // How many digits a number has.
@@ -60,6 +79,48 @@ fn add_word(cell: &mut Vec<u8>, text: &str) -> Result<(), AllocError> {
     cell.extend_from_slice(text.as_bytes())
 }
 
+// How wide a cell is with this text behind it, and with the number of those that are left then.
+fn width_with(cell: &[u8], text: &str, left: usize) -> usize {
+    let space = if cell.is_empty() { 0 } else { 1 };
+    let tail = if left == 0 {
+        0
+    } else {
+        digits(left).saturating_add(2)
+    };
+    cell.len()
+        .saturating_add(text.len())
+        .saturating_add(space)
+        .saturating_add(tail)
+}
+
+// Adds as many texts as fit, of so many. It answers how many are left.
+fn add_words(
+    cell: &mut Vec<u8>,
+    texts: &[String],
+    total: usize,
+    width: usize,
+) -> Result<usize, AllocError> {
+    let mut left = total;
+    for text in texts {
+        let more = left.saturating_sub(1);
+        if width_with(cell.as_slice(), text.as_str(), more) > width {
+            break;
+        }
+        add_word(cell, text.as_str())?;
+        left = more;
+    }
+    Ok(left)
+}
+
+// Adds how many are left.
+fn add_left(cell: &mut Vec<u8>, alloc: Global, left: usize) -> Result<(), AllocError> {
+    if left == 0 {
+        return Ok(());
+    }
+    let rest = format!(in alloc; "+{left}")?;
+    add_word(cell, rest.as_str())
+}
+
 /// Texts in a row, to this width: where they don't fit, as many as do and how many are left.
 pub(crate) fn fitted(
     alloc: Global,
@@ -68,28 +129,7 @@ pub(crate) fn fitted(
     width: usize,
 ) -> Result<Vec<u8>, AllocError> {
     let mut cell = Vec::new(alloc);
-    let mut left = total;
-    for text in texts {
-        let more = left.saturating_sub(1);
-        let tail = if more == 0 {
-            0
-        } else {
-            digits(more).saturating_add(2)
-        };
-        let needed = cell
-            .len()
-            .saturating_add(text.len())
-            .saturating_add(if cell.is_empty() { 0 } else { 1 })
-            .saturating_add(tail);
-        if needed > width {
-            break;
-        }
-        add_word(&mut cell, text.as_str())?;
-        left = more;
-    }
-    if left > 0 {
-        let rest = format!(in alloc; "+{left}")?;
-        add_word(&mut cell, rest.as_str())?;
-    }
+    let left = add_words(&mut cell, texts, total, width)?;
+    add_left(&mut cell, alloc, left)?;
     Ok(cell)
 }

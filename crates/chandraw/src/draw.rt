@@ -6,9 +6,9 @@
 //! 3. A faulty line ends the drawing. What stands behind the last reply is written then too.
 //!
 //! Of the lines that are done the proofs say, as for a script's text, that their past stands for
-//! the run; so that the replies in the rows, each as a line, are the text of the script. What stands
-//! around them are pieces, whose texts are escaped.
-ghost use Rattle.std.specs.Prelude.{◌≡◌, ℕ, ◌≤◌, [], length, OnOk, IfOk};
+//! the run; so that the replies in the rows, each as a line, are the text of the script. What
+//! stands around them are pieces, whose texts are escaped.
+ghost use Rattle.std.specs.Prelude.{◌≡◌, ℕ, ◌≤◌, ◌++◌, List, [], length, OnOk, IfOk};
 ghost use Rattle.std.specs.List.{flat_map};
 ghost use Rattle.std.specs.Io.KnownBytes.{Appends};
 ghost use Rattle.channel_model.specs.declared.step.Kind.{Kind};
@@ -17,8 +17,9 @@ ghost use Rattle.channel_model.specs.Capacity.{HasPositiveCapacity};
 ghost use Rattle.channel_run.specs.StandsFor.{StandsFor};
 ghost use Rattle.chanrun.specs.Grammar.{lines_of};
 ghost use Rattle.chanrun.specs.Script.{commands_of, fault_from, script_fault, script_text, texts_after};
-ghost use Rattle.chandraw.specs.Pieces.{pieces_bytes, text_line};
+ghost use Rattle.chandraw.specs.Pieces.{pieces_bytes, row_bytes, text_line};
 ghost use Rattle.chandraw.specs.Picture.{AreRows, HasPicture, HasRows, IsLineDrawn, IsScriptDrawn};
+ghost use Rattle.chandraw.specs.declared.piece.Row.{Row};
 
 use crate::answers::replies_to;
 use crate::layout::Layout;
@@ -46,6 +47,45 @@ fn write_pieces<W: Sink>(
     write_text(writer, page.as_slice())
 }
 
+// Adds the row of a reply. The first one of a line has the line's number.
+fn add_reply(
+    alloc: Global,
+    page: &mut Vec<u8>,
+    form: Form,
+    layout: &mut Layout,
+    number: Option<u64>,
+    line: &[u8],
+    reply: String,
+) -> Result<(), ScriptError>
+    ensures { OnOk result ((row : Row) × (row.reply ≡ reply)
+        × (page.new.items ≡ page.old.items ++ row_bytes form row)) }
+{
+    let row = layout.row(number, line, reply)?;
+    add_row(alloc, page, form, &row)?;
+    Ok(())
+}
+
+// Adds the rows of a line, one for each reply.
+fn add_rows(
+    alloc: Global,
+    page: &mut Vec<u8>,
+    form: Form,
+    layout: &mut Layout,
+    number: u64,
+    line: &[u8],
+    replies: Vec<String>,
+) -> Result<(), ScriptError>
+    ensures { OnOk result ((bytes : List ℕ) × AreRows form (flat_map text_line replies.items) bytes
+        × (page.new.items ≡ page.old.items ++ bytes)) }
+{
+    let mut own = Some(number);
+    for reply in replies {
+        add_reply(alloc, page, form, layout, own, line, reply)?;
+        own = None;
+    }
+    Ok(())
+}
+
 // The bytes of the rows of a line, one for each reply.
 fn rows_of(
     alloc: Global,
@@ -58,12 +98,7 @@ fn rows_of(
     ensures { IfOk result (λ page. AreRows form (flat_map text_line replies.items) page.items) }
 {
     let mut page = Vec::new(alloc);
-    let mut own = Some(number);
-    for reply in replies {
-        let row = layout.row(own, line, reply)?;
-        add_row(alloc, &mut page, form, &row)?;
-        own = None;
-    }
+    add_rows(alloc, &mut page, form, layout, number, line, replies)?;
     layout.end_line()?;
     Ok(page)
 }

@@ -53,11 +53,11 @@ impl Layout {
     pub fn opening(&mut self, first: &[u8]) -> Result<Vec<Piece>, ScriptError> {
         self.table.begin()?;
         let pieces = match self.form {
-            Form::Svg => svg::opening(self.alloc, &self.table, self.size, first)?,
-            Form::Terminal => terminal::opening(self.alloc, &self.table, self.size, first)?,
+            Form::Svg => svg::opening(self.alloc, &self.table, self.size, first),
+            Form::Terminal => terminal::opening(self.alloc, &self.table, self.size, first),
         };
         self.table.end_row();
-        Ok(pieces)
+        Ok(pieces?)
     }
 
     // Makes the command of a line, or of its further rows the next poll that is ready.
@@ -88,18 +88,24 @@ impl Layout {
     ) -> Result<Row, ScriptError>
         ensures { IfOk result (λ row. row.reply ≡ reply) }
     {
-        self.follow(number, line)?;
         let texts = RowTexts {
             number,
             line,
             reply: reply.as_str(),
         };
-        let (head, tail) = match self.form {
-            Form::Svg => svg::row(self.alloc, &self.table, self.size, texts)?,
-            Form::Terminal => terminal::row(self.alloc, &self.table, self.size, texts)?,
+        let (head, tail) = self.around(texts)?;
+        Ok(Row { head, reply, tail })
+    }
+
+    // Makes the row of these texts, and answers what stands before its reply, and what behind it.
+    fn around(&mut self, texts: RowTexts<'_>) -> Result<(Vec<Piece>, Vec<Piece>), ScriptError> {
+        self.follow(texts.number, texts.line)?;
+        let row = match self.form {
+            Form::Svg => svg::row(self.alloc, &self.table, self.size, texts),
+            Form::Terminal => terminal::row(self.alloc, &self.table, self.size, texts),
         };
         self.table.end_row();
-        Ok(Row { head, reply, tail })
+        Ok(row?)
     }
 
     /// Ends a line whose rows were drawn.

@@ -48,7 +48,31 @@ impl Measure {
         Ok(())
     }
 
-    // Does what a line asks for.
+    // Does what the lines ask for, up to the first faulty one.
+    fn follow_all(&mut self, alloc: Global, lines: &[u8]) -> Result<(), ScriptError> {
+        let mut rest = lines;
+        while !rest.is_empty() {
+            let (line, others) = split_line(rest);
+            if !self.follow_line(alloc, line)? {
+                return Ok(());
+            }
+            rest = others;
+        }
+        Ok(())
+    }
+
+    // Does what a line asks for. It answers whether the line isn't faulty.
+    fn follow_line(&mut self, alloc: Global, line: &[u8]) -> Result<bool, ScriptError> {
+        match command_of(alloc, line)? {
+            Ok(command) => {
+                self.follow(command)?;
+                Ok(true)
+            }
+            Err(_fault) => Ok(false),
+        }
+    }
+
+    // Does a command.
     fn follow(&mut self, command: Command) -> Result<(), OutOfMemory> {
         self.add_rows(1);
         match command {
@@ -71,14 +95,6 @@ pub(crate) fn size_of(alloc: Global, kind: Kind, lines: &[u8]) -> Result<Size, S
     // the first two names are those of the first handles
     let size = Size { rows: 0, lanes: 2 };
     let mut measure = Measure { run, live: 2, size };
-    let mut rest = lines;
-    while !rest.is_empty() {
-        let (line, others) = split_line(rest);
-        match command_of(alloc, line)? {
-            Ok(command) => measure.follow(command)?,
-            Err(_fault) => break,
-        }
-        rest = others;
-    }
+    measure.follow_all(alloc, lines)?;
     Ok(measure.size)
 }

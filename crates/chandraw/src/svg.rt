@@ -1,9 +1,9 @@
 //! The picture in SVG: time goes down, a row a reply.
 //!
 //! From left to right stand the number of the line, the line, the reply, a lane for each live name,
-//! the messages held, and the four waiting lists. Of what lasts (a name, a wait, a notice, a message
-//! on its way) one line is drawn when it ends.
-use crate::cells::{fitted, held_texts, waiting_texts};
+//! the messages held, and the four waiting lists. Of what lasts (a name, a wait, a notice, a
+//! message on its way) one line is drawn when it ends.
+use crate::cells::{held_cell, waiting_cell};
 use crate::lane::LANES;
 use crate::layout::RowTexts;
 use crate::mark::Mark;
@@ -163,8 +163,7 @@ fn add_list(
     x: u64,
     list: &[Who],
 ) -> Result<(), AllocError> {
-    let texts = waiting_texts(alloc, table, list, LIST_WIDTH)?;
-    let cell = fitted(alloc, texts.as_slice(), list.len(), LIST_WIDTH)?;
+    let cell = waiting_cell(alloc, table, list, LIST_WIDTH)?;
     add_cell(pieces, table.row, x, cell.as_slice())
 }
 
@@ -184,8 +183,7 @@ fn add_held(
     table: &Table,
     size: Size,
 ) -> Result<(), AllocError> {
-    let texts = held_texts(alloc, table, HELD_WIDTH)?;
-    let held = fitted(alloc, texts.as_slice(), table.held.len(), HELD_WIDTH)?;
+    let held = held_cell(alloc, table, HELD_WIDTH)?;
     add_cell(pieces, table.row, cells_x(size), held.as_slice())
 }
 
@@ -242,17 +240,19 @@ fn add_changes(
     Ok(())
 }
 
-// What stands before a reply.
-fn head(alloc: Global, table: &Table, texts: RowTexts<'_>) -> Result<Vec<Piece>, AllocError> {
-    let mut pieces = Pieces::new(alloc);
-    match texts.number {
-        Some(number) => add_line(&mut pieces, table.row, number, texts.line)?,
-        None => {
-            pieces.mark(Mark::PollText)?;
-            pieces.number(text_y(table.row))?;
-            pieces.mark(Mark::PollName)?;
-        }
+// Adds the line, or that it is a poll of settling.
+fn add_line_or_poll(pieces: &mut Pieces, row: u64, texts: RowTexts<'_>) -> Result<(), AllocError> {
+    if let Some(number) = texts.number {
+        return add_line(pieces, row, number, texts.line);
     }
+    pieces.mark(Mark::PollText)?;
+    pieces.number(text_y(row))?;
+    pieces.mark(Mark::PollName)
+}
+
+// Adds what stands before a reply.
+fn add_texts(pieces: &mut Pieces, table: &Table, texts: RowTexts<'_>) -> Result<(), AllocError> {
+    add_line_or_poll(pieces, table.row, texts)?;
     pieces.mark(if table.row_refused {
         Mark::RefusedText
     } else {
@@ -263,19 +263,35 @@ fn head(alloc: Global, table: &Table, texts: RowTexts<'_>) -> Result<Vec<Piece>,
         Mark::SqueezedReply
     } else {
         Mark::TextStart
-    })?;
+    })
+}
+
+// What stands before a reply.
+fn head(alloc: Global, table: &Table, texts: RowTexts<'_>) -> Result<Vec<Piece>, AllocError> {
+    let mut pieces = Pieces::new(alloc);
+    add_texts(&mut pieces, table, texts)?;
     Ok(pieces.list)
+}
+
+// Adds what stands behind a reply.
+fn add_cells(
+    pieces: &mut Pieces,
+    alloc: Global,
+    table: &Table,
+    size: Size,
+) -> Result<(), AllocError> {
+    pieces.mark(Mark::TextEnd)?;
+    add_changes(pieces, alloc, table, size)?;
+    add_rest(pieces, alloc, table)?;
+    add_held(pieces, alloc, table, size)?;
+    add_lists(pieces, alloc, table, size)?;
+    pieces.mark(Mark::Newline)
 }
 
 // What stands behind a reply.
 fn tail(alloc: Global, table: &Table, size: Size) -> Result<Vec<Piece>, AllocError> {
     let mut pieces = Pieces::new(alloc);
-    pieces.mark(Mark::TextEnd)?;
-    add_changes(&mut pieces, alloc, table, size)?;
-    add_rest(&mut pieces, alloc, table)?;
-    add_held(&mut pieces, alloc, table, size)?;
-    add_lists(&mut pieces, alloc, table, size)?;
-    pieces.mark(Mark::Newline)?;
+    add_cells(&mut pieces, alloc, table, size)?;
     Ok(pieces.list)
 }
 

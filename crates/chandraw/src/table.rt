@@ -14,7 +14,7 @@
 //! the polls of settling.
 ghost use Rattle.channel_model.specs.Capacity.{HasPositiveCapacity};
 
-use crate::act::{act_of, is_ready, subject_of};
+use crate::act::{Act, act_of, is_ready, subject_of};
 use crate::lane::{Held, LANES, Lane, Place, Stroke, Trace, handle};
 use crate::name::{Name, NameKind, named};
 use channel_model::{Kind, Notice, OutOfMemory, Refusal, Reply, Step, Who};
@@ -85,11 +85,7 @@ impl Table {
 
     /// The lane of a name.
     pub fn lane_of(&self, name: Name) -> usize {
-        let is_here = |lane: &Option<Lane>| match lane {
-            Some(lane) => lane.name == name,
-            None => false,
-        };
-        self.lanes.iter().position(is_here).unwrap_or(LANES)
+        place_of(self.lanes.as_slice(), name).unwrap_or(LANES)
     }
 
     /// Whether a lane begins in the present row.
@@ -104,10 +100,10 @@ impl Table {
 
     // What is known of a live name.
     fn known(&self, name: Name) -> Option<Lane> {
-        if let Some(Some(lane)) = self.lanes.get(self.lane_of(name)) {
-            return Some(*lane);
+        match place_of(self.lanes.as_slice(), name) {
+            Some(at) => self.lanes.get(at).copied().flatten(),
+            None => lane_named(self.rest.as_slice(), name),
         }
-        self.rest.iter().find(|lane| lane.name == name).copied()
     }
 
     // Where a name is now.
@@ -135,30 +131,33 @@ impl Table {
     // Makes a step, and notes what it came to. It answers whether it was a poll that was ready.
     fn make(&mut self, step: Step<u64>) -> Result<bool, OutOfMemory> {
         let act = act_of(&step, self.row);
-        let subject = subject_of(act);
-        let lane = match subject {
-            Some(name) => self.known(name),
-            None => None,
-        };
-        let before = match subject {
-            Some(name) => self.notice_at(name),
-            None => Notice::Absent,
+        let (lane, before) = match subject_of(act) {
+            Some(name) => (self.known(name), self.notice_at(name)),
+            None => (None, Notice::Absent),
         };
         let reply = self.run.step(step);
-        if let Reply::Refused(refusal, _) = &reply {
+        self.note_reply(act, lane, before, &reply)?;
+        Ok(is_ready(&reply))
+    }
+
+    // Notes the reply to a step. Of who was polled or given up this was known before it.
+    fn note_reply(
+        &mut self,
+        act: Act,
+        lane: Option<Lane>,
+        before: Notice,
+        reply: &Reply<u64>,
+    ) -> Result<(), OutOfMemory> {
+        if let Reply::Refused(refusal, _) = reply {
             self.row_refused = true;
-            return match refusal {
-                Refusal::OutOfMemory => Err(OutOfMemory),
-                _ => Ok(false),
-            };
+            return room(*refusal != Refusal::OutOfMemory);
         }
-        self.note(act, lane, &reply)?;
-        self.note_closing(act, &reply);
+        self.note(act, lane, reply)?;
+        self.note_closing(act, reply);
         if let Some(lane) = lane {
             self.note_list(lane, before)?;
         }
-        self.note_lanes()?;
-        Ok(is_ready(&reply))
+        self.note_lanes()
     }
 
     /// Begins a row.
@@ -193,6 +192,19 @@ impl Table {
         }
         Ok(())
     }
+}
+
+// Where the name has its lane.
+fn place_of(lanes: &[Option<Lane>], name: Name) -> Option<usize> {
+    lanes.iter().position(|lane| match lane {
+        Some(lane) => lane.name == name,
+        None => false,
+    })
+}
+
+// The one of this name, if it is among them.
+fn lane_named(lanes: &[Lane], name: Name) -> Option<Lane> {
+    lanes.iter().find(|lane| lane.name == name).copied()
 }
 
 // Room for one more was had.

@@ -2,7 +2,7 @@
 //!
 //! The columns are those of the other form, and a lane is one letter wide. A text that is too long
 //! for its cell has its line to itself, and the next cell stands below it.
-use crate::cells::{fitted, held_texts, waiting_texts};
+use crate::cells::{add_waiting, fitted, held_cell};
 use crate::lane::{LANES, Lane};
 use crate::layout::RowTexts;
 use crate::mark::Mark;
@@ -64,10 +64,31 @@ fn add_number(
     pieces.text(text.as_bytes())
 }
 
+// Adds the number of a line, and the line, and goes on to the next cell.
+fn add_line(
+    pieces: &mut Pieces,
+    alloc: Global,
+    table: &Table,
+    number: u64,
+    line: &[u8],
+    next: usize,
+) -> Result<(), AllocError> {
+    add_number(pieces, alloc, table, number)?;
+    pieces.text(line)?;
+    add_gap(pieces, alloc, LINE.saturating_add(line.len()), next)
+}
+
 // where the messages held begin
 fn held_column(size: Size) -> usize {
     let rest = if size.lanes >= LANES { REST } else { 1 };
     NAMES.saturating_add(size.lanes.max(5)).saturating_add(rest)
+}
+
+// Adds the titles of the columns.
+fn add_titles(pieces: &mut Pieces, alloc: Global, size: Size) -> Result<(), AllocError> {
+    pieces.mark(Mark::TerminalHead)?;
+    add_gap(pieces, alloc, NAMES.saturating_add(5), held_column(size))?;
+    pieces.mark(Mark::TerminalHeld)
 }
 
 /// What stands before the first reply: the titles, and the line that makes the channel.
@@ -78,14 +99,8 @@ pub(crate) fn opening(
     first: &[u8],
 ) -> Result<Vec<Piece>, AllocError> {
     let mut pieces = Pieces::new(alloc);
-    pieces.mark(Mark::TerminalHead)?;
-    let title = NAMES.saturating_add(5);
-    add_gap(&mut pieces, alloc, title, held_column(size))?;
-    pieces.mark(Mark::TerminalHeld)?;
-    add_number(&mut pieces, alloc, table, 1)?;
-    pieces.text(first)?;
-    let column = LINE.saturating_add(first.len());
-    add_gap(&mut pieces, alloc, column, NAMES)?;
+    add_titles(&mut pieces, alloc, size)?;
+    add_line(&mut pieces, alloc, table, 1, first, NAMES)?;
     add_cells(&mut pieces, alloc, table, size)?;
     Ok(pieces.list)
 }
@@ -116,7 +131,7 @@ fn lane_letter(table: &Table, lane: &Option<Lane>) -> u8 {
 }
 
 // Draws an arrow between two lanes.
-fn add_arrow(letters: &mut Vec<u8>, from: usize, to: usize) {
+fn add_arrow(letters: &mut [u8], from: usize, to: usize) {
     let (low, high) = (from.min(to), from.max(to));
     for at in low.saturating_add(1)..high {
         if let Some(letter) = letters.get_mut(at) {
@@ -128,21 +143,32 @@ fn add_arrow(letters: &mut Vec<u8>, from: usize, to: usize) {
     }
 }
 
-// The letters of all lanes.
-fn lane_letters(alloc: Global, table: &Table, size: Size) -> Result<Vec<u8>, AllocError> {
-    let mut letters = Vec::new(alloc);
+// Adds the letters of all lanes.
+fn add_letters(letters: &mut Vec<u8>, table: &Table, size: Size) -> Result<(), AllocError> {
     for at in 0..size.lanes {
         letters.push(match table.lanes.get(at) {
             Some(lane) => lane_letter(table, lane),
             None => b' ',
         })?;
     }
+    Ok(())
+}
+
+// Draws an arrow to what a lane that begins borrows.
+fn add_borrow(letters: &mut [u8], table: &Table, lane: &Lane) {
+    if !table.begins(lane) {
+        return;
+    }
+    if let Some(borrowed) = lane.borrows {
+        add_arrow(letters, table.lane_of(borrowed), table.lane_of(lane.name));
+    }
+}
+
+// Draws what happens in a row: what is borrowed, who is given up, and the closing.
+fn add_changes(letters: &mut [u8], table: &Table) {
     for lane in table.lanes.iter() {
         if let Some(lane) = lane {
-            if let (true, Some(borrowed)) = (table.begins(lane), lane.borrows) {
-                let (from, to) = (table.lane_of(borrowed), table.lane_of(lane.name));
-                add_arrow(&mut letters, from, to);
-            }
+            add_borrow(letters, table, lane);
         }
     }
     if let Some(at) = table.row_ended {
@@ -151,13 +177,41 @@ fn lane_letters(alloc: Global, table: &Table, size: Size) -> Result<Vec<u8>, All
         }
     }
     if table.row_closes {
-        for letter in letters.iter_mut() {
-            if *letter == b' ' || *letter == b'|' {
-                *letter = b'=';
-            }
+        add_closing(letters);
+    }
+}
+
+// Draws a line across the lanes.
+fn add_closing(letters: &mut [u8]) {
+    for letter in letters.iter_mut() {
+        if *letter == b' ' || *letter == b'|' {
+            *letter = b'=';
         }
     }
-    Ok(letters)
+}
+
+// Adds how many names have no lane.
+fn add_rest(text: &mut Vec<u8>, alloc: Global, table: &Table) -> Result<(), AllocError> {
+    if table.rest.is_empty() {
+        return Ok(());
+    }
+    let rest = format!(in alloc; " +{}", table.rest.len())?;
+    text.extend_from_slice(rest.as_bytes())
+}
+
+// Adds the letters of all lanes, and how many names have none. It answers the column behind them.
+fn add_names(
+    pieces: &mut Pieces,
+    alloc: Global,
+    table: &Table,
+    size: Size,
+) -> Result<usize, AllocError> {
+    let mut names = Vec::new(alloc);
+    add_letters(&mut names, table, size)?;
+    add_changes(names.as_mut_slice(), table);
+    add_rest(&mut names, alloc, table)?;
+    pieces.text(names.as_slice())?;
+    Ok(NAMES.saturating_add(names.len()))
 }
 
 // Adds the texts of a list, behind the letter of the list.
@@ -168,25 +222,26 @@ fn add_list(
     letter: char,
     list: &[Who],
 ) -> Result<(), AllocError> {
-    let mut is_first = true;
-    for text in waiting_texts(alloc, table, list, COLUMNS)? {
-        if is_first {
-            texts.push(format!(in alloc; "{letter} {text}")?)?;
-        } else {
-            texts.push(text)?;
-        }
-        is_first = false;
+    let first = texts.len();
+    add_waiting(texts, alloc, table, list, COLUMNS)?;
+    if let Some(text) = texts.get_mut(first) {
+        *text = format!(in alloc; "{letter} {text}")?;
     }
     Ok(())
+}
+
+// Adds the texts of the four lists.
+fn add_lists(texts: &mut Vec<String>, alloc: Global, table: &Table) -> Result<(), AllocError> {
+    add_list(texts, alloc, table, 'S', table.sends.as_slice())?;
+    add_list(texts, alloc, table, 'R', table.receives.as_slice())?;
+    add_list(texts, alloc, table, 'T', table.streams.as_slice())?;
+    add_list(texts, alloc, table, 'C', table.closeds.as_slice())
 }
 
 // Who waits, in one cell.
 fn waiting(alloc: Global, table: &Table, width: usize) -> Result<Vec<u8>, AllocError> {
     let mut texts = Vec::new(alloc);
-    add_list(&mut texts, alloc, table, 'S', table.sends.as_slice())?;
-    add_list(&mut texts, alloc, table, 'R', table.receives.as_slice())?;
-    add_list(&mut texts, alloc, table, 'T', table.streams.as_slice())?;
-    add_list(&mut texts, alloc, table, 'C', table.closeds.as_slice())?;
+    add_lists(&mut texts, alloc, table)?;
     let total = table
         .sends
         .len()
@@ -196,6 +251,28 @@ fn waiting(alloc: Global, table: &Table, width: usize) -> Result<Vec<u8>, AllocE
     fitted(alloc, texts.as_slice(), total, width)
 }
 
+// Adds the cells of the messages held and of who waits behind this column, as far as one is needed.
+fn add_held_and_waiting(
+    pieces: &mut Pieces,
+    alloc: Global,
+    column: usize,
+    held_at: usize,
+    held: &[u8],
+    waiting: &[u8],
+) -> Result<(), AllocError> {
+    if held.is_empty() && waiting.is_empty() {
+        return Ok(());
+    }
+    add_gap(pieces, alloc, column, held_at)?;
+    pieces.text(held)?;
+    if waiting.is_empty() {
+        return Ok(());
+    }
+    let column = held_at.saturating_add(held.len());
+    add_gap(pieces, alloc, column, held_at.saturating_add(HELD))?;
+    pieces.text(waiting)
+}
+
 // Adds the lanes, the messages held and who waits.
 fn add_cells(
     pieces: &mut Pieces,
@@ -203,30 +280,13 @@ fn add_cells(
     table: &Table,
     size: Size,
 ) -> Result<(), AllocError> {
-    let mut names = lane_letters(alloc, table, size)?;
-    if !table.rest.is_empty() {
-        let rest = format!(in alloc; " +{}", table.rest.len())?;
-        names.extend_from_slice(rest.as_bytes())?;
-    }
-    pieces.text(names.as_slice())?;
+    let column = add_names(pieces, alloc, table, size)?;
     let held_at = held_column(size);
-    let texts = held_texts(alloc, table, HELD)?;
-    let held = fitted(alloc, texts.as_slice(), table.held.len(), HELD - 1)?;
     let waiting_at = held_at.saturating_add(HELD);
+    let held = held_cell(alloc, table, HELD - 1)?;
     let waiting = waiting(alloc, table, COLUMNS.saturating_sub(waiting_at))?;
-    if !held.is_empty() || !waiting.is_empty() {
-        add_gap(pieces, alloc, NAMES.saturating_add(names.len()), held_at)?;
-        pieces.text(held.as_slice())?;
-    }
-    if !waiting.is_empty() {
-        add_gap(
-            pieces,
-            alloc,
-            held_at.saturating_add(held.len()),
-            waiting_at,
-        )?;
-        pieces.text(waiting.as_slice())?;
-    }
+    let (held, waiting) = (held.as_slice(), waiting.as_slice());
+    add_held_and_waiting(pieces, alloc, column, held_at, held, waiting)?;
     pieces.mark(Mark::Newline)
 }
 
@@ -234,12 +294,7 @@ fn add_cells(
 fn head(alloc: Global, table: &Table, texts: RowTexts<'_>) -> Result<Vec<Piece>, AllocError> {
     let mut pieces = Pieces::new(alloc);
     match texts.number {
-        Some(number) => {
-            add_number(&mut pieces, alloc, table, number)?;
-            pieces.text(texts.line)?;
-            let column = LINE.saturating_add(texts.line.len());
-            add_gap(&mut pieces, alloc, column, REPLY)?;
-        }
+        Some(number) => add_line(&mut pieces, alloc, table, number, texts.line, REPLY)?,
         None => pieces.mark(Mark::TerminalPoll)?,
     }
     Ok(pieces.list)

@@ -7,6 +7,16 @@ use crate::svg::places::{lane_x, list_x, middle_y, text_y};
 use crate::table::Table;
 use std::alloc::AllocError;
 
+// the kinds of lines, those below others first
+const TRACES: [Trace; 6] = [
+    Trace::Life,
+    Trace::Wait,
+    Trace::Told,
+    Trace::Borrow,
+    Trace::Message,
+    Trace::Displaced,
+];
+
 // Adds a point of a line.
 fn add_point(pieces: &mut Pieces, mark: Mark, x: u64, y: u64) -> Result<(), AllocError> {
     pieces.mark(mark)?;
@@ -71,12 +81,10 @@ fn add_trace(pieces: &mut Pieces, strokes: &[Stroke], trace: Trace) -> Result<()
 
 /// Adds the lines of a row.
 pub(crate) fn add_strokes(pieces: &mut Pieces, strokes: &[Stroke]) -> Result<(), AllocError> {
-    add_trace(pieces, strokes, Trace::Life)?;
-    add_trace(pieces, strokes, Trace::Wait)?;
-    add_trace(pieces, strokes, Trace::Told)?;
-    add_trace(pieces, strokes, Trace::Borrow)?;
-    add_trace(pieces, strokes, Trace::Message)?;
-    add_trace(pieces, strokes, Trace::Displaced)
+    for trace in TRACES {
+        add_trace(pieces, strokes, trace)?;
+    }
+    Ok(())
 }
 
 /// Adds a line across a row in which the channel is closed.

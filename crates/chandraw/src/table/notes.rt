@@ -1,5 +1,5 @@
 //! What the table notes of a step: names that begin and end, who waits, messages, and the closing.
-use crate::act::{Act, has_taken};
+use crate::act::{Act, has_taken, is_done};
 use crate::lane::{Held, LANES, Lane, Trace, WaitingList};
 use crate::name::{Name, NameKind, name_of, who_of};
 use crate::table::{Table, room};
@@ -9,41 +9,30 @@ use futures::task::Poll;
 impl Table {
     // A name begins.
     pub fn add(&mut self, lane: Lane) -> Result<(), OutOfMemory> {
-        if let Some(free) = self.lanes.iter().position(|lane| lane.is_none()) {
-            if let Some(place) = self.lanes.get_mut(free) {
-                *place = Some(lane);
-            }
-        } else if self.lanes.len() < LANES {
-            room(self.lanes.push(Some(lane)).is_ok())?;
-        } else {
-            room(self.rest.push(lane).is_ok())?;
-        }
+        room(add_lane(&mut self.lanes, &mut self.rest, lane))?;
         self.row_made = Some(lane.name);
-        if let Some(borrowed) = lane.borrows {
-            let (from, to) = (self.here(borrowed), self.here(lane.name));
-            self.draw(Trace::Borrow, from, to)?;
-        }
-        Ok(())
+        let Some(borrowed) = lane.borrows else {
+            return Ok(());
+        };
+        let (from, to) = (self.here(borrowed), self.here(lane.name));
+        self.draw(Trace::Borrow, from, to)
     }
 
     // A name ends.
     fn end(&mut self, name: Name) -> Result<(), OutOfMemory> {
         let at = self.lane_of(name);
-        if let Some(Some(lane)) = self.lanes.get(at).copied() {
-            self.end_notice(at, lane)?;
-            self.draw_along(Trace::Life, at, lane.born)?;
-            self.row_ended = Some(at);
-            if let Some(place) = self.lanes.get_mut(at) {
-                *place = None;
+        match self.lanes.get(at).copied().flatten() {
+            Some(lane) => {
+                self.row_ended = Some(at);
+                vacate(self.lanes.as_mut_slice(), at);
+                self.end_notice(at, lane)?;
+                self.draw_along(Trace::Life, at, lane.born)
             }
-            return Ok(());
-        }
-        if let Some(at) = self.rest.iter().position(|lane| lane.name == name) {
-            if at < self.rest.len() {
-                let _gone = self.rest.remove(at);
+            None => {
+                self.rest.retain(|lane| lane.name != name);
+                Ok(())
             }
         }
-        Ok(())
     }
 
     // Draws how long somebody waited, or was told, until now.
@@ -65,20 +54,15 @@ impl Table {
 
     // Notes whether the one of this lane waits now, and was told.
     fn note_lane(&mut self, at: usize) -> Result<(), OutOfMemory> {
-        let Some(Some(lane)) = self.lanes.get(at).copied() else {
+        let Some(lane) = self.lanes.get(at).copied().flatten() else {
             return Ok(());
         };
         let notice = self.notice_at(lane.name);
         if notice == lane.notice {
             return Ok(());
         }
-        self.end_notice(at, lane)?;
-        let row = self.row;
-        if let Some(Some(lane)) = self.lanes.get_mut(at) {
-            lane.notice = notice;
-            lane.since = row;
-        }
-        Ok(())
+        set_notice(self.lanes.as_mut_slice(), at, notice, self.row);
+        self.end_notice(at, lane)
     }
 
     // Notes who waits now, and who was told.
@@ -109,15 +93,8 @@ impl Table {
             return Ok(());
         }
         let list = self.list_mut(list);
-        if let Some(at) = list.iter().position(|other| *other == who) {
-            if at < list.len() {
-                let _gone = list.remove(at);
-            }
-        }
-        if after == Notice::Absent {
-            return Ok(());
-        }
-        room(list.push(who).is_ok())
+        list.retain(|other| *other != who);
+        room(after == Notice::Absent || list.push(who).is_ok())
     }
 
     // A message goes in.
@@ -134,6 +111,23 @@ impl Table {
                 self.draw(trace, held.from, to)
             }
             None => Ok(()),
+        }
+    }
+
+    // Notes what a send came to that doesn't wait.
+    fn note_send(
+        &mut self,
+        from: Name,
+        message: u64,
+        reply: &Reply<u64>,
+    ) -> Result<(), OutOfMemory> {
+        match reply {
+            Reply::TrySent(Ok(())) | Reply::Forced(Ok(None)) => self.put(from, message),
+            Reply::Forced(Ok(Some(_))) => {
+                self.take(Trace::Displaced, from)?;
+                self.put(from, message)
+            }
+            _ => Ok(()),
         }
     }
 
@@ -160,18 +154,12 @@ impl Table {
         lane: Option<Lane>,
         reply: &Reply<u64>,
     ) -> Result<(), OutOfMemory> {
-        match (act, reply) {
-            (Act::Make(lane), Reply::Done | Reply::Upgraded(true)) => self.add(lane),
-            (Act::End(name), Reply::Done) => self.end(name),
-            (Act::Send(from, message), Reply::TrySent(Ok(()))) => self.put(from, message),
-            (Act::Send(from, message), Reply::Forced(Ok(displaced))) => {
-                if displaced.is_some() {
-                    self.take(Trace::Displaced, from)?;
-                }
-                self.put(from, message)
-            }
-            (Act::Take(to), reply) if has_taken(reply) => self.take(Trace::Message, to),
-            (Act::Poll(who), reply) => self.note_poll(who, lane, reply),
+        match act {
+            Act::Make(lane) if is_done(reply) => self.add(lane),
+            Act::End(name) if is_done(reply) => self.end(name),
+            Act::Send(from, message) => self.note_send(from, message, reply),
+            Act::Take(to) if has_taken(reply) => self.take(Trace::Message, to),
+            Act::Poll(who) => self.note_poll(who, lane, reply),
             _ => Ok(()),
         }
     }
@@ -189,10 +177,48 @@ impl Table {
 
     // Whether there is a live name of this kind.
     fn has_any(&self, kind: NameKind) -> bool {
-        let has = |lane: &Option<Lane>| match lane {
-            Some(lane) => lane.name.kind == kind,
-            None => false,
-        };
-        self.lanes.iter().any(has) || self.rest.iter().any(|lane| lane.name.kind == kind)
+        has_lane(self.lanes.as_slice(), kind) || has_name(self.rest.as_slice(), kind)
     }
+}
+
+// Gives a name the first free lane, or none where there are no more lanes. It answers whether
+// there was room.
+fn add_lane(lanes: &mut Vec<Option<Lane>>, rest: &mut Vec<Lane>, lane: Lane) -> bool {
+    if let Some(free) = lanes.iter().position(|lane| lane.is_none()) {
+        if let Some(place) = lanes.get_mut(free) {
+            *place = Some(lane);
+        }
+        return true;
+    }
+    if lanes.len() < LANES {
+        lanes.push(Some(lane)).is_ok()
+    } else {
+        rest.push(lane).is_ok()
+    }
+}
+
+// The lane is free from now on.
+fn vacate(lanes: &mut [Option<Lane>], at: usize) {
+    if let Some(place) = lanes.get_mut(at) {
+        *place = None;
+    }
+}
+
+// Notes whether the one of this lane waits, and was told, from this row on.
+fn set_notice(lanes: &mut [Option<Lane>], at: usize, notice: Notice, row: u64) {
+    if let Some(Some(lane)) = lanes.get_mut(at) {
+        lane.notice = notice;
+        lane.since = row;
+    }
+}
+
+fn has_lane(lanes: &[Option<Lane>], kind: NameKind) -> bool {
+    lanes.iter().any(|lane| match lane {
+        Some(lane) => lane.name.kind == kind,
+        None => false,
+    })
+}
+
+fn has_name(lanes: &[Lane], kind: NameKind) -> bool {
+    lanes.iter().any(|lane| lane.name.kind == kind)
 }

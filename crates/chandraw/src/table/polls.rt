@@ -8,8 +8,9 @@
 //! looked for from then on.
 use crate::name::name_of;
 use crate::table::{Table, room};
-use channel_model::{Notice, OutOfMemory, Step, Who};
+use channel_model::{Notice, OutOfMemory, Reply, Step, Who};
 use channel_run::Run;
+use std::collections::VecDeque;
 
 // Puts those who were told behind the others: whoever of them waits on was polled, and waits anew.
 fn put_told_last(run: &Run<u64>, list: &mut Vec<Who>) {
@@ -26,44 +27,75 @@ fn keep_waiting(run: &Run<u64>, list: &mut Vec<Who>) {
     list.retain(|who| run.notice_of(*who) != Notice::Absent);
 }
 
+// Adds the polls that were ready behind the others.
+fn add_polls(
+    due: &mut VecDeque<(Who, Reply<u64>)>,
+    polls: Vec<(Who, Reply<u64>)>,
+) -> Result<(), OutOfMemory> {
+    for poll in polls {
+        room(due.push_back(poll).is_ok())?;
+    }
+    Ok(())
+}
+
+// The first of a list who was told, among so many.
+fn told_in(run: &Run<u64>, list: &[Who], reach: usize) -> Option<Who> {
+    list.iter()
+        .take(reach)
+        .find(|who| run.notice_of(**who) == Notice::Told)
+        .copied()
+}
+
+// The step that polls them.
+fn poll_of(who: Who) -> Step<u64> {
+    match who {
+        Who::Op(op) => Step::Poll(op),
+        Who::Receiver(receiver) => Step::PollNext(receiver),
+    }
+}
+
 impl Table {
-    // The first of a list who was told. They stand before the others where the order is kept.
-    fn told_in(&self, list: &[Who]) -> Option<Who> {
-        let reach = if self.is_in_order { 1 } else { list.len() };
-        list.iter()
-            .take(reach)
-            .find(|who| self.run.notice_of(**who) == Notice::Told)
-            .copied()
+    // Who is polled next by settling. They stand before the others where the order is kept.
+    fn first_told(&self) -> Option<Who> {
+        let reach = if self.is_in_order { 1 } else { usize::MAX };
+        told_in(&self.run, self.receives.as_slice(), reach)
+            .or(told_in(&self.run, self.streams.as_slice(), reach))
+            .or(told_in(&self.run, self.sends.as_slice(), reach))
+            .or(told_in(&self.run, self.closeds.as_slice(), reach))
     }
 
-    // Who is polled next by settling.
-    fn first_told(&self) -> Option<Who> {
-        self.told_in(self.receives.as_slice())
-            .or(self.told_in(self.streams.as_slice()))
-            .or(self.told_in(self.sends.as_slice()))
-            .or(self.told_in(self.closeds.as_slice()))
+    // Notes the first of the polls that settling made at once. It answers whether there was one.
+    fn note_due(&mut self) -> Result<bool, OutOfMemory> {
+        let Some((who, reply)) = self.due.pop_front() else {
+            return Ok(false);
+        };
+        let lane = self.known(name_of(who));
+        self.note_poll(who, lane, &reply)?;
+        Ok(true)
+    }
+
+    // Polls who was told next. It answers whether that was ready, and none where nobody was told.
+    fn poll_next(&mut self) -> Result<Option<bool>, OutOfMemory> {
+        let Some(who) = self.first_told() else {
+            return Ok(None);
+        };
+        let is_ready = self.make(poll_of(who))?;
+        if self.row_refused {
+            self.settle_at_once()?;
+        }
+        Ok(Some(is_ready))
     }
 
     // Polls who was told until one is ready. It answers whether one was.
     fn poll_on(&mut self) -> Result<bool, OutOfMemory> {
         for _ in 0..u64::MAX {
-            if let Some((who, reply)) = self.due.pop_front() {
-                let lane = self.known(name_of(who));
-                self.note_poll(who, lane, &reply)?;
+            if self.note_due()? {
                 return Ok(true);
             }
-            let Some(who) = self.first_told() else {
-                return Ok(false);
-            };
-            let step = match who {
-                Who::Op(op) => Step::Poll(op),
-                Who::Receiver(receiver) => Step::PollNext(receiver),
-            };
-            if self.make(step)? {
-                return Ok(true);
-            }
-            if self.row_refused {
-                self.settle_at_once()?;
+            match self.poll_next()? {
+                Some(true) => return Ok(true),
+                Some(false) => {}
+                None => return Ok(false),
             }
         }
         Ok(false)
@@ -76,9 +108,7 @@ impl Table {
         put_told_last(&self.run, &mut self.streams);
         put_told_last(&self.run, &mut self.closeds);
         let settled = self.run.settle()?;
-        for poll in settled.finished {
-            room(self.due.push_back(poll).is_ok())?;
-        }
+        add_polls(&mut self.due, settled.finished)?;
         keep_waiting(&self.run, &mut self.sends);
         keep_waiting(&self.run, &mut self.receives);
         keep_waiting(&self.run, &mut self.streams);
