@@ -10,14 +10,14 @@ use std::test::Fail;
 
 const MANY: u64 = 100_000;
 
-/// Sends so many messages, each by its number.
+/// Sends a hundred thousand messages, each of which is its number.
 fn send_many<R: Wait + Clone + Drop + Abort>(rt: &R, s: &Sender<u64, R>) {
     for m in 0..MANY {
         assert_eq!(rt; s.try_send(m), Ok(Ok(())));
     }
 }
 
-/// Receives so many messages, and looks at the number of each.
+/// Receives a hundred thousand messages, and looks at the number of each.
 fn receive_many<R: Wait + Clone + Drop + Abort>(rt: &R, r: &Receiver<u64, R>) {
     for m in 0..MANY {
         assert_eq!(rt; r.try_recv(), Ok(m));
@@ -56,7 +56,7 @@ fn end_all<R: Wait + Clone + Drop + Abort>(
     }
 }
 
-/// Starts so many receives, sends as many messages, and polls all receives to their end.
+/// Starts a hundred thousand receives, sends as many messages, and polls all receives to their end.
 fn start_and_end<R: Wait + Clone + Drop + AllocGlobal + Abort>(
     rt: &R,
     task: &MockTask,
