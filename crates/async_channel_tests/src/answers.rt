@@ -1,8 +1,7 @@
 //! What both sides say of a channel, call by call: rows of calls, with the answers of all questions
 //! after each.
-use async_channel::{
-    Receiver, Sender, StampMaker, Tag, WeakReceiver, WeakSender, bounded, unbounded,
-};
+use crate::probe::channel_by;
+use async_channel::{Receiver, Sender, StampMaker, Tag, WeakReceiver, WeakSender, unbounded};
 use std::alloc::{AllocError, AllocGlobal, Global};
 use std::process::Abort;
 use std::sync::Wait;
@@ -63,13 +62,33 @@ fn copy_receiver<R: Wait + Clone + Drop>(
     Ok(receivers.push(copy)?)
 }
 
+/// Makes a weak sender of the first sender.
+fn weaken_sender<R: Wait + Clone + Drop>(
+    senders: &[Sender<u64, R>],
+    weak: &mut Vec<WeakSender<u64, R>>,
+) -> Result<(), Fail> {
+    let made = senders.first().ok_or("a sender")?.downgrade()?;
+    Ok(weak.push(made)?)
+}
+
+/// Makes a weak receiver of the first receiver.
+fn weaken_receiver<R: Wait + Clone + Drop>(
+    receivers: &[Receiver<u64, R>],
+    weak: &mut Vec<WeakReceiver<u64, R>>,
+) -> Result<(), Fail> {
+    let made = receivers.first().ok_or("a receiver")?.downgrade()?;
+    Ok(weak.push(made)?)
+}
+
 impl<R: Wait + Clone + Drop> Handles<R> {
     fn make(&mut self, call: Call) -> Result<(), Fail> {
         match call {
-            Send(_) | CloseSender | DowngradeSender => self.by_sender(call),
-            Take | CloseReceiver | DowngradeReceiver => self.by_receiver(call),
+            Send(_) | CloseSender => self.by_sender(call),
+            Take | CloseReceiver => self.by_receiver(call),
             CopySender => copy_sender(&mut self.senders),
             CopyReceiver => copy_receiver(&mut self.receivers),
+            DowngradeSender => weaken_sender(&self.senders, &mut self.weak_senders),
+            DowngradeReceiver => weaken_receiver(&self.receivers, &mut self.weak_receivers),
             CopyWeakSender | UpgradeSender => self.by_weak_sender(call),
             CopyWeakReceiver | UpgradeReceiver => self.by_weak_receiver(call),
             DropSender => drop_last(&mut self.senders),
@@ -79,21 +98,19 @@ impl<R: Wait + Clone + Drop> Handles<R> {
         }
     }
 
-    fn by_sender(&mut self, call: Call) -> Result<(), Fail> {
+    fn by_sender(&self, call: Call) -> Result<(), Fail> {
         let sender = self.senders.first().ok_or("a sender")?;
         match call {
             Send(m) => drop(sender.try_send(m)?),
-            DowngradeSender => self.weak_senders.push(sender.downgrade()?)?,
             _ => drop(sender.close()),
         }
         Ok(())
     }
 
-    fn by_receiver(&mut self, call: Call) -> Result<(), Fail> {
+    fn by_receiver(&self, call: Call) -> Result<(), Fail> {
         let receiver = self.receivers.first().ok_or("a receiver")?;
         match call {
             Take => drop(receiver.try_recv()),
-            DowngradeReceiver => self.weak_receivers.push(receiver.downgrade()?)?,
             _ => drop(receiver.close()),
         }
         Ok(())
@@ -173,6 +190,11 @@ fn handles_of<R: Wait + Clone + Drop>(
     })
 }
 
+/// Whether no message comes any more.
+fn is_at_end<R: Wait + Clone + Drop>(r: &Receiver<u64, R>) -> bool {
+    r.is_closed() && r.is_empty()
+}
+
 /// What a channel was made with, and both ends of another one.
 #[derive(Drop)]
 struct Made<'a, R: Wait + Clone + Drop> {
@@ -203,7 +225,7 @@ impl<R: Wait + Clone + Drop + AllocGlobal + Abort> Made<'_, R> {
         let (call, want) = row;
         let said = said_by_receiver(rt.alloc(), r)?;
         assert!(rt; said.as_str() == *want, "{call:?}: {said}");
-        assert!(rt; r.is_terminated() == (r.is_closed() && r.is_empty()));
+        assert!(rt; r.is_terminated() == is_at_end(r));
         assert!(rt; r.capacity() == self.capacity && r.tag.same_channel(&self.tag));
         assert!(rt; r.same_channel(r) && !r.same_channel(self.other_r));
         Ok(())
@@ -251,10 +273,7 @@ fn run_beside<R: Wait + Clone + Drop + AllocGlobal + Abort>(
     capacity: Option<usize>,
     rows: &[(Call, &str)],
 ) -> Result<(), Fail> {
-    let (s, r) = match capacity {
-        Some(cap) if cap > 0 => bounded(rt, rt.alloc(), cap, maker)?,
-        _ => unbounded(rt, rt.alloc(), maker)?,
-    };
+    let (s, r) = channel_by(rt, rt.alloc(), capacity, maker)?;
     let made = Made {
         capacity,
         tag: s.tag,

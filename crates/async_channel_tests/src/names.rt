@@ -159,16 +159,15 @@ fn rings<B: async_channel::Bell<u64>>(bell: &mut B) {
     bell.ring(1);
 }
 
-#[test]
-fn the_parts_of_a_channel(rt: HostRuntime) -> Result<(), Fail> {
-    use async_channel::{Core, Group, Queue, Quiet, Ticket, Upgrade};
-    let mut queue: Queue<u64> = Queue::unbounded(rt.alloc());
-    assert!(rt; matches!(queue.push(1), Ok(Ok(()))));
-    drop(queue);
-    let mut core: Core<u64, u64> = Core::unbounded(rt.alloc());
+fn calls_of_core(rt: &impl Abort, core: &mut async_channel::Core<u64, u64>) {
+    use async_channel::{Quiet, Ticket, Upgrade};
     let mut ticket: Option<Ticket> = None;
     assert!(rt; core.poll_recv(&mut ticket, 1, &mut Quiet).is_ok());
     assert!(rt; matches!(core.upgrade_sender(), Upgrade::Raised));
+}
+
+fn groups(rt: &impl Abort, core: &async_channel::Core<u64, u64>) {
+    use async_channel::Group;
     for (group, count) in [
         (Group::Sends, 0),
         (Group::Receives, 1),
@@ -177,6 +176,17 @@ fn the_parts_of_a_channel(rt: HostRuntime) -> Result<(), Fail> {
     ] {
         assert_eq!(rt; core.waiting(group), count);
     }
+}
+
+#[test]
+fn the_parts_of_a_channel(rt: HostRuntime) -> Result<(), Fail> {
+    use async_channel::{Core, Queue, Quiet};
+    let mut queue: Queue<u64> = Queue::unbounded(rt.alloc());
+    assert!(rt; matches!(queue.push(1), Ok(Ok(()))));
+    drop(queue);
+    let mut core: Core<u64, u64> = Core::unbounded(rt.alloc());
+    calls_of_core(&rt, &mut core);
+    groups(&rt, &core);
     rings(&mut Quiet);
     Ok(())
 }

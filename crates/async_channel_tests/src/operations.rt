@@ -1,20 +1,38 @@
 //! Operations and streams, polled by hand.
 use crate::probe::channel;
 use async_channel::Sender;
-use futures::StreamExt;
 use futures::executor::block_on;
 use futures::task::Poll;
 use futures::test::MockTask;
+use futures::{Future, StreamExt};
 use std::process::Abort;
 use std::sync::Wait;
 use std::test::Fail;
 
+fn is_pending<F: Future>(task: &MockTask, future: &mut F) -> bool
+where
+    F::Output: Drop,
+    requires { F.can_poll future.old }
+{
+    matches!(&task.poll(future), Poll::Pending)
+}
+
+/// What a poll gives, if it is ready.
+fn ready<F: Future>(task: &MockTask, future: &mut F) -> Option<F::Output>
+    requires { F.can_poll future.old }
+{
+    match task.poll(future) {
+        Poll::Ready(output) => Some(output),
+        Poll::Pending => None,
+    }
+}
+
 /// Polls a send into a channel that has room.
 fn a_send_with_room<R: Wait + Clone + Drop + Abort>(rt: &R, task: &MockTask, s: &Sender<u64, R>) {
     let mut send = s.send(7);
-    assert!(rt; matches!(&task.poll(&mut send), Poll::Ready(Ok(Ok(())))));
+    assert_eq!(rt; ready(task, &mut send), Some(Ok(Ok(()))));
     assert!(rt; send.is_terminated());
-    assert!(rt; matches!(&task.poll(&mut send), Poll::Pending));
+    assert!(rt; is_pending(task, &mut send));
     assert!(rt; send.is_terminated());
     assert_eq!(rt; s.len(), 1);
     assert_eq!(rt; send.into_msg(), None);
@@ -27,7 +45,7 @@ fn a_send_without_room<R: Wait + Clone + Drop + Abort>(
     s: &Sender<u64, R>,
 ) {
     let mut send = s.send(8);
-    assert!(rt; matches!(&task.poll(&mut send), Poll::Pending));
+    assert!(rt; is_pending(task, &mut send));
     assert!(rt; !send.is_terminated());
     assert_eq!(rt; send.into_msg(), Some(8));
     assert_eq!(rt; s.len(), 1);
@@ -47,12 +65,12 @@ fn a_closed_future(rt: HostRuntime) -> Result<(), Fail> {
     let task = MockTask::new(&rt)?;
     let (s, r) = channel::<u64, _>(&rt, rt.alloc(), None).expect(&rt, "a channel");
     let mut closed = s.closed();
-    assert!(rt; matches!(&task.poll(&mut closed), Poll::Pending));
+    assert!(rt; is_pending(&task, &mut closed));
     assert!(rt; r.close());
-    assert!(rt; matches!(&task.poll(&mut closed), Poll::Pending));
+    assert!(rt; is_pending(&task, &mut closed));
     assert!(rt; !closed.is_terminated());
     drop(r);
-    assert!(rt; matches!(&task.poll(&mut closed), Poll::Ready(Ok(()))));
+    assert_eq!(rt; ready(&task, &mut closed), Some(Ok(())));
     assert!(rt; closed.is_terminated());
     Ok(())
 }
@@ -63,9 +81,9 @@ fn a_finished_receive_acts_as_new(rt: HostRuntime) -> Result<(), Fail> {
     let (s, r) = channel(&rt, rt.alloc(), None).expect(&rt, "a channel");
     assert_eq!(rt; s.try_send(1u64), Ok(Ok(())));
     let mut recv = r.recv();
-    assert!(rt; matches!(&task.poll(&mut recv), Poll::Ready(Ok(Ok(1)))));
+    assert_eq!(rt; ready(&task, &mut recv), Some(Ok(Ok(1))));
     assert!(rt; recv.is_terminated());
-    assert!(rt; matches!(&task.poll(&mut recv), Poll::Pending));
+    assert!(rt; is_pending(&task, &mut recv));
     assert!(rt; !recv.is_terminated());
     Ok(())
 }
@@ -76,7 +94,7 @@ fn a_second_pending_poll_wakes_nobody(rt: HostRuntime) -> Result<(), Fail> {
     let (_s, r) = channel::<u64, _>(&rt, rt.alloc(), None).expect(&rt, "a channel");
     let mut recv = r.recv();
     for _ in 0..2 {
-        assert!(rt; matches!(&task.poll(&mut recv), Poll::Pending));
+        assert!(rt; is_pending(&task, &mut recv));
         assert!(rt; !task.is_woken());
     }
     Ok(())
@@ -88,7 +106,7 @@ fn a_ready_poll_wakes_nobody(rt: HostRuntime) -> Result<(), Fail> {
     let (s, r) = channel(&rt, rt.alloc(), None).expect(&rt, "a channel");
     assert_eq!(rt; s.try_send(1u64), Ok(Ok(())));
     let mut recv = r.recv();
-    assert!(rt; matches!(&task.poll(&mut recv), Poll::Ready(Ok(Ok(1)))));
+    assert_eq!(rt; ready(&task, &mut recv), Some(Ok(Ok(1))));
     assert!(rt; !task.is_woken());
     Ok(())
 }

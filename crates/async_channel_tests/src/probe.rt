@@ -55,10 +55,19 @@ pub fn channel<T: Drop, R: Wait + Clone + Drop>(
     alloc: Global,
     capacity: Option<usize>,
 ) -> Result<(Sender<T, R>, Receiver<T, R>), MakeError> {
-    let mut maker = StampMaker::new();
+    channel_by(rt, alloc, capacity, &mut StampMaker::new())
+}
+
+/// Such a channel, with a stamp of this maker.
+pub fn channel_by<T: Drop, R: Wait + Clone + Drop>(
+    rt: &R,
+    alloc: Global,
+    capacity: Option<usize>,
+    maker: &mut StampMaker,
+) -> Result<(Sender<T, R>, Receiver<T, R>), MakeError> {
     match capacity {
-        Some(cap) if cap > 0 => bounded(rt, alloc, cap, &mut maker),
-        _ => unbounded(rt, alloc, &mut maker),
+        Some(cap) if cap > 0 => bounded(rt, alloc, cap, maker),
+        _ => unbounded(rt, alloc, maker),
     }
 }
 

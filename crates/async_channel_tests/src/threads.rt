@@ -105,6 +105,14 @@ fn closes<T: Drop, R: Wait + Clone + Drop>(receiver: &Receiver<T, R>) -> bool {
     false
 }
 
+/// Receives a message that another thread sends, and sees the end behind it.
+fn receive_seven<R: Wait + Clone + Drop + Abort>(rt: &R, r: &Receiver<u64, R>) {
+    assert!(rt; holds(r, 1));
+    assert_eq!(rt; r.try_recv(), Ok(7));
+    assert!(rt; closes(r));
+    assert_eq!(rt; r.try_recv(), Err(TryRecvError::Closed));
+}
+
 #[test]
 fn try_recv(rt: HostRuntime) -> Result<(), Fail> {
     for capacity in [Some(100), None] {
@@ -115,10 +123,7 @@ fn try_recv(rt: HostRuntime) -> Result<(), Fail> {
             move || matches!(block_on(&rt, s.send(7u64)), Ok(Ok(Ok(())))),
         );
         let sender = sender.expect(&rt, "a thread");
-        assert!(rt; holds(&r, 1));
-        assert_eq!(rt; r.try_recv(), Ok(7));
-        assert!(rt; closes(&r));
-        assert_eq!(rt; r.try_recv(), Err(TryRecvError::Closed));
+        receive_seven(&rt, &r);
         assert!(rt; sender.join(&rt));
     }
     Ok(())
