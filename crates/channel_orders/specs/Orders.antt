@@ -53,8 +53,8 @@ abbrev pub is_await : Act → Bool
 is_await (Await who) = true
 is_await act = false
 
--- Where a party with this many lines stands after one that was answered so. A refused line is its last, and an `await`
--- whose poll was pending is still the next one.
+-- Where a party with this many lines stands after one that was answered so. A refused line is its
+-- last, and an `await` whose poll was pending is still the next one.
 abbrev pub place_after : (count : ℕ) → Place → (awaits : Bool) → Answer → Place
 place_after count place awaits (Noticed notice) = record { done = place.done + 1; waiting = false }
 place_after count place awaits (Replied reply) =
@@ -79,10 +79,12 @@ open_line past place (Some act) = Some (place, act)
 abbrev pub lines_of : List (List Act) → (party : ℕ) → List Act
 lines_of parties party = unwrap_or (slice_get parties party) []
 
--- The line that a party can do now, and where it stands; none where it has no line left, or waits untold.
+-- The line that a party can do now, and where it stands; none where it has no line left, or waits
+-- untold.
 abbrev pub line_at : List (List Act) → Moment → (party : ℕ) → Option (Place × Act)
 line_at parties moment party =
-    option_and_then (λ place. open_line moment.past place (slice_get (lines_of parties party) place.done))
+    option_and_then
+    (λ place. open_line moment.past place (slice_get (lines_of parties party) place.done))
     (slice_get moment.places party)
 
 -- the turn in which a party does this line, and the moment after it
@@ -92,13 +94,15 @@ turn_with kind parties moment party (place, act) = (
   record {
     past = past_after_line kind moment.past act;
     places = slice_set moment.places party
-        (place_after (length (lines_of parties party)) place (is_await act) (answer_to kind moment.past act));
+        (place_after (length (lines_of parties party)) place (is_await act)
+        (answer_to kind moment.past act));
   },
 )
 
 -- a party's next turn, if it can go on, and the moment after it
 abbrev pub turn_of : Kind → List (List Act) → Moment → (party : ℕ) → Option (Turn × Moment)
-turn_of kind parties moment party = option_map (turn_with kind parties moment party) (line_at parties moment party)
+turn_of kind parties moment party =
+    option_map (turn_with kind parties moment party) (line_at parties moment party)
 
 -- ---- orders
 
@@ -108,25 +112,31 @@ turns_from kind parties moment party =
     filter_map (turn_of kind parties moment) (range_with_len party (length parties - party))
 
 -- one of these turns, and then an order from the moment after it on
-abbrev pub begun_with : (orders : Moment → List (List Turn)) → List (Turn × Moment) → List (List Turn)
+abbrev pub begun_with : (orders : Moment → List (List Turn)) → List (Turn × Moment)
+    → List (List Turn)
 begun_with orders nexts = flat_map (λ next. map (λ order. next.0 ∷ order) (orders next.1)) nexts
 
 -- Where nobody can go on, the order is at its end.
-abbrev pub orders_by : (orders : Moment → List (List Turn)) → List (Turn × Moment) → List (List Turn)
+abbrev pub orders_by : (orders : Moment → List (List Turn)) → List (Turn × Moment)
+    → List (List Turn)
 orders_by orders [] = [] ∷ []
 orders_by orders (next ∷ nexts) = begun_with orders (next ∷ nexts)
 
--- Every order from a moment on: the parties take turns in every way that the rule allows, depth first, in the order of
--- their numbers. An order of more turns than so many is cut there.
+-- Every order from a moment on: the parties take turns in every way that the rule allows, depth
+-- first, in the order of their numbers. An order of more turns than so many is cut there.
 abbrev pub orders_of : Kind → List (List Act) → (most : ℕ) → Moment → List (List Turn)
 orders_of kind parties zero moment = [] ∷ []
-orders_of kind parties (suc most) moment = orders_by (orders_of kind parties most) (turns_from kind parties moment 0)
+orders_of kind parties (suc most) moment =
+    orders_by (orders_of kind parties most) (turns_from kind parties moment 0)
 
 -- where every order begins, after this past: no party has done a line
 abbrev pub first_moment : Past ℕ → List (List Act) → Moment
-first_moment past parties =
-    record { past = past; places = replicate (length parties) (record { done = 0; waiting = false }) }
+first_moment past parties = record {
+  past = past;
+  places = replicate (length parties) (record { done = 0; waiting = false });
+}
 
--- Every order of these parties on a channel of this kind with this past; one of more turns than so many is cut there.
+-- Every order of these parties on a channel of this kind with this past; one of more turns than so
+-- many is cut there.
 abbrev pub all_orders : Kind → Past ℕ → List (List Act) → (most : ℕ) → List (List Turn)
 all_orders kind past parties most = orders_of kind parties most (first_moment past parties)

@@ -3,7 +3,8 @@ use Rattle.std.specs.Prelude.{◌≡◌, ℕ, ◌≤◌, ◌↔◌, min, List, l
 use Rattle.channel_orders.specs.declared.party.Turn.{Turn}
 use Rattle.channel_orders.specs.declared.search.Searched.{Searched}
 
--- Of these orders so many were made as there are, or as the limit allows; and it says whether they are all.
+-- Of these orders so many were made as there are, or as the limit allows; and it says whether they
+-- are all.
 pub record HasSearched (orders : List (List Turn)) (limit : ℕ) (searched : Searched) : Type 0 where
   pub count : searched.orders ≡ min limit (length orders)
   pub whole : IsTrue searched.whole ↔ (length orders ≤ limit)

@@ -120,7 +120,8 @@ impl Scene {
         parties: &[Vec<Act>],
     ) -> Result<Scene, OutOfMemory>
         ensures { IfOk result (λ scene. Stands (O.kind opening.now)
-            (first_moment (O.past opening.now) (acts_in parties.now)) scene.run scene.places.items) }
+            (first_moment (O.past opening.now) (acts_in parties.now)) scene.run
+            scene.places.items) }
     {
         let run = opening.open(alloc)?;
         let first = Place {
