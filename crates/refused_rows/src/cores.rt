@@ -1,5 +1,7 @@
 //! The queue and the core by their own calls.
-use crate::report::{Report, With, Wrong, may_request, no_request, once_more, refused};
+use crate::report::{
+    Report, With, Wrong, made, may_request, no_request, once_more, refused, refused_unchanged,
+};
 use channel_core::{Core, Group, NoMemory, OutOfMemory, Queue, Quiet, Ticket, Upgrade};
 use channel_model::Reply;
 use chanrun::reply_text::ReplyText;
@@ -50,21 +52,27 @@ impl fmt::Display for Seen {
     fn fmt<W: fmt::Write>(&self, f: &mut fmt::Formatter<W>) -> fmt::Result {
         write!(
             f,
-            "holds {}, {} senders, {} receivers",
+            "holds {}, {} senders, {} receivers, waiting",
             self.len, self.senders, self.receivers
         )?;
-        write!(f, ", waiting")?;
-        for (waiting, told) in self.waiting.iter().zip(self.told.iter()) {
-            write!(f, " {told}/{waiting}")?;
-        }
-        Ok(())
+        write_each(f, &self.waiting, &self.told)
     }
 }
 
+fn write_each<W: fmt::Write>(
+    f: &mut fmt::Formatter<W>,
+    waiting: &[usize],
+    told: &[usize],
+) -> fmt::Result {
+    for (waiting, told) in waiting.iter().zip(told) {
+        write!(f, " {told}/{waiting}")?;
+    }
+    Ok(())
+}
+
 fn bounded_core(rt: &impl Report, alloc: Global) -> Result<Core<u64, u64>, Wrong> {
-    let made = once_more!(rt, "bounded 2", (), OutOfMemory, Core::bounded(alloc, 2));
-    may_request(rt, "bounded 2", "a core")?;
-    Ok(made)
+    let core = once_more!(rt, "bounded 2", (), OutOfMemory, Core::bounded(alloc, 2));
+    made(rt, "bounded 2", "a core", core)
 }
 
 /// A send into a bounded or closed core, which takes no memory.
@@ -228,12 +236,11 @@ fn count_handles(rt: &impl Report, core: &mut Core<u64, u64>) -> Result<(), Wron
     no_request(rt, "questions", by_core(core))
 }
 
-/// Begins to wait with a stream and a closed operation.
-fn others_wait(
+/// Begins to wait with a stream.
+fn stream_waits(
     rt: &impl Report,
     core: &mut Core<u64, u64>,
     stream: &mut Option<Ticket>,
-    closed: &mut Option<Ticket>,
 ) -> Result<(), Wrong> {
     let reply = once_more!(
         rt,
@@ -242,7 +249,15 @@ fn others_wait(
         OutOfMemory,
         core.poll_next(stream, 0, &mut Quiet)
     );
-    may_request(rt, "poll_next", ReplyText(Reply::NextPolled(reply)))?;
+    may_request(rt, "poll_next", ReplyText(Reply::NextPolled(reply)))
+}
+
+/// Begins to wait with a closed operation.
+fn closed_waits(
+    rt: &impl Report,
+    core: &mut Core<u64, u64>,
+    closed: &mut Option<Ticket>,
+) -> Result<(), Wrong> {
     let reply = once_more!(
         rt,
         "poll_closed",
@@ -251,6 +266,17 @@ fn others_wait(
         core.poll_closed(closed, 0)
     );
     may_request(rt, "poll_closed", ReplyText(Reply::ClosedPolled(reply)))
+}
+
+/// Begins to wait with a stream and a closed operation.
+fn others_wait(
+    rt: &impl Report,
+    core: &mut Core<u64, u64>,
+    stream: &mut Option<Ticket>,
+    closed: &mut Option<Ticket>,
+) -> Result<(), Wrong> {
+    stream_waits(rt, core, stream)?;
+    closed_waits(rt, core, closed)
 }
 
 /// Gives up what waits on a core that holds one message and told the receive with this ticket.
@@ -281,20 +307,25 @@ fn ask_told(rt: &impl Report, core: &Core<u64, u64>, t: &Option<Ticket>) -> Resu
     )
 }
 
-/// Messages into an open core without a capacity, and one into the closed core.
-fn fill_and_close(rt: &impl Report, core: &mut Core<u64, u64>) -> Result<(), Wrong> {
-    for m in 2..8 {
-        unbounded_send(rt, core, m)?;
-    }
+/// A forced send of 8 into an open core without a capacity.
+fn force_eight(rt: &impl Report, core: &mut Core<u64, u64>) -> Result<(), Wrong> {
     let call = With("force_send", 8);
-    let made = once_more!(
+    let reply = once_more!(
         rt,
         call,
         by_core(core),
         NoMemory(8),
         core.force_send(8, &mut Quiet)
     );
-    may_request(rt, call, ReplyText(Reply::Forced(made)))?;
+    may_request(rt, call, ReplyText(Reply::Forced(reply)))
+}
+
+/// Messages into an open core without a capacity, and one into the closed core.
+fn fill_and_close(rt: &impl Report, core: &mut Core<u64, u64>) -> Result<(), Wrong> {
+    for m in 2..8 {
+        unbounded_send(rt, core, m)?;
+    }
+    force_eight(rt, core)?;
     for _ in 0..3 {
         receive(rt, core)?;
     }
@@ -315,12 +346,16 @@ fn wait_and_leave(rt: &impl Report, core: &mut Core<u64, u64>) -> Result<(), Wro
     later_receive(rt, core, &mut other)
 }
 
-pub fn unbounded(rt: &impl Report, alloc: Global) -> Result<(), Wrong> {
-    let core = &mut Core::unbounded(alloc);
+fn use_unbounded(rt: &impl Report, core: &mut Core<u64, u64>) -> Result<(), Wrong> {
     no_request(rt, "unbounded", "a core")?;
     count_handles(rt, core)?;
     wait_and_leave(rt, core)?;
     fill_and_close(rt, core)
+}
+
+pub fn unbounded(rt: &impl Report, alloc: Global) -> Result<(), Wrong> {
+    let mut core = Core::unbounded(alloc);
+    use_unbounded(rt, &mut core)
 }
 
 /// A poll of the send of 3 that was told, or has finished.
@@ -384,9 +419,7 @@ fn tell_others(rt: &impl Report, core: &mut Core<u64, u64>) -> Result<(), Wrong>
     end(rt, core, &mut stream, &mut closed)
 }
 
-/// A bounded core that tells a send, which goes on, and a stream and a closed operation at its end.
-pub fn telling(rt: &impl Report, alloc: Global) -> Result<(), Wrong> {
-    let core = &mut bounded_core(rt, alloc)?;
+fn tell_all(rt: &impl Report, core: &mut Core<u64, u64>) -> Result<(), Wrong> {
     for m in 1..3 {
         bounded_send(rt, core, m)?;
     }
@@ -394,6 +427,12 @@ pub fn telling(rt: &impl Report, alloc: Global) -> Result<(), Wrong> {
     receive(rt, core)?;
     receive(rt, core)?;
     tell_others(rt, core)
+}
+
+/// A bounded core that tells a send, which goes on, and a stream and a closed operation at its end.
+pub fn telling(rt: &impl Report, alloc: Global) -> Result<(), Wrong> {
+    let mut core = bounded_core(rt, alloc)?;
+    tell_all(rt, &mut core)
 }
 
 fn push_into_ring(rt: &impl Report, ring: &mut Queue<u64>, m: u64) -> Result<(), Wrong> {
@@ -427,30 +466,42 @@ fn displaced_text(displaced: Option<u64>) -> &'static str {
     }
 }
 
-pub fn ring(rt: &impl Report, alloc: Global) -> Result<(), Wrong> {
-    let mut ring = once_more!(rt, "bounded 1", (), OutOfMemory, Queue::bounded(alloc, 1));
+fn use_ring(rt: &impl Report, ring: &mut Queue<u64>) -> Result<(), Wrong> {
     may_request(rt, "bounded 1", "a queue")?;
-    push_into_ring(rt, &mut ring, 1)?;
-    push_into_ring(rt, &mut ring, 2)?;
+    push_into_ring(rt, ring, 1)?;
+    push_into_ring(rt, ring, 2)?;
     let Ok(displaced) = ring.force_push(3) else {
         return Err(Wrong::Refused);
     };
     no_request(rt, "force_push 3", displaced_text(displaced))?;
     no_request(rt, "len", ring.len())?;
     no_request(rt, "is bounded", ring.capacity().is_some())?;
-    pop(rt, &mut ring)
+    pop(rt, ring)
+}
+
+pub fn ring(rt: &impl Report, alloc: Global) -> Result<(), Wrong> {
+    let mut ring = once_more!(rt, "bounded 1", (), OutOfMemory, Queue::bounded(alloc, 1));
+    use_ring(rt, &mut ring)
+}
+
+fn force_onto_deque(rt: &impl Report, deque: &mut Queue<u64>, m: u64) -> Result<(), Wrong> {
+    let call = With("force_push", m);
+    let displaced = once_more!(rt, call, deque.len(), NoMemory(m), deque.force_push(m));
+    may_request(rt, call, displaced_text(displaced))
+}
+
+fn use_deque(rt: &impl Report, deque: &mut Queue<u64>) -> Result<(), Wrong> {
+    no_request(rt, "unbounded", "a queue")?;
+    for m in 0..6 {
+        push_onto_deque(rt, deque, m)?;
+    }
+    force_onto_deque(rt, deque, 6)?;
+    pop(rt, deque)?;
+    no_request(rt, "len", deque.len())?;
+    no_request(rt, "is bounded", deque.capacity().is_some())
 }
 
 pub fn deque(rt: &impl Report, alloc: Global) -> Result<(), Wrong> {
     let mut deque = Queue::unbounded(alloc);
-    no_request(rt, "unbounded", "a queue")?;
-    for m in 0..6 {
-        push_onto_deque(rt, &mut deque, m)?;
-    }
-    let call = With("force_push", 6);
-    let displaced = once_more!(rt, call, deque.len(), NoMemory(6), deque.force_push(6));
-    may_request(rt, call, displaced_text(displaced))?;
-    pop(rt, &mut deque)?;
-    no_request(rt, "len", deque.len())?;
-    no_request(rt, "is bounded", deque.capacity().is_some())
+    use_deque(rt, &mut deque)
 }

@@ -1,5 +1,7 @@
 //! Handles: constructors, sends, copies, weak handles and the calls that may block.
-use crate::report::{Report, With, Wrong, may_request, no_request, once_more, refused};
+use crate::report::{
+    Report, With, Wrong, made, may_request, no_request, once_more, refused_unchanged,
+};
 use async_channel::{
     CloneError, MakeError, NoMemory, OutOfMemory, Receiver, Sender, StampMaker, WeakReceiver,
     WeakSender, bounded, unbounded,
@@ -54,21 +56,21 @@ pub fn channel<T: Drop, R: Wait + Clone + Drop + Report>(
     if capacity > 0 {
         let call = With("bounded", capacity as u64);
         let refusal = MakeError::OutOfMemory;
-        let made = once_more!(rt, call, (), refusal, bounded(rt, alloc, capacity, maker));
-        may_request(rt, call, "a channel")?;
-        Ok(made)
+        let ends = once_more!(rt, call, (), refusal, bounded(rt, alloc, capacity, maker));
+        made(rt, call, "a channel", ends)
     } else {
-        let call = "unbounded";
-        let made = once_more!(
-            rt,
-            call,
-            (),
-            MakeError::OutOfMemory,
-            unbounded(rt, alloc, maker)
-        );
-        may_request(rt, call, "a channel")?;
-        Ok(made)
+        unbounded_channel(rt, alloc, maker)
     }
+}
+
+fn unbounded_channel<T: Drop, R: Wait + Clone + Drop + Report>(
+    rt: &R,
+    alloc: Global,
+    maker: &mut StampMaker,
+) -> Result<(Sender<T, R>, Receiver<T, R>), Wrong> {
+    let refusal = MakeError::OutOfMemory;
+    let ends = once_more!(rt, "unbounded", (), refusal, unbounded(rt, alloc, maker));
+    made(rt, "unbounded", "a channel", ends)
 }
 
 pub fn try_send<R: Wait + Clone + Drop + Report>(
@@ -104,15 +106,27 @@ pub fn give_up<X: Drop>(rt: &impl Report, what: &'static str, value: X) -> Resul
     no_request(rt, what, "done")
 }
 
+fn send_until_closed<R: Wait + Clone + Drop + Report>(
+    rt: &R,
+    s: &Sender<u64, R>,
+    r: Receiver<u64, R>,
+) -> Result<(), Wrong> {
+    send_two(rt, s)?;
+    give_up(rt, "drop r", r)?;
+    try_send(rt, s, 3)
+}
+
+fn send_two<R: Wait + Clone + Drop + Report>(rt: &R, s: &Sender<u64, R>) -> Result<(), Wrong> {
+    try_send(rt, s, 1)?;
+    try_send(rt, s, 2)
+}
+
 pub fn documentation_of_try_send<R: Wait + Clone + Drop + Report>(
     rt: &R,
     alloc: Global,
 ) -> Result<(), Wrong> {
     let (s, r) = channel(rt, alloc, 1)?;
-    try_send(rt, &s, 1)?;
-    try_send(rt, &s, 2)?;
-    give_up(rt, "drop r", r)?;
-    try_send(rt, &s, 3)?;
+    send_until_closed(rt, &s, r)?;
     give_up(rt, "drop s", s)
 }
 
@@ -143,13 +157,22 @@ fn closed<R: Wait + Clone + Drop + Report>(rt: &R, s: &Sender<u64, R>) -> Result
     no_request(rt, "into_inner", closed.into_inner())
 }
 
+/// The errors of a channel of capacity 1 that is open.
+fn errors_while_open<R: Wait + Clone + Drop + Report>(
+    rt: &R,
+    s: &Sender<u64, R>,
+    r: &Receiver<u64, R>,
+) -> Result<(), Wrong> {
+    try_send(rt, s, 1)?;
+    full(rt, s)?;
+    try_recv(rt, r)?;
+    empty(rt, r)
+}
+
 /// The errors of a channel by their methods.
 pub fn errors<R: Wait + Clone + Drop + Report>(rt: &R, alloc: Global) -> Result<(), Wrong> {
     let (s, r) = channel(rt, alloc, 1)?;
-    try_send(rt, &s, 1)?;
-    full(rt, &s)?;
-    try_recv(rt, &r)?;
-    empty(rt, &r)?;
+    errors_while_open(rt, &s, &r)?;
     give_up(rt, "drop r", r)?;
     closed(rt, &s)
 }
@@ -181,18 +204,30 @@ pub fn forced_sends<R: Wait + Clone + Drop + Report>(rt: &R, alloc: Global) -> R
     force(rt, alloc, 0)
 }
 
-pub fn messages_without_size<R: Wait + Clone + Drop + Report>(
+fn send_one_without_size<R: Wait + Clone + Drop + Report>(
     rt: &R,
-    alloc: Global,
+    s: &Sender<(), R>,
 ) -> Result<(), Wrong> {
-    let (s, r) = channel(rt, alloc, 2)?;
+    let sent = once_more!(rt, "try_send", by_sender(s), NoMemory(()), s.try_send(()));
+    may_request(rt, "try_send", if sent.is_ok() { "ok" } else { "not sent" })
+}
+
+fn send_without_size<R: Wait + Clone + Drop + Report>(
+    rt: &R,
+    s: &Sender<(), R>,
+) -> Result<(), Wrong> {
     for _ in 0..2 {
-        let sent = once_more!(rt, "try_send", by_sender(&s), NoMemory(()), s.try_send(()));
-        may_request(rt, "try_send", if sent.is_ok() { "ok" } else { "not sent" })?;
+        send_one_without_size(rt, s)?;
     }
     no_request(rt, "len", s.len())?;
     no_request(rt, "is_empty", s.is_empty())?;
-    no_request(rt, "is_full", s.is_full())?;
+    no_request(rt, "is_full", s.is_full())
+}
+
+fn receive_without_size<R: Wait + Clone + Drop + Report>(
+    rt: &R,
+    r: &Receiver<(), R>,
+) -> Result<(), Wrong> {
     no_request(
         rt,
         "try_recv",
@@ -203,20 +238,22 @@ pub fn messages_without_size<R: Wait + Clone + Drop + Report>(
     no_request(rt, "is_full", r.is_full())
 }
 
-pub fn largest_stamp<R: Wait + Clone + Drop + Report>(rt: &R, alloc: Global) -> Result<(), Wrong> {
-    let mut maker = StampMaker::starting_at(u64::MAX);
-    no_request(rt, "starting_at", "a maker")?;
-    let refusal = MakeError::OutOfMemory;
-    let (s, r) = once_more!(
-        rt,
-        "unbounded",
-        (),
-        refusal,
-        unbounded(rt, alloc, &mut maker)
-    );
-    may_request(rt, "unbounded", "a channel")?;
-    try_send(rt, &s, 1)?;
-    let Err(refusal) = unbounded::<u64, _>(rt, alloc, &mut maker) else {
+pub fn messages_without_size<R: Wait + Clone + Drop + Report>(
+    rt: &R,
+    alloc: Global,
+) -> Result<(), Wrong> {
+    let (s, r) = channel(rt, alloc, 2)?;
+    send_without_size(rt, &s)?;
+    receive_without_size(rt, &r)
+}
+
+/// Asks for a stamp behind the largest one, by a channel and by itself.
+fn no_stamp<R: Wait + Clone + Drop + Report>(
+    rt: &R,
+    alloc: Global,
+    maker: &mut StampMaker,
+) -> Result<(), Wrong> {
+    let Err(refusal) = unbounded::<u64, _>(rt, alloc, maker) else {
         return Err(Wrong::Changed);
     };
     no_request(rt, "unbounded, again", refusal)?;
@@ -228,8 +265,35 @@ pub fn largest_stamp<R: Wait + Clone + Drop + Report>(rt: &R, alloc: Global) -> 
         } else {
             "a stamp"
         },
-    )?;
+    )
+}
+
+pub fn largest_stamp<R: Wait + Clone + Drop + Report>(rt: &R, alloc: Global) -> Result<(), Wrong> {
+    let mut maker = StampMaker::starting_at(u64::MAX);
+    no_request(rt, "starting_at", "a maker")?;
+    let (s, r) = unbounded_channel(rt, alloc, &mut maker)?;
+    try_send(rt, &s, 1)?;
+    no_stamp(rt, alloc, &mut maker)?;
     try_recv(rt, &r)
+}
+
+fn copy_sender<R: Wait + Clone + Drop + Report>(
+    rt: &R,
+    s: &Sender<u64, R>,
+) -> Result<Sender<u64, R>, Wrong> {
+    let refusal = CloneError::OutOfMemory;
+    let sender = once_more!(rt, "try_clone of s", by_sender(s), refusal, s.try_clone());
+    made(rt, "try_clone of s", s.sender_count(), sender)
+}
+
+fn copy_receiver<R: Wait + Clone + Drop + Report>(
+    rt: &R,
+    s: &Sender<u64, R>,
+    r: &Receiver<u64, R>,
+) -> Result<Receiver<u64, R>, Wrong> {
+    let refusal = CloneError::OutOfMemory;
+    let receiver = once_more!(rt, "try_clone of r", by_sender(s), refusal, r.try_clone());
+    made(rt, "try_clone of r", r.receiver_count(), receiver)
 }
 
 fn copy<R: Wait + Clone + Drop + Report>(
@@ -237,15 +301,18 @@ fn copy<R: Wait + Clone + Drop + Report>(
     s: &Sender<u64, R>,
     r: &Receiver<u64, R>,
 ) -> Result<(), Wrong> {
-    let refusal = CloneError::OutOfMemory;
-    let sender = once_more!(rt, "try_clone of s", by_sender(s), refusal, s.try_clone());
-    may_request(rt, "try_clone of s", s.sender_count())?;
+    let sender = copy_sender(rt, s)?;
     no_request(rt, "same_channel of senders", s.same_channel(&sender))?;
     give_up(rt, "drop of the copy", sender)?;
-    let receiver = once_more!(rt, "try_clone of r", by_sender(s), refusal, r.try_clone());
-    may_request(rt, "try_clone of r", r.receiver_count())?;
+    let receiver = copy_receiver(rt, s, r)?;
     no_request(rt, "same_channel of receivers", r.same_channel(&receiver))?;
     give_up(rt, "drop of the copy", receiver)
+}
+
+/// How many handles of either side there are.
+fn counts<R: Wait + Clone + Drop + Report>(rt: &R, s: &Sender<u64, R>) -> Result<(), Wrong> {
+    no_request(rt, "sender_count", s.sender_count())?;
+    no_request(rt, "receiver_count", s.receiver_count())
 }
 
 pub fn copies<R: Wait + Clone + Drop + Report>(rt: &R, alloc: Global) -> Result<(), Wrong> {
@@ -257,28 +324,53 @@ pub fn copies<R: Wait + Clone + Drop + Report>(rt: &R, alloc: Global) -> Result<
 
 type Weak<R> = (WeakSender<u64, R>, WeakReceiver<u64, R>);
 
+fn downgrade_sender<R: Wait + Clone + Drop + Report>(
+    rt: &R,
+    s: &Sender<u64, R>,
+) -> Result<WeakSender<u64, R>, Wrong> {
+    let call = "downgrade of s";
+    let weak = once_more!(rt, call, by_sender(s), OutOfMemory, s.downgrade());
+    made(rt, call, "a weak sender", weak)
+}
+
+fn downgrade_receiver<R: Wait + Clone + Drop + Report>(
+    rt: &R,
+    s: &Sender<u64, R>,
+    r: &Receiver<u64, R>,
+) -> Result<WeakReceiver<u64, R>, Wrong> {
+    let call = "downgrade of r";
+    let weak = once_more!(rt, call, by_sender(s), OutOfMemory, r.downgrade());
+    made(rt, call, "a weak receiver", weak)
+}
+
 fn downgrade<R: Wait + Clone + Drop + Report>(
     rt: &R,
     s: &Sender<u64, R>,
     r: &Receiver<u64, R>,
 ) -> Result<Weak<R>, Wrong> {
-    let ws = once_more!(
-        rt,
-        "downgrade of s",
-        by_sender(s),
-        OutOfMemory,
-        s.downgrade()
-    );
-    may_request(rt, "downgrade of s", "a weak sender")?;
-    let wr = once_more!(
-        rt,
-        "downgrade of r",
-        by_sender(s),
-        OutOfMemory,
-        r.downgrade()
-    );
-    may_request(rt, "downgrade of r", "a weak receiver")?;
+    let ws = downgrade_sender(rt, s)?;
+    let wr = downgrade_receiver(rt, s, r)?;
     Ok((ws, wr))
+}
+
+fn copy_weak_sender<R: Wait + Clone + Drop + Report>(
+    rt: &R,
+    s: &Sender<u64, R>,
+    ws: &WeakSender<u64, R>,
+) -> Result<WeakSender<u64, R>, Wrong> {
+    let call = "try_clone of ws";
+    let copy = once_more!(rt, call, by_sender(s), OutOfMemory, ws.try_clone());
+    made(rt, call, "a weak sender", copy)
+}
+
+fn copy_weak_receiver<R: Wait + Clone + Drop + Report>(
+    rt: &R,
+    s: &Sender<u64, R>,
+    wr: &WeakReceiver<u64, R>,
+) -> Result<WeakReceiver<u64, R>, Wrong> {
+    let call = "try_clone of wr";
+    let copy = once_more!(rt, call, by_sender(s), OutOfMemory, wr.try_clone());
+    made(rt, call, "a weak receiver", copy)
 }
 
 fn copy_weak<R: Wait + Clone + Drop + Report>(
@@ -286,23 +378,33 @@ fn copy_weak<R: Wait + Clone + Drop + Report>(
     s: &Sender<u64, R>,
     weak: &Weak<R>,
 ) -> Result<(), Wrong> {
-    let sender = once_more!(
-        rt,
-        "try_clone of ws",
-        by_sender(s),
-        OutOfMemory,
-        weak.0.try_clone()
-    );
-    may_request(rt, "try_clone of ws", "a weak sender")?;
-    let other = once_more!(
-        rt,
-        "try_clone of wr",
-        by_sender(s),
-        OutOfMemory,
-        weak.1.try_clone()
-    );
-    may_request(rt, "try_clone of wr", "a weak receiver")?;
+    let sender = copy_weak_sender(rt, s, &weak.0)?;
+    let other = copy_weak_receiver(rt, s, &weak.1)?;
     give_up(rt, "drop of both copies", (sender, other))
+}
+
+fn upgrade_sender<R: Wait + Clone + Drop + Report>(
+    rt: &R,
+    s: &Sender<u64, R>,
+    ws: &WeakSender<u64, R>,
+) -> Result<Option<Sender<u64, R>>, Wrong> {
+    let call = "upgrade of ws";
+    let refusal = CloneError::OutOfMemory;
+    let sender = once_more!(rt, call, by_sender(s), refusal, ws.upgrade());
+    let reply = ReplyText(Reply::Upgraded(sender.is_some()));
+    made(rt, call, reply, sender)
+}
+
+fn upgrade_receiver<R: Wait + Clone + Drop + Report>(
+    rt: &R,
+    s: &Sender<u64, R>,
+    wr: &WeakReceiver<u64, R>,
+) -> Result<Option<Receiver<u64, R>>, Wrong> {
+    let call = "upgrade of wr";
+    let refusal = CloneError::OutOfMemory;
+    let receiver = once_more!(rt, call, by_sender(s), refusal, wr.upgrade());
+    let reply = ReplyText(Reply::Upgraded(receiver.is_some()));
+    made(rt, call, reply, receiver)
 }
 
 fn upgrade<R: Wait + Clone + Drop + Report>(
@@ -310,50 +412,65 @@ fn upgrade<R: Wait + Clone + Drop + Report>(
     s: &Sender<u64, R>,
     weak: &Weak<R>,
 ) -> Result<(), Wrong> {
-    let refusal = CloneError::OutOfMemory;
-    let sender = once_more!(rt, "upgrade of ws", by_sender(s), refusal, weak.0.upgrade());
-    may_request(
-        rt,
-        "upgrade of ws",
-        ReplyText(Reply::Upgraded(sender.is_some())),
-    )?;
-    let other = once_more!(rt, "upgrade of wr", by_sender(s), refusal, weak.1.upgrade());
-    may_request(
-        rt,
-        "upgrade of wr",
-        ReplyText(Reply::Upgraded(other.is_some())),
-    )?;
-    no_request(rt, "sender_count", s.sender_count())?;
-    no_request(rt, "receiver_count", s.receiver_count())?;
+    let sender = upgrade_sender(rt, s, &weak.0)?;
+    let other = upgrade_receiver(rt, s, &weak.1)?;
+    counts(rt, s)?;
     give_up(rt, "drop of both upgraded", (sender, other))
 }
 
 /// Upgrades where the channel is closed, and nobody else sees it.
-fn upgrade_closed<R: Wait + Clone + Drop + Report>(rt: &R, weak: &Weak<R>) -> Result<(), Wrong> {
-    let refusal = CloneError::OutOfMemory;
-    let sender = once_more!(rt, "upgrade of ws", (), refusal, weak.0.upgrade());
-    may_request(
-        rt,
-        "upgrade of ws",
-        ReplyText(Reply::Upgraded(sender.is_some())),
-    )?;
-    let other = once_more!(rt, "upgrade of wr", (), refusal, weak.1.upgrade());
-    may_request(
-        rt,
-        "upgrade of wr",
-        ReplyText(Reply::Upgraded(other.is_some())),
-    )
+fn upgrade_closed_sender<R: Wait + Clone + Drop + Report>(
+    rt: &R,
+    ws: &WeakSender<u64, R>,
+) -> Result<(), Wrong> {
+    let call = "upgrade of ws";
+    let upgraded = once_more!(rt, call, (), CloneError::OutOfMemory, ws.upgrade());
+    may_request(rt, call, ReplyText(Reply::Upgraded(upgraded.is_some())))
+}
+
+/// The same of a receiver.
+fn upgrade_closed_receiver<R: Wait + Clone + Drop + Report>(
+    rt: &R,
+    wr: &WeakReceiver<u64, R>,
+) -> Result<(), Wrong> {
+    let call = "upgrade of wr";
+    let upgraded = once_more!(rt, call, (), CloneError::OutOfMemory, wr.upgrade());
+    may_request(rt, call, ReplyText(Reply::Upgraded(upgraded.is_some())))
+}
+
+fn use_weak<R: Wait + Clone + Drop + Report>(
+    rt: &R,
+    s: &Sender<u64, R>,
+    weak: &Weak<R>,
+) -> Result<(), Wrong> {
+    copy_weak(rt, s, weak)?;
+    upgrade(rt, s, weak)?;
+    counts(rt, s)
+}
+
+/// Weak handles that were used.
+fn used_weak<R: Wait + Clone + Drop + Report>(
+    rt: &R,
+    s: &Sender<u64, R>,
+    r: &Receiver<u64, R>,
+) -> Result<Weak<R>, Wrong> {
+    let weak = downgrade(rt, s, r)?;
+    use_weak(rt, s, &weak)?;
+    Ok(weak)
+}
+
+/// Weak handles that were used, of a channel whose handles were then given up.
+fn weak_behind<R: Wait + Clone + Drop + Report>(rt: &R, alloc: Global) -> Result<Weak<R>, Wrong> {
+    let (s, r) = channel(rt, alloc, 0)?;
+    let weak = used_weak(rt, &s, &r)?;
+    give_up(rt, "drop of both handles", (s, r))?;
+    Ok(weak)
 }
 
 pub fn weak<R: Wait + Clone + Drop + Report>(rt: &R, alloc: Global) -> Result<(), Wrong> {
-    let (s, r) = channel(rt, alloc, 0)?;
-    let weak = downgrade(rt, &s, &r)?;
-    copy_weak(rt, &s, &weak)?;
-    upgrade(rt, &s, &weak)?;
-    no_request(rt, "sender_count", s.sender_count())?;
-    no_request(rt, "receiver_count", s.receiver_count())?;
-    give_up(rt, "drop of both handles", (s, r))?;
-    upgrade_closed(rt, &weak)?;
+    let weak = weak_behind(rt, alloc)?;
+    upgrade_closed_sender(rt, &weak.0)?;
+    upgrade_closed_receiver(rt, &weak.1)?;
     give_up(rt, "drop of both weak handles", weak)
 }
 
@@ -370,6 +487,12 @@ fn recv_blocking<R: Wait + Clone + Drop + Report>(
     )
 }
 
+fn send_blocking<R: Wait + Clone + Drop + Report>(rt: &R, s: &Sender<u64, R>) -> Result<(), Wrong> {
+    let call = With("send_blocking", 7);
+    let sent = once_more!(rt, call, by_sender(s), NoMemory(7), s.send_blocking(7));
+    may_request(rt, call, ReplyText(Reply::SendPolled(Poll::Ready(sent))))
+}
+
 /// Blocking calls that find what they want, so that one thread makes them.
 fn block<R: Wait + Clone + Drop + Report>(
     rt: &R,
@@ -377,13 +500,19 @@ fn block<R: Wait + Clone + Drop + Report>(
     capacity: usize,
 ) -> Result<(), Wrong> {
     let (s, r) = channel(rt, alloc, capacity)?;
-    let call = With("send_blocking", 7);
-    let sent = once_more!(rt, call, by_sender(&s), NoMemory(7), s.send_blocking(7));
-    may_request(rt, call, ReplyText(Reply::SendPolled(Poll::Ready(sent))))?;
-    recv_blocking(rt, &r)?;
-    give_up(rt, "drop s", s)?;
-    recv_blocking(rt, &r)?;
+    block_until_closed(rt, s, &r)?;
     give_up(rt, "drop r", r)
+}
+
+fn block_until_closed<R: Wait + Clone + Drop + Report>(
+    rt: &R,
+    s: Sender<u64, R>,
+    r: &Receiver<u64, R>,
+) -> Result<(), Wrong> {
+    send_blocking(rt, &s)?;
+    recv_blocking(rt, r)?;
+    give_up(rt, "drop s", s)?;
+    recv_blocking(rt, r)
 }
 
 pub fn blocking<R: Wait + Clone + Drop + Report>(rt: &R, alloc: Global) -> Result<(), Wrong> {

@@ -1,5 +1,7 @@
 //! The recorder and its journal.
-use crate::report::{Report, Wrong, may_request, no_request, once_more, refused};
+use crate::report::{
+    Report, Wrong, made, may_request, no_request, once_more, refused, refused_unchanged,
+};
 use async_channel::{MakeError, OutOfMemory, StampMaker};
 use channel_model::{Kind, Reply};
 use channel_record::{Book, Call, Clerk, FinishError, Journal, Outcome, Recorder};
@@ -50,8 +52,7 @@ fn write_each<W: fmt::Write>(f: &mut fmt::Formatter<W>, places: &[usize]) -> fmt
 
 fn clerk_of<R: Wait + Report>(rt: &R, recorder: &Recorder<u64>) -> Result<Clerk<u64>, Wrong> {
     let clerk = once_more!(rt, "clerk", (), OutOfMemory, recorder.clerk(rt));
-    may_request(rt, "clerk", "a clerk")?;
-    Ok(clerk)
+    made(rt, "clerk", "a clerk", clerk)
 }
 
 fn call<R: Wait + Report>(
@@ -78,7 +79,16 @@ fn call<R: Wait + Report>(
     may_request(rt, name, text(outcome))
 }
 
-/// A list of both clerks, the row's own.
+/// Room for two clerks in a list, the row's own.
+fn reserve_two(rt: &impl Report, clerks: &mut Vec<Clerk<u64>>) -> Result<(), Wrong> {
+    if clerks.reserve(2).is_err() {
+        refused(rt, "a list of clerks")?;
+        clerks.reserve(2).map_err(|_| Wrong::Refused)?;
+    }
+    Ok(())
+}
+
+/// A list of both clerks.
 fn both<R: Report>(
     rt: &R,
     alloc: Global,
@@ -86,40 +96,60 @@ fn both<R: Report>(
     b: Clerk<u64>,
 ) -> Result<Vec<Clerk<u64>>, Wrong> {
     let mut clerks = Vec::new(alloc);
-    if clerks.reserve(2).is_err() {
-        refused(rt, "a list of clerks")?;
-        clerks.reserve(2).map_err(|_| Wrong::Refused)?;
-    }
+    reserve_two(rt, &mut clerks)?;
     clerks.push(a).map_err(|_| Wrong::Refused)?;
     clerks.push(b).map_err(|_| Wrong::Refused)?;
-    may_request(rt, "a list of clerks", "both")?;
-    Ok(clerks)
+    made(rt, "a list of clerks", "both", clerks)
+}
+
+fn make_calls<R: Wait + Report>(
+    rt: &R,
+    recorder: &Recorder<u64>,
+    a: &mut Clerk<u64>,
+    b: &mut Clerk<u64>,
+) -> Result<(), Wrong> {
+    for (clerk, asked, name) in CALLS {
+        if clerk == 0 {
+            call(rt, recorder, a, asked, name)?;
+        } else {
+            call(rt, recorder, b, asked, name)?;
+        }
+    }
+    Ok(())
+}
+
+/// Two clerks of the recorder, behind their calls.
+fn clerks_behind<R: Wait + Report>(
+    rt: &R,
+    alloc: Global,
+    recorder: &Recorder<u64>,
+) -> Result<Vec<Clerk<u64>>, Wrong> {
+    let mut a = clerk_of(rt, recorder)?;
+    let mut b = clerk_of(rt, recorder)?;
+    make_calls(rt, recorder, &mut a, &mut b)?;
+    both(rt, alloc, a, b)
+}
+
+fn bounded_recorder(rt: &impl Report, alloc: Global) -> Result<Recorder<u64>, Wrong> {
+    let maker = &mut StampMaker::new();
+    let (call, refusal) = ("bounded 1", MakeError::OutOfMemory);
+    let recorder = once_more!(rt, call, (), refusal, Recorder::bounded(alloc, 1, maker));
+    made(rt, call, "a recorder", recorder)
+}
+
+fn unbounded_recorder(rt: &impl Report, alloc: Global) -> Result<Recorder<u64>, Wrong> {
+    let maker = &mut StampMaker::new();
+    let (call, refusal) = ("unbounded", MakeError::OutOfMemory);
+    let recorder = once_more!(rt, call, (), refusal, Recorder::unbounded(alloc, maker));
+    made(rt, call, "a recorder", recorder)
 }
 
 fn finished<R: Wait + Report>(
     rt: &R,
     alloc: Global,
 ) -> Result<Result<Book<u64>, FinishError>, Wrong> {
-    let maker = &mut StampMaker::new();
-    let refusal = MakeError::OutOfMemory;
-    let recorder = once_more!(
-        rt,
-        "bounded 1",
-        (),
-        refusal,
-        Recorder::bounded(alloc, 1, maker)
-    );
-    may_request(rt, "bounded 1", "a recorder")?;
-    let mut a = clerk_of(rt, &recorder)?;
-    let mut b = clerk_of(rt, &recorder)?;
-    for (clerk, made, name) in CALLS {
-        if clerk == 0 {
-            call(rt, &recorder, &mut a, made, name)?;
-        } else {
-            call(rt, &recorder, &mut b, made, name)?;
-        }
-    }
-    let clerks = both(rt, alloc, a, b)?;
+    let recorder = bounded_recorder(rt, alloc)?;
+    let clerks = clerks_behind(rt, alloc, &recorder)?;
     Ok(recorder.finish(clerks))
 }
 
@@ -133,78 +163,74 @@ fn begin_again(rt: &impl Report, refusal: FinishError) -> Result<(), Wrong> {
     Ok(())
 }
 
-pub fn calls<R: Wait + Report>(rt: &R, alloc: Global) -> Result<(), Wrong> {
-    let book = match finished(rt, alloc)? {
-        Ok(book) => book,
+/// The book of the calls, for which the row may begin anew once.
+fn book_of_calls<R: Wait + Report>(rt: &R, alloc: Global) -> Result<Book<u64>, Wrong> {
+    match finished(rt, alloc)? {
+        Ok(book) => Ok(book),
         Err(refusal) => {
             begin_again(rt, refusal)?;
-            let Ok(book) = finished(rt, alloc)? else {
-                return Err(Wrong::Refused);
-            };
-            book
+            finished(rt, alloc)?.map_err(|_| Wrong::Refused)
         }
-    };
+    }
+}
+
+fn read_calls(rt: &impl Report, book: &Book<u64>) -> Result<(), Wrong> {
     may_request(rt, "finish", "a book")?;
     no_request(rt, "calls", book.history().len())?;
     no_request(rt, "calls of a", Places(book.places(0)))?;
     no_request(rt, "calls of b", Places(book.places(1)))
 }
 
+pub fn calls<R: Wait + Report>(rt: &R, alloc: Global) -> Result<(), Wrong> {
+    let book = book_of_calls(rt, alloc)?;
+    read_calls(rt, &book)
+}
+
 fn finished_without_calls(
     rt: &impl Report,
     alloc: Global,
 ) -> Result<Result<Book<u64>, FinishError>, Wrong> {
-    let maker = &mut StampMaker::new();
-    let refusal = MakeError::OutOfMemory;
-    let recorder = once_more!(
-        rt,
-        "unbounded",
-        (),
-        refusal,
-        Recorder::unbounded(alloc, maker)
-    );
-    may_request(rt, "unbounded", "a recorder")?;
+    let recorder = unbounded_recorder(rt, alloc)?;
     Ok(recorder.finish(Vec::new(alloc)))
+}
+
+/// A book without calls, for which the row may begin anew once.
+fn empty_book(rt: &impl Report, alloc: Global) -> Result<Book<u64>, Wrong> {
+    match finished_without_calls(rt, alloc)? {
+        Ok(book) => Ok(book),
+        Err(refusal) => {
+            begin_again(rt, refusal)?;
+            finished_without_calls(rt, alloc)?.map_err(|_| Wrong::Refused)
+        }
+    }
+}
+
+fn read_empty(rt: &impl Report, book: &Book<u64>) -> Result<(), Wrong> {
+    may_request(rt, "finish", "a book")?;
+    no_request(rt, "calls", book.history().len())?;
+    no_request(rt, "clerks", book.clerks())
+}
+
+fn make_three<R: Wait + Report>(
+    rt: &R,
+    recorder: &Recorder<u64>,
+    clerk: &mut Clerk<u64>,
+) -> Result<(), Wrong> {
+    call(rt, recorder, clerk, Call::ForceSend(1), "force_send 1")?;
+    call(rt, recorder, clerk, Call::Len, "len")?;
+    call(rt, recorder, clerk, Call::IsClosed, "is_closed")
 }
 
 /// The calls of one clerk on a recorder without a capacity.
 fn calls_of_one<R: Wait + Report>(rt: &R, alloc: Global) -> Result<(), Wrong> {
-    let maker = &mut StampMaker::new();
-    let refusal = MakeError::OutOfMemory;
-    let recorder = once_more!(
-        rt,
-        "unbounded",
-        (),
-        refusal,
-        Recorder::unbounded(alloc, maker)
-    );
-    may_request(rt, "unbounded", "a recorder")?;
+    let recorder = unbounded_recorder(rt, alloc)?;
     let mut clerk = clerk_of(rt, &recorder)?;
-    call(
-        rt,
-        &recorder,
-        &mut clerk,
-        Call::ForceSend(1),
-        "force_send 1",
-    )?;
-    call(rt, &recorder, &mut clerk, Call::Len, "len")?;
-    call(rt, &recorder, &mut clerk, Call::IsClosed, "is_closed")
+    make_three(rt, &recorder, &mut clerk)
 }
 
 pub fn book_without_calls<R: Wait + Report>(rt: &R, alloc: Global) -> Result<(), Wrong> {
-    let book = match finished_without_calls(rt, alloc)? {
-        Ok(book) => book,
-        Err(refusal) => {
-            begin_again(rt, refusal)?;
-            let Ok(book) = finished_without_calls(rt, alloc)? else {
-                return Err(Wrong::Refused);
-            };
-            book
-        }
-    };
-    may_request(rt, "finish", "a book")?;
-    no_request(rt, "calls", book.history().len())?;
-    no_request(rt, "clerks", book.clerks())?;
+    let book = empty_book(rt, alloc)?;
+    read_empty(rt, &book)?;
     calls_of_one(rt, alloc)
 }
 
@@ -228,15 +254,19 @@ fn write_down(
     may_request(rt, name, text(outcome))
 }
 
+fn write_all(rt: &impl Report, journal: &mut Journal<u64>) -> Result<(), Wrong> {
+    may_request(rt, "new", "a journal")?;
+    for (_, call, name) in CALLS {
+        write_down(rt, journal, call, name)?;
+    }
+    write_down(rt, journal, Call::ForceSend(3), "force_send 3")?;
+    write_down(rt, journal, Call::Len, "len")?;
+    write_down(rt, journal, Call::IsClosed, "is_closed")?;
+    no_request(rt, "calls", journal.history().len())
+}
+
 pub fn journal(rt: &impl Report, alloc: Global) -> Result<(), Wrong> {
     let kind = Kind::Unbounded;
     let mut journal = once_more!(rt, "new", (), OutOfMemory, Journal::new(alloc, kind));
-    may_request(rt, "new", "a journal")?;
-    for (_, call, name) in CALLS {
-        write_down(rt, &mut journal, call, name)?;
-    }
-    write_down(rt, &mut journal, Call::ForceSend(3), "force_send 3")?;
-    write_down(rt, &mut journal, Call::Len, "len")?;
-    write_down(rt, &mut journal, Call::IsClosed, "is_closed")?;
-    no_request(rt, "calls", journal.history().len())
+    write_all(rt, &mut journal)
 }

@@ -64,6 +64,17 @@ pub fn may_request<C: fmt::Display + Drop, A: fmt::Display + Drop>(
     Ok(())
 }
 
+/// Says what a call answered that may request memory, and hands on what the call made.
+pub fn made<C: fmt::Display + Drop, A: fmt::Display + Drop, X: Drop>(
+    rt: &impl Report,
+    call: C,
+    reply: A,
+    value: X,
+) -> Result<X, Wrong> {
+    may_request(rt, call, reply)?;
+    Ok(value)
+}
+
 /// Says what a call answered that makes no request.
 pub fn no_request<C: fmt::Display + Drop, A: fmt::Display + Drop>(
     rt: &impl Report,
@@ -80,6 +91,20 @@ pub fn refused<C: fmt::Display + Drop>(rt: &impl Report, call: C) -> Result<(), 
     Ok(())
 }
 
+/// Says that a call was refused memory. The row goes no further where that changed something.
+pub fn refused_unchanged<C: fmt::Display + Drop>(
+    rt: &impl Report,
+    call: C,
+    is_unchanged: bool,
+) -> Result<(), Wrong> {
+    refused(rt, call)?;
+    if is_unchanged {
+        Ok(())
+    } else {
+        Err(Wrong::Changed)
+    }
+}
+
 /// What the call gives. Where it is refused, it is made again; what is seen must then be as it was
 /// before the call, and the refusal the one that is named.
 macro_rules! once_more {
@@ -88,10 +113,7 @@ macro_rules! once_more {
         match $make {
             Ok(made) => made,
             Err(refusal) => {
-                refused($rt, $call)?;
-                if refusal != $refusal || $seen != before {
-                    return Err(Wrong::Changed);
-                }
+                refused_unchanged($rt, $call, refusal == $refusal && $seen == before)?;
                 match $make {
                     Ok(made) => made,
                     Err(_) => return Err(Wrong::Refused),

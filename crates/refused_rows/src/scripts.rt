@@ -2,9 +2,11 @@
 ghost use Rattle.std.specs.Bool.{OnTrue};
 ghost use Rattle.channel_model.specs.Capacity.{HasPositiveCapacity};
 
-use crate::report::{Report, Wrong, may_request, no_request, once_more, refused};
+use crate::report::{
+    Report, Wrong, made, may_request, no_request, once_more, refused, refused_unchanged,
+};
 use channel_model::{Kind, Notice, OutOfMemory, Refusal, Reply, Side, Step, Who};
-use channel_run::{Run, RunError, Settled, run_all};
+use channel_run::{End, Run, RunError, Settled, run_all};
 use chanrun::grammar::{Command, command_of, kind_of};
 use chanrun::reply_text::{NoticeText, ReplyText, WhoText};
 use futures::task::Poll;
@@ -33,20 +35,29 @@ fn command(alloc: Global, words: &str) -> Result<Command, Wrong> {
     }
 }
 
+fn line_of(alloc: Global, words: &str) -> Result<Line<'_>, Wrong> {
+    Ok(Line {
+        words,
+        command: command(alloc, words)?,
+        again: command(alloc, words)?,
+    })
+}
+
+fn kind(alloc: Global, words: &str) -> Result<Kind, Wrong> {
+    match kind_of(alloc, words.as_bytes()) {
+        Ok(Ok(kind)) => Ok(kind),
+        _ => Err(Wrong::Script),
+    }
+}
+
 fn script_of(alloc: Global, text: &str) -> Result<Script<'_>, Wrong> {
     let mut rest = text.lines();
-    let first = rest.next().ok_or(Wrong::Script)?;
-    let Ok(Ok(kind)) = kind_of(alloc, first.as_bytes()) else {
-        return Err(Wrong::Script);
-    };
+    let kind = kind(alloc, rest.next().ok_or(Wrong::Script)?)?;
     let mut lines = Vec::new(alloc);
     for words in rest {
-        let line = Line {
-            words,
-            command: command(alloc, words)?,
-            again: command(alloc, words)?,
-        };
-        lines.push(line).map_err(|_| Wrong::Script)?;
+        lines
+            .push(line_of(alloc, words)?)
+            .map_err(|_| Wrong::Script)?;
     }
     Ok(Script { kind, lines })
 }
@@ -206,39 +217,58 @@ fn say(rt: &impl Report, words: &str, may_grow: bool, answer: Answer) -> Result<
     }
 }
 
-/// Does a line. Where memory is refused, its message comes back, nothing that is seen has changed,
-/// and it is done again.
+/// What answers a line. Where memory is refused, its message comes back, nothing that is seen has
+/// changed, and it is done again.
+fn answer_to(rt: &impl Report, run: &mut Run<u64>, line: Line<'_>) -> Result<Answer, Wrong> {
+    let message = message_of(&line.command);
+    let before = by_run(run);
+    match answer_of(run, line.command) {
+        Ok(answer) => Ok(answer),
+        Err(back) => {
+            refused_unchanged(rt, line.words, back == message && by_run(run) == before)?;
+            answer_of(run, line.again).map_err(|_| Wrong::Refused)
+        }
+    }
+}
+
+/// Does a line, and says what answers it.
 fn make_line(
     rt: &impl Report,
     kind: Kind,
     run: &mut Run<u64>,
     line: Line<'_>,
 ) -> Result<(), Wrong> {
-    let Line {
-        words,
-        command,
-        again,
-    } = line;
-    let growth = Growth::of(&command);
-    let message = message_of(&command);
-    let before = by_run(run);
+    let (words, growth) = (line.words, Growth::of(&line.command));
     let was = notice_of(run, growth.waiter());
-    let answer = match answer_of(run, command) {
-        Ok(answer) => answer,
-        Err(back) => {
-            refused(rt, words)?;
-            if back != message || by_run(run) != before {
-                return Err(Wrong::Changed);
-            }
-            answer_of(run, again).map_err(|_| Wrong::Refused)?
-        }
-    };
+    let answer = answer_to(rt, run, line)?;
     let begins = was == Notice::Absent && notice_of(run, growth.waiter()) != Notice::Absent;
     let may_grow = match &answer {
         Answer::Reply(reply) => growth.may_grow(kind, reply, begins),
         _ => true,
     };
     say(rt, words, may_grow, answer)
+}
+
+fn make_lines(
+    rt: &impl Report,
+    kind: Kind,
+    run: &mut Run<u64>,
+    lines: Vec<Line<'_>>,
+) -> Result<(), Wrong> {
+    for line in lines {
+        make_line(rt, kind, run, line)?;
+    }
+    Ok(())
+}
+
+/// Makes the lines on this run, and gives it up.
+fn make_and_drop(
+    rt: &impl Report,
+    kind: Kind,
+    mut run: Run<u64>,
+    lines: Vec<Line<'_>>,
+) -> Result<(), Wrong> {
+    make_lines(rt, kind, &mut run, lines)
 }
 
 /// A capacity of 0 is no channel's.
@@ -251,19 +281,20 @@ fn is_positive(kind: Kind) -> bool
     }
 }
 
-/// Makes the lines on a run, one by one.
-pub fn step_by_step(rt: &impl Report, alloc: Global, text: &str) -> Result<(), Wrong> {
-    let Script { kind, lines } = script_of(alloc, text)?;
+/// A run of this kind of channel, with which its row begins.
+fn run_of(rt: &impl Report, alloc: Global, kind: Kind) -> Result<Run<u64>, Wrong> {
     if !is_positive(kind) {
         return Err(Wrong::Script);
     }
     println!(rt; "row step by step")?;
-    let mut run = once_more!(rt, "new", (), OutOfMemory, Run::new(alloc, kind));
-    may_request(rt, "new", "a run")?;
-    for line in lines {
-        make_line(rt, kind, &mut run, line)?;
-    }
-    drop(run);
+    let run = once_more!(rt, "new", (), OutOfMemory, Run::new(alloc, kind));
+    made(rt, "new", "a run", run)
+}
+
+/// Makes the lines on a run, one by one.
+pub fn step_by_step(rt: &impl Report, alloc: Global, text: &str) -> Result<(), Wrong> {
+    let Script { kind, lines } = script_of(alloc, text)?;
+    make_and_drop(rt, kind, run_of(rt, alloc, kind)?, lines)?;
     no_request(rt, "drop of the run", "done")
 }
 
@@ -278,6 +309,20 @@ fn wants_memory(reply: &Reply<u64>) -> bool {
     matches!(reply, Reply::Refused(Refusal::OutOfMemory, _))
 }
 
+/// The replies alone.
+fn replies_of(end: End<u64>) -> Vec<Reply<u64>> {
+    end.replies
+}
+
+/// The same replies, if none of them is a want of memory.
+fn unrefused(replies: Vec<Reply<u64>>) -> Option<Vec<Reply<u64>>> {
+    if replies.iter().any(wants_memory) {
+        None
+    } else {
+        Some(replies)
+    }
+}
+
 /// The replies to the steps, none of which was refused memory. Where the whole list is, the steps
 /// come back.
 fn replies_to(
@@ -288,12 +333,7 @@ fn replies_to(
     requires { HasPositiveCapacity kind }
 {
     match run_all(alloc, kind, steps) {
-        Ok(end) => {
-            if end.replies.iter().any(wants_memory) {
-                return Err(None);
-            }
-            Ok(end.replies)
-        }
+        Ok(end) => unrefused(replies_of(end)).ok_or(None),
         Err(RunError(back)) => Err(Some(back)),
     }
 }
@@ -322,24 +362,42 @@ fn replies(
     replies_to(alloc, kind, again).map_err(|_| Wrong::Refused)
 }
 
+/// The steps that the lines ask for, and the same to be asked for again.
+type Steps = (Vec<Step<u64>>, Vec<Step<u64>>);
+
+fn push_steps(lines: Vec<Line<'_>>, steps: &mut Steps) -> Result<(), Wrong> {
+    for line in lines {
+        push_step(line.command, &mut steps.0)?;
+        push_step(line.again, &mut steps.1)?;
+    }
+    Ok(())
+}
+
+fn push_step(command: Command, steps: &mut Vec<Step<u64>>) -> Result<(), Wrong> {
+    steps.push(step_of(command)?).map_err(|_| Wrong::Script)
+}
+
+fn steps_of(alloc: Global, lines: Vec<Line<'_>>) -> Result<Steps, Wrong> {
+    let mut steps = (Vec::new(alloc), Vec::new(alloc));
+    push_steps(lines, &mut steps)?;
+    Ok(steps)
+}
+
+fn say_replies(rt: &impl Report, replies: Vec<Reply<u64>>) -> Result<(), Wrong> {
+    may_request(rt, "run_all", replies.len())?;
+    for reply in replies {
+        println!(rt; "=> {}", ReplyText(reply))?;
+    }
+    Ok(())
+}
+
 /// Makes the lines as one list of steps.
 pub fn as_list(rt: &impl Report, alloc: Global, text: &str) -> Result<(), Wrong> {
     let Script { kind, lines } = script_of(alloc, text)?;
     if !is_positive(kind) {
         return Err(Wrong::Script);
     }
-    let (mut steps, mut again) = (Vec::new(alloc), Vec::new(alloc));
-    for line in lines {
-        steps
-            .push(step_of(line.command)?)
-            .map_err(|_| Wrong::Script)?;
-        again.push(step_of(line.again)?).map_err(|_| Wrong::Script)?;
-    }
+    let (steps, again) = steps_of(alloc, lines)?;
     println!(rt; "row as a list")?;
-    let replies = replies(rt, alloc, kind, steps, again)?;
-    may_request(rt, "run_all", replies.len())?;
-    for reply in replies {
-        println!(rt; "=> {}", ReplyText(reply))?;
-    }
-    Ok(())
+    say_replies(rt, replies(rt, alloc, kind, steps, again)?)
 }
