@@ -104,9 +104,15 @@ fn sends(rt: &impl Abort, alloc: Global) -> Vec<Step<u64>> {
     steps
 }
 
+/// Whether the step is answered so.
+fn is_answered(run: &mut Run<u64>, step: Step<u64>, want: Reply<u64>) -> bool {
+    run.step(step) == want
+}
+
 fn look(rt: &impl Abort, end: &mut End<u64>) {
     assert!(rt; end.replies.len() as u64 == MANY);
-    assert!(rt; end.run.step(Step::Len(Side::Receiver(0))) == Reply::Count(100_000));
+    let len = Step::Len(Side::Receiver(0));
+    assert!(rt; is_answered(&mut end.run, len, Reply::Count(100_000)));
 }
 
 #[test]
@@ -121,14 +127,14 @@ fn steps_of_a_run(rt: HostRuntime) -> Result<(), Fail> {
 
 fn start(rt: &impl Abort, run: &mut Run<u64>) {
     for op in 0..NAMES {
-        assert!(rt; run.step(Step::StartRecv { op, receiver: 0 }) == Reply::Done);
-        assert!(rt; run.step(Step::Poll(op)) == Reply::RecvPolled(Poll::Pending));
+        assert!(rt; is_answered(run, Step::StartRecv { op, receiver: 0 }, Reply::Done));
+        assert!(rt; is_answered(run, Step::Poll(op), Reply::RecvPolled(Poll::Pending)));
     }
 }
 
 fn send(rt: &impl Abort, run: &mut Run<u64>) {
     for m in 0..NAMES {
-        assert!(rt; run.step(Step::TrySend(0, m)) == Reply::TrySent(Ok(())));
+        assert!(rt; is_answered(run, Step::TrySend(0, m), Reply::TrySent(Ok(()))));
     }
 }
 

@@ -46,10 +46,8 @@ impl Log {
 
     /// Takes down the reply to a step.
     pub fn replied(&mut self, rt: &impl Abort, asked: Asked, reply: Reply<u64>) {
-        assert!(rt;
-            self.is_answer(asked, &reply).expect(rt, "memory"),
-            "{reply:?}"
-        );
+        let is_answer = self.is_answer(asked, &reply).expect(rt, "memory");
+        assert!(rt; is_answer, "{reply:?}");
         writeln!(self.text, "{}", ReplyText(reply)).expect(rt, "memory");
     }
 
@@ -74,10 +72,8 @@ impl Log {
     }
 
     fn polled(&mut self, rt: &impl Abort, who: Who, reply: Reply<u64>) {
-        assert!(rt;
-            self.is_wanted(poll_of(who), &reply).expect(rt, "memory"),
-            "{reply:?}"
-        );
+        let is_wanted = self.is_wanted(poll_of(who), &reply).expect(rt, "memory");
+        assert!(rt; is_wanted, "{reply:?}");
         writeln!(self.text, "{} {}", WhoText(who), ReplyText(reply)).expect(rt, "memory");
     }
 }

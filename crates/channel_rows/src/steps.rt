@@ -45,6 +45,14 @@ fn commands(alloc: Global, lines: &str) -> Result<Vec<Command>, Fail> {
     Ok(commands)
 }
 
+/// Polls whoever was told, until nobody is.
+fn settle(rt: &impl Abort, run: &mut Run<u64>, log: &mut Log) {
+    let Ok(settled) = run.settle() else {
+        panic!(rt; "memory was refused");
+    };
+    log.settled(rt, settled);
+}
+
 /// Makes one step, sees one notice, or settles.
 fn make(rt: &impl Abort, run: &mut Run<u64>, command: Command, log: &mut Log) {
     match command {
@@ -53,7 +61,7 @@ fn make(rt: &impl Abort, run: &mut Run<u64>, command: Command, log: &mut Log) {
             log.replied(rt, asked, run.step(step));
         }
         Command::Notice(who) => log.noticed(rt, run.notice_of(who)),
-        Command::Settle => log.settled(rt, run.settle().expect(rt, "memory")),
+        Command::Settle => settle(rt, run, log),
     }
 }
 
@@ -66,7 +74,9 @@ fn make_all(rt: &impl Abort, run: &mut Run<u64>, commands: Vec<Command>, log: &m
 fn step_by_step(rt: &impl Abort, alloc: Global, kind: Kind, commands: Vec<Command>, log: &mut Log)
     requires { HasPositiveCapacity kind }
 {
-    let mut run = Run::new(alloc, kind).expect(rt, "memory");
+    let Ok(mut run) = Run::new(alloc, kind) else {
+        panic!(rt; "memory was refused");
+    };
     make_all(rt, &mut run, commands, log);
 }
 
