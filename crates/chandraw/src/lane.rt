@@ -6,7 +6,7 @@ use channel_model::Notice;
 pub(crate) const LANES: usize = 24;
 
 /// In which list somebody waits.
-#[derive(Clone, Copy, Debug, PartialEq, Eq)]
+#[derive(Clone, Copy)]
 pub(crate) enum WaitingList {
     Sends,
     Receives,
@@ -46,7 +46,7 @@ pub(crate) struct Place {
 }
 
 /// What a line shows.
-#[derive(Clone, Copy, Debug, PartialEq, Eq)]
+#[derive(Clone, Copy, PartialEq, Eq)]
 pub(crate) enum Trace {
     Life,
     Wait,

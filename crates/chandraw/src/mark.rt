@@ -3,7 +3,7 @@ ghost use Rattle.std.specs.Prelude.{◌≡◌};
 ghost use Rattle.chandraw.specs.Marks.{mark_bytes};
 
 /// Constant bytes of a picture.
-#[derive(Clone, Copy, Debug, PartialEq, Eq)]
+#[derive(Clone, Copy)]
 pub enum Mark {
     // The head of a picture in SVG, and its end.
     SvgStart,

@@ -3,7 +3,7 @@ use channel_model::Who;
 use std::alloc::{AllocError, Global};
 
 /// What a name names.
-#[derive(Clone, Copy, Debug, PartialEq, Eq)]
+#[derive(Clone, Copy, PartialEq, Eq)]
 pub(crate) enum NameKind {
     Sender,
     Receiver,
@@ -12,7 +12,7 @@ pub(crate) enum NameKind {
     Operation,
 }
 
-#[derive(Clone, Copy, Debug, PartialEq, Eq)]
+#[derive(Clone, Copy, PartialEq, Eq)]
 pub(crate) struct Name {
     pub kind: NameKind,
     pub number: u64,
