@@ -146,7 +146,24 @@ fn take_back(choices: &mut Vec<Choice>) -> Option<usize>
     None
 }
 
-// Makes the first order.
+// Makes the first order, where no turn has been made.
+fn make_first<O: Opening>(
+    alloc: Global,
+    opening: &O,
+    parties: &[Vec<Act>],
+    choices: &mut Vec<Choice>,
+    turns: &mut Vec<Turn>,
+) -> Result<(), OutOfMemory>
+    ensures { (most : ℕ) → 2 ^ 64 ≤ most → choices.old.items ≡ [] → turns.old.items ≡ []
+        → let tree = tree_of (O.kind opening.now) (O.past opening.now) (acts_in parties.now) most in
+        OnOk result (IsEnd tree turns.new.items choices.new.items
+        (orders_of tree.kind tree.parties most tree.first)) }
+{
+    let mut scene = Scene::begin(alloc, opening, parties)?;
+    complete(&mut scene, parties, choices, turns)
+}
+
+// The first order.
 fn first_order<O: Opening>(
     alloc: Global,
     opening: &O,
@@ -158,14 +175,51 @@ fn first_order<O: Opening>(
         IfOk result (λ order. IsEnd tree order.items choices.new.items
         (orders_of tree.kind tree.parties most tree.first)) }
 {
-    let mut scene = Scene::begin(alloc, opening, parties)?;
     let mut turns = Vec::new(alloc);
-    complete(&mut scene, parties, choices, &mut turns)?;
+    make_first(alloc, opening, parties, choices, &mut turns)?;
     Ok(turns)
 }
 
-// Makes the order that begins with these choices and then gives the turn to this party, and from
-// there each turn to the first party that can go on.
+// Makes the choices again, gives the turn to this party, and from there each turn to the first
+// party that can go on.
+fn go_on(
+    scene: &mut Scene,
+    parties: &[Vec<Act>],
+    choices: &mut Vec<Choice>,
+    party: usize,
+    turns: &mut Vec<Turn>,
+) -> Result<(), OutOfMemory>
+    ensures { (tree : Tree) (orders : List (List Turn)) → IsOf tree (acts_in parties.now)
+        → IsNext tree party choices.old.items orders → turns.old.items ≡ []
+        → Stands tree.kind tree.first scene.old.run scene.old.places.items
+        → OnOk result (IsEnd tree turns.new.items choices.new.items orders) }
+{
+    again(scene, parties, choices.as_slice(), turns)?;
+    choose(scene, parties, party, choices, turns)?;
+    complete(scene, parties, choices, turns)
+}
+
+// Makes the order that begins with these choices and then gives the turn to this party, where no
+// turn has been made.
+fn make_next<O: Opening>(
+    alloc: Global,
+    opening: &O,
+    parties: &[Vec<Act>],
+    choices: &mut Vec<Choice>,
+    party: usize,
+    turns: &mut Vec<Turn>,
+) -> Result<(), OutOfMemory>
+    ensures { (most : ℕ) (orders : List (List Turn)) → 2 ^ 64 ≤ most
+        → let tree = tree_of (O.kind opening.now) (O.past opening.now) (acts_in parties.now) most in
+        IsNext tree party choices.old.items orders → turns.old.items ≡ []
+        → OnOk result (IsEnd tree turns.new.items choices.new.items orders) }
+{
+    let mut scene = Scene::begin(alloc, opening, parties)?;
+    go_on(&mut scene, parties, choices, party, turns)
+}
+
+// The order that begins with these choices and then gives the turn to this party, and from there
+// each turn to the first party that can go on.
 fn next_order<O: Opening>(
     alloc: Global,
     opening: &O,
@@ -178,11 +232,8 @@ fn next_order<O: Opening>(
         IsNext tree party choices.old.items orders
         → IfOk result (λ order. IsEnd tree order.items choices.new.items orders) }
 {
-    let mut scene = Scene::begin(alloc, opening, parties)?;
     let mut turns = Vec::new(alloc);
-    again(&mut scene, parties, choices.as_slice(), &mut turns)?;
-    choose(&mut scene, parties, party, choices, &mut turns)?;
-    complete(&mut scene, parties, choices, &mut turns)?;
+    make_next(alloc, opening, parties, choices, party, &mut turns)?;
     Ok(turns)
 }
 
