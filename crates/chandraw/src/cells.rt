@@ -93,7 +93,7 @@ fn width_with(cell: &[u8], text: &str, left: usize) -> usize {
         .saturating_add(tail)
 }
 
-// Adds as many texts as fit, of so many. It answers how many are left.
+// Adds as many of these texts as fit, of `total` in all. It answers how many are left.
 fn add_words(
     cell: &mut Vec<u8>,
     texts: &[String],
