@@ -26,9 +26,8 @@ closed_after before step senders receivers =
 -- So a closed channel stays closed.
 abbrev pub is_closed : {T : Type 0} → Past T → Bool
 is_closed [] = false
-is_closed ((step, reply) ∷ past) =
-    closed_after (is_closed past) step (live_senders ((step, reply) ∷ past))
-    (live_receivers ((step, reply) ∷ past))
+is_closed (pair ∷ past) =
+    closed_after (is_closed past) pair.0 (live_senders (pair ∷ past)) (live_receivers (pair ∷ past))
 
 -- No receiver is live. Such a channel is closed; one that was closed by hand may have receivers
 -- still.

@@ -11,15 +11,11 @@ use Rattle.channel_model.specs.Refusals.{new_is_live, refusal_in}
 use Rattle.channel_model.specs.Rosters.{waits_anywhere}
 use Rattle.channel_model.specs.View.{View, view_of}
 
--- a weak handle is upgraded
-abbrev pub is_upgrade : {T : Type 0} → Step T → Bool
-is_upgrade (UpgradeSender of new) = true
-is_upgrade (UpgradeReceiver of new) = true
-is_upgrade step = false
-
 -- The step makes a name; an upgrade does so on an open channel.
 abbrev pub makes_name : {T : Type 0} → View T → Step T → Bool
-makes_name view step = is_some (new_is_live view step) && not (is_upgrade step && view.closed)
+makes_name view (UpgradeSender of new) = not view.closed
+makes_name view (UpgradeReceiver of new) = not view.closed
+makes_name view step = is_some (new_is_live view step)
 
 -- The step brings a message to send: its own, or that of an unfinished send.
 abbrev pub brings_message : {T : Type 0} → View T → Step T → Bool

@@ -7,11 +7,11 @@ use Rattle.channel_model.specs.declared.step.Step.TheVariants.{TrySend, ForceSen
 use Rattle.channel_model.specs.declared.step.Reply.{Reply}
 use Rattle.channel_model.specs.declared.step.Reply.TheVariants.{TrySent, Forced, Received, SendPolled, RecvPolled, NextPolled}
 use Rattle.channel_model.specs.Past.{Past}
-use Rattle.channel_model.specs.Operations.{Operation, live_operations, message_among}
+use Rattle.channel_model.specs.Operations.{Operations, live_operations, message_among}
 
 -- The message that a step with this reply put in, beside these live operations: sent at once,
 -- forced in, or sent by a poll.
-abbrev pub accepted_by : {T : Type 0} → List (ℕ × Operation T) → Step T → Reply T → Option T
+abbrev pub accepted_by : {T : Type 0} → Operations T → Step T → Reply T → Option T
 accepted_by operations (TrySend sender message) (TrySent (Ok done)) = Some message
 accepted_by operations (ForceSend sender message) (Forced (Ok displaced)) = Some message
 accepted_by operations (Poll op) (SendPolled (Ready (Ok done))) = message_among operations op

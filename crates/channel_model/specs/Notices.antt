@@ -10,7 +10,7 @@ use Rattle.channel_model.specs.declared.step.Reply.{Reply}
 use Rattle.channel_model.specs.declared.step.Reply.TheVariants.{SendPolled, RecvPolled, ClosedPolled, NextPolled}
 use Rattle.event_list.specs.Keys.{is_among}
 use Rattle.channel_model.specs.Past.{Past}
-use Rattle.channel_model.specs.Operations.{Operation, is_finished_send, live_operations, operation_in}
+use Rattle.channel_model.specs.Operations.{Operations, is_finished_send, live_operations, operation_in}
 use Rattle.channel_model.specs.Messages.{accepted_by, received_by}
 use Rattle.channel_model.specs.Handles.{live_receivers}
 use Rattle.channel_model.specs.Closing.{has_none, is_closed}
@@ -21,8 +21,7 @@ use Rattle.channel_model.specs.Rosters.{Rosters, hand_on, notice_in, tell_all, t
 -- Whose poll is ready leaves. Whose poll is pending goes last, untold, or keeps its place if it
 -- waits untold already; for a finished send nothing changes. Whoever is given up leaves, and a told
 -- send or receive hands its notice on. With a receiver its stream leaves.
-abbrev pub after_own_move : {T : Type 0} → List (ℕ × Operation T) → Step T → Reply T → Rosters
-    → Rosters
+abbrev pub after_own_move : {T : Type 0} → Operations T → Step T → Reply T → Rosters → Rosters
 after_own_move operations (Poll op) (SendPolled (Ready result)) all =
     record all { sends = leave op all.sends }
 after_own_move operations (Poll op) (SendPolled Pending) all =
@@ -82,8 +81,7 @@ after_last_receiver false true all = record all { closeds = tell_all all.closeds
 after_last_receiver before now all = all
 
 -- First the own entry is moved; then a message that was accepted or received tells.
-abbrev pub after_messages : {T : Type 0} → List (ℕ × Operation T) → Step T → Reply T → Rosters
-    → Rosters
+abbrev pub after_messages : {T : Type 0} → Operations T → Step T → Reply T → Rosters → Rosters
 after_messages operations step reply all =
     after_receiving (received_by reply)
     (after_accepting (accepted_by operations step reply)

@@ -19,19 +19,22 @@ abbrev pub finished : {T : Type 0} → Operation T → Operation T
 finished (sending sender message) = sending sender None
 finished operation = operation
 
+-- operations, each with its name
+abbrev pub Operations : Type 0 → Type 0
+Operations T = List (ℕ × Operation T)
+
 -- the operations but the one of this name
-abbrev pub without_operation : {T : Type 0} → ℕ → List (ℕ × Operation T) → List (ℕ × Operation T)
+abbrev pub without_operation : {T : Type 0} → ℕ → Operations T → Operations T
 without_operation op operations = filter (λ entry. not (entry.0 == op)) operations
 
 -- the operations, of which the one of this name has finished
-abbrev pub with_finished : {T : Type 0} → ℕ → List (ℕ × Operation T) → List (ℕ × Operation T)
+abbrev pub with_finished : {T : Type 0} → ℕ → Operations T → Operations T
 with_finished op operations =
     map (λ entry. if entry.0 == op then (entry.0, finished entry.1) else entry) operations
 
 -- What a step with this reply makes of the operations that were live before it: one that is started
 -- is live, a send whose poll was ready has finished, and one that is given up isn't live.
-abbrev pub operations_after : {T : Type 0} → Step T → Reply T → List (ℕ × Operation T)
-    → List (ℕ × Operation T)
+abbrev pub operations_after : {T : Type 0} → Step T → Reply T → Operations T → Operations T
 operations_after (StartSend op sender message) reply operations =
     (op, sending sender (Some message)) ∷ operations
 operations_after (StartRecv op receiver) reply operations = (op, receiving receiver) ∷ operations
@@ -42,16 +45,16 @@ operations_after step reply operations = operations
 
 -- The operations that were started and not given up since, each with its name. A new channel has
 -- none.
-abbrev pub live_operations : {T : Type 0} → Past T → List (ℕ × Operation T)
+abbrev pub live_operations : {T : Type 0} → Past T → Operations T
 live_operations [] = []
 live_operations ((step, reply) ∷ past) = operations_after step reply (live_operations past)
 
 -- their names
-abbrev pub names_of : {T : Type 0} → List (ℕ × Operation T) → List ℕ
+abbrev pub names_of : {T : Type 0} → Operations T → List ℕ
 names_of operations = map (λ entry. entry.0) operations
 
 -- the operation of this name among these, if there is one
-abbrev pub operation_in : {T : Type 0} → List (ℕ × Operation T) → ℕ → Option (Operation T)
+abbrev pub operation_in : {T : Type 0} → Operations T → ℕ → Option (Operation T)
 operation_in operations op =
     option_map (λ entry. entry.1) (find (λ entry. entry.0 == op) operations)
 
@@ -65,7 +68,7 @@ unsent_message (sending sender message) = message
 unsent_message operation = None
 
 -- the message of the send of this name among these, if there is one that has not finished
-abbrev pub message_among : {T : Type 0} → List (ℕ × Operation T) → ℕ → Option T
+abbrev pub message_among : {T : Type 0} → Operations T → ℕ → Option T
 message_among operations op = option_and_then unsent_message (operation_in operations op)
 
 -- The message of the send of this name, if one is live and not finished.

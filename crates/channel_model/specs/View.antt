@@ -5,7 +5,7 @@ use Rattle.channel_model.specs.declared.step.Kind.{Kind}
 use Rattle.event_list.specs.Keys.{is_among}
 use Rattle.channel_model.specs.Past.{Past}
 use Rattle.channel_model.specs.Handles.{live_receivers, live_senders, live_weak_receivers, live_weak_senders}
-use Rattle.channel_model.specs.Operations.{Operation, live_operations, operation_in}
+use Rattle.channel_model.specs.Operations.{Operations, live_operations, operation_in}
 use Rattle.channel_model.specs.Messages.{held_messages}
 use Rattle.channel_model.specs.Capacity.{capacity_of}
 use Rattle.channel_model.specs.Closing.{is_closed}
@@ -22,7 +22,7 @@ pub record View (T : Type 0) : Type 0 where
   pub receivers : List ℕ
   pub weak_senders : List ℕ
   pub weak_receivers : List ℕ
-  pub operations : List (ℕ × Operation T)
+  pub operations : Operations T
   pub rosters : Rosters
 
 -- what a channel of this kind shows after this past
@@ -49,7 +49,7 @@ pub record AreSameNames (names others : List ℕ) : Type 0 where
 
 -- As many, and each name has the same operation in both, or none.
 pub record AreSameOperations {T : Type 0}
-    (operations others : List (ℕ × Operation T)) : Type 0 where
+    (operations others : Operations T) : Type 0 where
   pub count : length operations ≡ length others
   pub each : (name : ℕ) → operation_in operations name ≡ operation_in others name
 

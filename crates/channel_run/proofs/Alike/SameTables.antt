@@ -20,7 +20,7 @@ use Rattle.channel_model.specs.Replies.{due_reply, is_full_in, is_pending, poll_
 use Rattle.channel_model.specs.Tables.{handle_limit}
 use Rattle.channel_model.specs.Refusals.{is_borrowed, is_handle, is_known, is_one_too_many, is_operation, is_taken, new_is_live, refusal_in, refusal_of}
 use Rattle.channel_model.specs.Rosters.{Rosters, waits_anywhere}
-use Rattle.channel_model.specs.Memory.{brings_message, is_upgrade, makes_name, may_want_memory, may_want_memory_in, polls_newcomer}
+use Rattle.channel_model.specs.Memory.{brings_message, makes_name, may_want_memory, may_want_memory_in, polls_newcomer}
 use Rattle.channel_model.specs.View.{AreAlike, View, view_of}
 use Rattle.channel_run.specs.StandsFor.{StandsFor}
 use Rattle.channel_run.proofs.Alike.LiveNames.{live_operations-AreDifferent}
@@ -142,9 +142,9 @@ module _ {T : Type 0} (view other : View T) (alike : AreAlike view other) where
   -- ---- want of memory
 
   makes_name-AreAlike : (step : Step T) → makes_name view step ≡ makes_name other step
-  makes_name-AreAlike step =
-      ap (λ (live : Option Bool). is_some live && not (is_upgrade step && view.closed)) (new_is_live-AreAlike step)
-      ∙ ap (λ closed. is_some (new_is_live other step) && not (is_upgrade step && closed)) alike.closed
+  makes_name-AreAlike (UpgradeSender of new) = ap not alike.closed
+  makes_name-AreAlike (UpgradeReceiver of new) = ap not alike.closed
+  makes_name-AreAlike step = ap (λ (live : Option Bool). is_some live) (new_is_live-AreAlike step)
 
   brings_message-AreAlike : (step : Step T) → brings_message view step ≡ brings_message other step
   brings_message-AreAlike (Poll op) =
