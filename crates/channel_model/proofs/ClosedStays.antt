@@ -15,7 +15,8 @@ use Rattle.channel_model.specs.Past.{Past}
 use Rattle.channel_model.specs.Operations.{Operation, sending, receiving, awaiting_close, operation_of, message_of, unsent_message, live_operations}
 use Rattle.channel_model.specs.Messages.{with_last, accepted_by, taken_by, accepted_messages, taken_messages, held_messages, oldest_message}
 use Rattle.channel_model.specs.Capacity.{is_full}
-use Rattle.channel_model.specs.Closing.{is_closed, has_no_receiver}
+use Rattle.channel_model.specs.Handles.{live_receivers}
+use Rattle.channel_model.specs.Closing.{is_closed, has_none}
 use Rattle.channel_model.specs.Replies.{due_reply, poll_reply}
 use Rattle.channel_model.specs.Legal.{IsLegal}
 use Rattle.channel_model.specs.Laws.{StaysClosed, taken_since, GivesWhatIsLeft, ComesBack, sent_by, given_back}
@@ -69,7 +70,7 @@ accepted_by-closed {T} kind past (ForceSend sender message) c =
     ap (λ (closed : Bool). accepted_by (live_operations past) (ForceSend sender message)
     (force_send_reply closed (is_full kind past) (oldest_message past) message)) c
 accepted_by-closed kind past (Poll op) c =
-    poll-none past op (operation_of past op) (is_closed past) (has_no_receiver past) (is_full kind past)
+    poll-none past op (operation_of past op) (is_closed past) (has_none (live_receivers past)) (is_full kind past)
     (oldest_message past) c
 accepted_by-closed kind past step c = refl
 
@@ -155,7 +156,7 @@ GivesWhatIsLeft-closed {T} kind past closed = record {
   at_once = λ receiver. ap (λ (c : Bool). try_recv_reply (oldest_message past) c) closed
       ∙ try_recv-left (oldest_message past);
   polled = λ op receiver found.
-      ap (λ (operation : Option (Operation T)). poll_reply operation (is_closed past) (has_no_receiver past)
+      ap (λ (operation : Option (Operation T)). poll_reply operation (is_closed past) (has_none (live_receivers past))
       (is_full kind past) (oldest_message past)) found
       ∙ ap (λ (c : Bool). poll_recv_reply (oldest_message past) c) closed
       ∙ poll_recv-left (oldest_message past);
@@ -240,7 +241,7 @@ due-refuses kind past (ForceSend sender sent) message back =
 due-refuses kind past (TryRecv receiver) message back =
     absurd (try_recv-no_error (oldest_message past) (is_closed past) message back)
 due-refuses kind past (Poll op) message back =
-    poll-refuses past op (operation_of past op) (is_closed past) (has_no_receiver past) (is_full kind past)
+    poll-refuses past op (operation_of past op) (is_closed past) (has_none (live_receivers past)) (is_full kind past)
     (oldest_message past) message refl back
 due-refuses kind past (PollNext receiver) message back =
     absurd (poll_next-no_error (oldest_message past) (is_closed past) message back)

@@ -15,7 +15,7 @@ use Rattle.channel_model.specs.Handles.{live_receivers}
 use Rattle.channel_model.specs.Operations.{Operation, awaiting_close, is_finished_send, message_of, operation_of, receiving, sending, unsent_message, live_operations}
 use Rattle.channel_model.specs.Messages.{accepted_by, held_messages, oldest_message, taken_by}
 use Rattle.channel_model.specs.Capacity.{capacity_of, is_full}
-use Rattle.channel_model.specs.Closing.{has_no_receiver, has_none, is_closed}
+use Rattle.channel_model.specs.Closing.{has_none, is_closed}
 use Rattle.channel_model.specs.Replies.{due_reply, poll_reply}
 use Rattle.channel_model.specs.Rosters.{AreSound, Rosters, leave, wait}
 use Rattle.channel_model.specs.Notices.{after_accepting, rosters}
@@ -167,7 +167,7 @@ some_receiver [] e = cc
 some_receiver (first ∷ receivers) e = omega arith
 
 pub poll_closed-halfway : {T : Type 0} (kind : Kind) (past : Past T) (op : ℕ) → Whole kind past → AreSound (rosters past)
-    → (no_receiver : Bool) → has_no_receiver past ≡ no_receiver
+    → (no_receiver : Bool) → has_none (live_receivers past) ≡ no_receiver
     → Halfway kind past (Poll op) (poll_closed_reply no_receiver)
 unfolding Halfway
 poll_closed-halfway kind past op covered sound true r held =
@@ -257,14 +257,14 @@ no_operation-halfway kind past op covered held = unmoved kind past _ covered hel
 
 pub poll-halfway : {T : Type 0} (kind : Kind) (past : Past T) (op : ℕ) → Whole kind past → AreSound (rosters past)
     → (operation : Option (Operation T)) → operation_of past op ≡ operation
-    → Halfway kind past (Poll op) (poll_reply operation (is_closed past) (has_no_receiver past) (is_full kind past)
+    → Halfway kind past (Poll op) (poll_reply operation (is_closed past) (has_none (live_receivers past)) (is_full kind past)
     (oldest_message past))
 poll-halfway kind past op covered sound (Some (sending sender message)) o =
     poll_send-halfway kind past op sender covered sound message (is_closed past) (is_full kind past) o refl refl
 poll-halfway kind past op covered sound (Some (receiving receiver)) o =
     poll_recv-halfway kind past op covered sound (oldest_message past) (is_closed past) refl refl
 poll-halfway kind past op covered sound (Some (awaiting_close sender)) o =
-    poll_closed-halfway kind past op covered sound (has_no_receiver past) refl
+    poll_closed-halfway kind past op covered sound (has_none (live_receivers past)) refl
 poll-halfway kind past op covered sound None o = no_operation-halfway kind past op covered
 
 pub drop_op-halfway : {T : Type 0} (kind : Kind) (past : Past T) (op : ℕ) → Whole kind past → AreSound (rosters past)

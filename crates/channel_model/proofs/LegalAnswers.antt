@@ -12,7 +12,8 @@ use Rattle.channel_model.specs.Past.{Past}
 use Rattle.channel_model.specs.Operations.{Operation, awaiting_close, operation_of, receiving, sending}
 use Rattle.channel_model.specs.Messages.{oldest_message}
 use Rattle.channel_model.specs.Capacity.{is_full}
-use Rattle.channel_model.specs.Closing.{has_no_receiver, is_closed}
+use Rattle.channel_model.specs.Handles.{live_receivers}
+use Rattle.channel_model.specs.Closing.{is_closed, has_none}
 use Rattle.channel_model.specs.Replies.{due_reply, poll_reply}
 use Rattle.channel_model.specs.Refusals.{is_known, refusal_of}
 use Rattle.channel_model.specs.Memory.{may_want_memory}
@@ -99,7 +100,7 @@ due-longer kind past (ForceSend sender message) known =
 due-longer kind past (TryRecv receiver) known =
     try_recv-longer past (TryRecv receiver) (oldest_message past) (is_closed past)
 due-longer kind past (Poll op) known = poll-longer past (Poll op) (operation_of past op) (is_closed past)
-    (has_no_receiver past) (is_full kind past) (oldest_message past) known
+    (has_none (live_receivers past)) (is_full kind past) (oldest_message past) known
 due-longer kind past (PollNext receiver) known =
     poll_next-longer past (PollNext receiver) (oldest_message past) (is_closed past)
 due-longer kind past step known = refl

@@ -9,7 +9,8 @@ use Rattle.event_list.specs.Keys.{is_among}
 use Rattle.channel_model.specs.Past.{Past}
 use Rattle.channel_model.specs.Operations.{is_finished_send, live_operations, Operation, operation_in}
 use Rattle.channel_model.specs.Messages.{accepted_by, received_by}
-use Rattle.channel_model.specs.Closing.{has_no_receiver, is_closed}
+use Rattle.channel_model.specs.Handles.{live_receivers}
+use Rattle.channel_model.specs.Closing.{is_closed, has_none}
 use Rattle.channel_model.specs.Rosters.{AreSound, IsSound, Roster, Rosters, arrive, is_told, leave, nobody, wait}
 use Rattle.channel_model.specs.Notices.{after_accepting, after_closing, after_last_receiver, after_own_move, after_receiving, rosters}
 use Rattle.channel_model.specs.Polling.{told_in, waiting_in}
@@ -149,7 +150,7 @@ rosters-AreSound [] = record {
   closeds = nobody-IsSound;
 }
 rosters-AreSound ((step, reply) ∷ past) =
-    after_last_receiver-AreSound (has_no_receiver past) (has_no_receiver ((step, reply) ∷ past)) _
+    after_last_receiver-AreSound (has_none (live_receivers past)) (has_none (live_receivers ((step, reply) ∷ past))) _
     (after_closing-AreSound (is_closed past) (is_closed ((step, reply) ∷ past)) _
     (after_receiving-AreSound (received_by reply) _
     (after_accepting-AreSound (accepted_by (live_operations past) step reply) _

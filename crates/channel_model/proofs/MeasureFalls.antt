@@ -15,7 +15,7 @@ use Rattle.channel_model.specs.Handles.{live_receivers, live_senders}
 use Rattle.channel_model.specs.Operations.{Operation, awaiting_close, is_awaiting, is_finished_send, is_receive, is_unsent, operation_of, receiving, sending, live_operations}
 use Rattle.channel_model.specs.Messages.{accepted_by, oldest_message, received_by}
 use Rattle.channel_model.specs.Capacity.{is_full}
-use Rattle.channel_model.specs.Closing.{has_no_receiver, is_close, is_closed}
+use Rattle.channel_model.specs.Closing.{is_close, is_closed, has_none}
 use Rattle.channel_model.specs.Tables.{send_error}
 use Rattle.channel_model.specs.Replies.{due_reply, poll_reply}
 use Rattle.channel_model.specs.Rosters.{AreSound, IsSound, Roster, Rosters, is_told, leave, told_names, wait}
@@ -69,7 +69,7 @@ pub ready-falls : {T : Type 0} (past : Past T) (step : Step T) (reply : Reply T)
 ready-falls past step reply fewer some =
     measure-ready (rosters past) (rosters ((step, reply) ∷ past))
     (fewer ∙ ap suc (sym
-    (waiting-last_receiver (has_no_receiver past) (has_no_receiver ((step, reply) ∷ past))
+    (waiting-last_receiver (has_none (live_receivers past)) (has_none (live_receivers ((step, reply) ∷ past)))
     (after_closing (is_closed past) (is_closed ((step, reply) ∷ past))
     (after_receiving (received_by reply) (after_accepting (accepted_by (live_operations past) step reply)
     (after_own_move (live_operations past) step reply (rosters past)))))
@@ -205,7 +205,7 @@ pub poll-falls : {T : Type 0} (kind : Kind) (past : Past T) (op : ℕ) (operatio
     ⊎ ((is_told op (rosters past).closeds ≡ true) × (is_awaiting operation ≡ true)))
     → measure (rosters ((
       Poll op,
-      poll_reply operation (is_closed past) (has_no_receiver past) (is_full kind past)
+      poll_reply operation (is_closed past) (has_none (live_receivers past)) (is_full kind past)
           (oldest_message past),
     ) ∷ past)) < measure (rosters past)
 poll-falls kind past op (Some (receiving receiver)) o covered (inl told) =
@@ -220,7 +220,7 @@ poll-falls kind past op (Some (receiving receiver)) o covered (inr (inl told)) =
 poll-falls kind past op (Some (awaiting_close sender)) o covered (inr (inl told)) = let no = told.1 in cc
 poll-falls kind past op None o covered (inr (inl told)) = let no = told.1 in cc
 poll-falls kind past op (Some (awaiting_close sender)) o covered (inr (inr told)) =
-    poll_closed-falls kind past op (has_no_receiver past) covered told.0
+    poll_closed-falls kind past op (has_none (live_receivers past)) covered told.0
 poll-falls kind past op (Some (sending sender message)) o covered (inr (inr told)) = let no = told.1 in cc
 poll-falls kind past op (Some (receiving receiver)) o covered (inr (inr told)) = let no = told.1 in cc
 poll-falls kind past op None o covered (inr (inr told)) = let no = told.1 in cc

@@ -7,7 +7,7 @@ use Rattle.channel_model.specs.declared.step.Reply.{Reply}
 use Rattle.channel_model.specs.Past.{Past}
 use Rattle.channel_model.specs.Handles.{live_receivers, live_senders}
 use Rattle.channel_model.specs.Messages.{accepted_by, received_by}
-use Rattle.channel_model.specs.Closing.{has_no_receiver, has_none, is_close, is_closed}
+use Rattle.channel_model.specs.Closing.{has_none, is_close, is_closed}
 use Rattle.channel_model.specs.Rosters.{Rosters}
 use Rattle.channel_model.specs.Notices.{after_accepting, after_closing, after_last_receiver, after_own_move, after_receiving, rosters}
 use Rattle.channel_model.specs.Covered.{IsCovered}
@@ -54,7 +54,7 @@ pub rosters-kept : {T : Type 0} (kind : Kind) (past : Past T) (step : Step T) (r
     → rosters ((step, reply) ∷ past) ≡ after_receiving (received_by reply)
     (after_accepting (accepted_by (live_operations past) step reply) (after_own_move (live_operations past) step reply (rosters past)))
 rosters-kept kind past step reply covered open_still same_senders same_receivers =
-    after_last_receiver-kept (has_no_receiver past) (has_no_receiver ((step, reply) ∷ past)) _
+    after_last_receiver-kept (has_none (live_receivers past)) (has_none (live_receivers ((step, reply) ∷ past))) _
     (ap (λ (names : List ℕ). has_none names) same_receivers)
     ∙ after_closing-kept (is_closed past) (is_closed ((step, reply) ∷ past)) _
     (is_closed-kept kind past step reply covered open_still same_senders same_receivers)

@@ -14,7 +14,7 @@ use Rattle.channel_model.specs.Handles.{live_receivers}
 use Rattle.channel_model.specs.Operations.{Operation, awaiting_close, is_awaiting, is_finished_send, is_receive, is_unsent, live_operations, operation_of, receiving, sending}
 use Rattle.channel_model.specs.Messages.{accepted_by, oldest_message, received_by}
 use Rattle.channel_model.specs.Capacity.{is_full}
-use Rattle.channel_model.specs.Closing.{has_no_receiver, is_closed}
+use Rattle.channel_model.specs.Closing.{is_closed, has_none}
 use Rattle.channel_model.specs.Replies.{due_reply, poll_reply}
 use Rattle.channel_model.specs.Refusals.{refusal_of}
 use Rattle.channel_model.specs.Rosters.{Rosters, wait}
@@ -272,7 +272,7 @@ upgrade_receiver-live past of new false live =
 pub due-live : {T : Type 0} (kind : Kind) (past : Past T) (step : Step T) → IsAllowed step (refusal_of kind past step)
     → OwnMoveIsLive past step (due_reply kind past step)
 unfolding OwnMoveIsLive
-due-live kind past (Poll op) may live = poll-live past op (operation_of past op) (is_closed past) (has_no_receiver past)
+due-live kind past (Poll op) may live = poll-live past op (operation_of past op) (is_closed past) (has_none (live_receivers past))
     (is_full kind past) (oldest_message past) refl live
 due-live kind past (PollNext receiver) (inl may) live =
     poll_next-live past receiver (oldest_message past) (is_closed past)
@@ -318,7 +318,7 @@ AreLive-IsLegal kind [] legal = record {
   streams = λ name among. cc;
 }
 AreLive-IsLegal {T} kind ((step, reply) ∷ past) legal =
-    AreLive-last_receiver ((step, reply) ∷ past) (has_no_receiver past) (has_no_receiver ((step, reply) ∷ past)) _
+    AreLive-last_receiver ((step, reply) ∷ past) (has_none (live_receivers past)) (has_none (live_receivers ((step, reply) ∷ past))) _
     (AreLive-closing ((step, reply) ∷ past) (is_closed past) (is_closed ((step, reply) ∷ past)) _
     (AreLive-receiving ((step, reply) ∷ past) (received_by reply) _
     (AreLive-accepting ((step, reply) ∷ past) (accepted_by (live_operations past) step reply) _

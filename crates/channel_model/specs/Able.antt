@@ -8,7 +8,8 @@ use Rattle.channel_model.specs.Past.{Past}
 use Rattle.channel_model.specs.Messages.{held_messages}
 use Rattle.channel_model.specs.View.{view_of}
 use Rattle.channel_model.specs.Replies.{is_full_in}
-use Rattle.channel_model.specs.Closing.{has_no_receiver, has_none, is_closed}
+use Rattle.channel_model.specs.Handles.{live_receivers}
+use Rattle.channel_model.specs.Closing.{has_none, is_closed}
 use Rattle.channel_model.specs.Notices.{rosters}
 
 -- A receive or a stream could go on: a message is held, or the channel is closed.
@@ -25,7 +26,7 @@ abbrev pub is_able : {T : Type 0} → Kind → Past T → Who → Bool
 is_able kind past (Op op) =
     (is_among op (rosters past).sends.names && can_send kind past)
     || (is_among op (rosters past).receives.names && can_receive past)
-    || (is_among op (rosters past).closeds.names && has_no_receiver past)
+    || (is_among op (rosters past).closeds.names && has_none (live_receivers past))
 is_able kind past (Receiver receiver) =
     is_among receiver (rosters past).streams.names && can_receive past
 

@@ -1,4 +1,4 @@
--- When a channel is closed, and when it has no receiver.
+-- When a channel is closed.
 use Rattle.std.specs.Prelude.{ℕ, [], ◌∷◌, List, Bool, true, false, ◌||◌}
 use Rattle.channel_model.specs.declared.step.Step.{Step}
 use Rattle.channel_model.specs.declared.step.Step.TheVariants.{Close}
@@ -23,13 +23,8 @@ closed_after before step senders receivers =
     before || is_close step || has_none senders || has_none receivers
 
 -- At some moment of the past somebody closed it by hand, or no sender was live, or no receiver was.
--- So a closed channel stays closed.
+-- So a closed channel stays closed; one that was closed by hand may have receivers still.
 abbrev pub is_closed : {T : Type 0} → Past T → Bool
 is_closed [] = false
 is_closed (pair ∷ past) =
     closed_after (is_closed past) pair.0 (live_senders (pair ∷ past)) (live_receivers (pair ∷ past))
-
--- No receiver is live. Such a channel is closed; one that was closed by hand may have receivers
--- still.
-abbrev pub has_no_receiver : {T : Type 0} → Past T → Bool
-has_no_receiver past = has_none (live_receivers past)

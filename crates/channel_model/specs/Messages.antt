@@ -1,6 +1,5 @@
 -- Which messages went into a channel, came out of it and are in it.
-use Rattle.std.specs.Prelude.{ℕ, List, [], ◌∷◌, ◌++◌, Option, Some, None, Ok, length, drop, slice_get}
-use Rattle.std.specs.Option.{option_or}
+use Rattle.std.specs.Prelude.{List, [], ◌∷◌, ◌++◌, Option, Some, None, Ok, length, drop, slice_get}
 use Rattle.futures.specs.declared.task.Poll.TheVariants.{Ready}
 use Rattle.channel_model.specs.declared.step.Step.{Step}
 use Rattle.channel_model.specs.declared.step.Step.TheVariants.{TrySend, ForceSend, Poll}
@@ -24,14 +23,11 @@ received_by (RecvPolled (Ready (Ok message))) = Some message
 received_by (NextPolled (Ready (Some message))) = Some message
 received_by reply = None
 
--- The message that a forced one displaced, and that went back to its sender.
-abbrev pub displaced_by : {T : Type 0} → Reply T → Option T
-displaced_by (Forced (Ok displaced)) = displaced
-displaced_by reply = None
-
--- The message that a step with this reply took out, either way.
+-- The message that a step with this reply took out: one that was received, or one that a forced
+-- message displaced, and that went back to its sender.
 abbrev pub taken_by : {T : Type 0} → Reply T → Option T
-taken_by reply = option_or (received_by reply) (displaced_by reply)
+taken_by (Forced (Ok displaced)) = displaced
+taken_by reply = received_by reply
 
 -- the list, and behind it this one if there is one
 abbrev pub with_last : {T : Type 0} → List T → Option T → List T

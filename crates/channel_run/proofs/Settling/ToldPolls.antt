@@ -15,7 +15,8 @@ use Rattle.channel_model.specs.declared.step.Who.{Who}
 use Rattle.channel_model.specs.declared.step.Who.TheVariants.{Op, Receiver}
 use Rattle.channel_model.specs.Past.{Past}
 use Rattle.channel_model.specs.Capacity.{capacity_of, is_full}
-use Rattle.channel_model.specs.Closing.{has_no_receiver, is_closed}
+use Rattle.channel_model.specs.Handles.{live_receivers}
+use Rattle.channel_model.specs.Closing.{is_closed, has_none}
 use Rattle.channel_model.specs.Legal.{IsLegal}
 use Rattle.channel_model.specs.Memory.{may_want_memory, polls_newcomer, may_want_memory_in}
 use Rattle.channel_model.specs.Messages.{oldest_message}
@@ -184,7 +185,7 @@ module _ {T : Type 0} (kind : Kind) (past : Past T) (legal : IsLegal kind past) 
 
   pub due_answered : (who : Who) → PollsTold {T = T} (rosters past) (poll_of who)
       → Answered (due_reply kind past (poll_of who))
-  due_answered (Op op) told = poll_answered (operation_of past op) (is_closed past) (has_no_receiver past)
+  due_answered (Op op) told = poll_answered (operation_of past op) (is_closed past) (has_none (live_receivers past))
       (is_full kind past) (oldest_message past) (known_told op told)
   due_answered (Receiver receiver) told = next_answered _
 
