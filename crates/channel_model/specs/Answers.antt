@@ -1,5 +1,5 @@
 -- What answers a step, and a list of steps.
-use Rattle.std.specs.Prelude.{◌≡◌, ◌⊎◌, List, [], ◌∷◌, Option, Some, None, true, MatchOption}
+use Rattle.std.specs.Prelude.{◌≡◌, ◌⊎◌, List, [], ◌∷◌, Option, Some, None, Bool, true, false, MatchOption}
 use Rattle.channel_model.specs.declared.step.Kind.{Kind}
 use Rattle.channel_model.specs.declared.step.Refusal.{Refusal}
 use Rattle.channel_model.specs.declared.step.Refusal.TheVariants.{OutOfMemory}
@@ -27,6 +27,11 @@ IsAnswer kind past step reply =
     ((reply ≡ due_reply kind past step)
     ⊎ ((may_want_memory kind past step ≡ true) × (reply ≡ Refused OutOfMemory (message_in step))))
     (λ refusal. reply ≡ Refused refusal (message_in step))
+
+-- memory was refused
+abbrev pub wants_memory : {T : Type 0} → Reply T → Bool
+wants_memory (Refused OutOfMemory message) = true
+wants_memory reply = false
 
 -- The past after a step with this reply: a refused one isn't added.
 abbrev pub past_after : {T : Type 0} → Past T → Step T → Reply T → Past T

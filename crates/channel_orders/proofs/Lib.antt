@@ -1,3 +1,3 @@
 pub mod Scenes
 pub mod Trails
-pub mod Answered
+pub mod HandedOver

@@ -16,11 +16,6 @@ use Rattle.channel_orders.specs.Orders.{Moment, begun_with, first_moment, orders
 
 -- ---- a scene
 
--- memory was refused
-abbrev pub wants_memory : Reply ℕ → Bool
-wants_memory (Refused OutOfMemory message) = true
-wants_memory reply = false
-
 -- The scene is as it is at this moment.
 pub record Stands (kind : Kind) (moment : Moment) (run : View ℕ) (places : List Place)
     : Type 0 where

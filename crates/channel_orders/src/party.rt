@@ -2,10 +2,9 @@
 ghost use Rattle.std.specs.Prelude.{◌≡◌, ℕ, IfOk};
 ghost use Rattle.channel_model.specs.declared.step.Kind.{Kind};
 ghost use Rattle.channel_model.specs.Past.{Past};
-ghost use Rattle.channel_model.specs.Answers.{answer_of, past_made};
+ghost use Rattle.channel_model.specs.Answers.{answer_of, past_made, wants_memory};
 ghost use Rattle.channel_run.specs.StandsFor.{StandsFor};
 ghost use Rattle.channel_orders.specs.Orders.{poll_of};
-ghost use Rattle.channel_orders.specs.Trail.{wants_memory};
 
 use channel_model::{Notice, OutOfMemory, Refusal, Reply, Step, Who};
 use channel_run::Run;

@@ -4,3 +4,4 @@ pub mod Answered
 pub mod Refused
 pub mod Wanting
 pub mod StepLists
+pub mod Decided

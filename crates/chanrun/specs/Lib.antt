@@ -4,5 +4,4 @@ pub mod Digits
 pub mod Texts
 pub mod Script
 pub mod Outcome
-pub mod Wants
 pub mod Stages

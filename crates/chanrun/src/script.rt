@@ -22,7 +22,7 @@ ghost use Rattle.chanrun.specs.Device.{one_more, AppendsFront};
 ghost use Rattle.chanrun.specs.Grammar.{lines_of, command_of};
 ghost use Rattle.chanrun.specs.Script.{as_line, command_text, past_after_command, settled_line, finished_line, settled_text, fault_from, texts_after, commands_of, script_text, script_fault};
 ghost use Rattle.chanrun.specs.Texts.{reply_text};
-ghost use Rattle.chanrun.specs.Wants.{wants_memory};
+ghost use Rattle.channel_model.specs.Answers.{wants_memory};
 ghost use Rattle.chanrun.specs.Outcome.{HasRead, IsDone, IsBegun, ending};
 ghost use Rattle.chanrun.specs.Stages.{IsUnread, IsAnswered};
 ghost use Rattle.chanrun.specs.declared.grammar.command.Command.{Command};

@@ -1,5 +1,5 @@
 use Rattle.std.proofs.Common.{sym}
-use Rattle.channel_orders.proofs.Answered.{answered, made_after}
+use Rattle.channel_run.proofs.Steps.Decided.{answered, made_after}
 use Rattle.channel_orders.proofs.party.make.Goals as goal
 
 pub returns : goal.returns

@@ -3,7 +3,7 @@ use Rattle.channel_orders.specs.declared.party.Turn.{Turn}
 use Rattle.channel_orders.specs.Lines.{acts_in}
 use Rattle.channel_orders.specs.Orders.{all_orders}
 use Rattle.channel_orders.specs.Trail.{tree_of}
-use Rattle.channel_orders.proofs.Trails.{front_of, one_more, if_err, searched, whole_search}
+use Rattle.channel_orders.proofs.HandedOver.{front_of, one_more, if_err, searched, whole_search}
 use Rattle.channel_orders.proofs.search.search.Goals as goal
 
 pub loop-made-init : goal.loop-made-init

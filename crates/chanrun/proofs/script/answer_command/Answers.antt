@@ -1,7 +1,7 @@
 use Rattle.std.proofs.Common.{◌≡◌, string_bytes, ap, sym, ◌∙◌}
 use Rattle.chanrun.specs.Script.{as_line}
 use Rattle.chanrun.specs.Texts.{reply_text}
-use Rattle.chanrun.proofs.Answered.{answered, made_after}
+use Rattle.channel_run.proofs.Steps.Decided.{answered, made_after}
 use Rattle.chanrun.proofs.SettlingPolls.{settled_after, text-Settles}
 use Rattle.chanrun.proofs.script.answer_command.Goals as goal
 
