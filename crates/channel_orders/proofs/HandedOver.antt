@@ -1,16 +1,13 @@
 -- The orders that a search has handed over, and those that are left.
-use Rattle.std.proofs.Common.{◌≡◌, ℕ, zero, suc, ◌+◌, ◌^◌, ◌<◌, ◌≤◌, List, [], ◌∷◌, ◌++◌, length, get_or, take, take_at, length-append, drop, drop-cons, Option, None, Some, refl, ap, sym, ◌∙◌, subst, append_assoc, append-nil, arith, Bool, true, false, true≢false}
+use Rattle.std.proofs.Common.{◌≡◌, ℕ, zero, suc, ◌+◌, ◌<◌, ◌≤◌, List, [], ◌∷◌, ◌++◌, length, take, take_at, length-append, Option, None, Some, refl, ap, sym, ◌∙◌, append_assoc, arith, Bool, true, false, true≢false}
 use Rattle.channel_orders.specs.declared.party.Act.{Act}
 use Rattle.channel_orders.specs.declared.search.Choice.{Choice}
 use Rattle.channel_orders.specs.declared.party.Turn.{Turn}
-use Rattle.channel_orders.specs.declared.party.Place.{Place}
-use Rattle.channel_orders.specs.Orders.{Moment, begun_with, orders_by, orders_of, turn_of, turns_from}
-use Rattle.channel_orders.specs.Trail.{HasGone, IsAt, IsEnd, IsFirst, IsNext, IsOf, Leads, Spot, Stands, Tree, begun, begun_behind, behind_all, due_at, tree_of}
-use Rattle.channel_model.specs.View.{View}
-use Rattle.channel_model.specs.Past.{Past}
+use Rattle.channel_orders.specs.Orders.{Moment, begun_with, orders_by, orders_of, turns_from}
+use Rattle.channel_orders.specs.Trail.{IsNext, Spot, Tree, begun, behind_all}
 use Rattle.channel_model.specs.declared.step.Kind.{Kind}
 use Rattle.channel_orders.specs.Searches.{HasSearched}
-use Rattle.std.specs.Prelude.{unwrap_or, min, IfErr, MatchOption, is_some, not}
+use Rattle.std.specs.Prelude.{min, IfErr, MatchOption, is_some, not}
 use Rattle.std.proofs.Common.{Result, Ok, Err}
 use Rattle.std.proofs.Math.Nat.{min-eq_left, min-eq_right}
 

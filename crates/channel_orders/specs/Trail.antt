@@ -1,10 +1,7 @@
 -- Where a search stands among the orders. Private functions promise it; no public clause cites this
 -- module.
-use Rattle.std.specs.Prelude.{◌≡◌, ℕ, suc, ◌+◌, ◌^◌, ◌≤◌, Bool, true, false, List, [], ◌∷◌, ◌++◌, map, Option, None, Some}
+use Rattle.std.specs.Prelude.{◌≡◌, ℕ, suc, ◌+◌, ◌^◌, ◌≤◌, List, [], ◌∷◌, ◌++◌, map, Option, None, Some}
 use Rattle.channel_model.specs.declared.step.Kind.{Kind}
-use Rattle.channel_model.specs.declared.step.Refusal.TheVariants.{OutOfMemory}
-use Rattle.channel_model.specs.declared.step.Reply.{Reply}
-use Rattle.channel_model.specs.declared.step.Reply.TheVariants.{Refused}
 use Rattle.channel_model.specs.Past.{Past}
 use Rattle.channel_model.specs.View.{View}
 use Rattle.channel_run.specs.StandsFor.{StandsFor}
