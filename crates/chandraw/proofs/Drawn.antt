@@ -16,8 +16,8 @@ use Rattle.chanrun.proofs.Known.{appends_none, appends_more, nothing_left}
 use Rattle.chanrun.proofs.TextsOfLines.{due_text, fault_more, text_more}
 use Rattle.chandraw.specs.Pieces.{pieces_bytes, row_bytes}
 use Rattle.chandraw.specs.Picture.{AreRows, HasPicture, HasRows, IsLineDrawn, row_line}
-use Rattle.chandraw.specs.declared.piece.Form.{Form}
-use Rattle.chandraw.specs.declared.piece.Piece.{Piece}
+use Rattle.chandraw_layout.specs.declared.piece.Form.{Form}
+use Rattle.chandraw_layout.specs.declared.piece.Piece.{Piece}
 use Rattle.chandraw.specs.declared.piece.Row.{Row}
 
 pub no_rows : (form : Form) → AreRows form [] []

@@ -1,4 +1,3 @@
 pub mod Arguments
-pub mod Marks
 pub mod Pieces
 pub mod Picture

@@ -12,8 +12,8 @@ use Rattle.chanrun.specs.Script.{command_text, past_after_command, script_fault,
 use Rattle.chanrun.specs.declared.grammar.command.Command.{Command}
 use Rattle.chanrun.specs.declared.grammar.fault.Fault.{Fault}
 use Rattle.chandraw.specs.Pieces.{pieces_bytes, row_bytes, text_line}
-use Rattle.chandraw.specs.declared.piece.Form.{Form}
-use Rattle.chandraw.specs.declared.piece.Piece.{Piece}
+use Rattle.chandraw_layout.specs.declared.piece.Form.{Form}
+use Rattle.chandraw_layout.specs.declared.piece.Piece.{Piece}
 use Rattle.chandraw.specs.declared.piece.Row.{Row}
 
 -- the reply of a row as a line

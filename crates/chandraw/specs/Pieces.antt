@@ -3,11 +3,11 @@ use Rattle.std.specs.Prelude.{ℕ, ◌==◌, ◌&&◌, ◌++◌, ◌∷◌, [], 
 use Rattle.std.specs.List.{flat_map}
 use Rattle.std.specs.Fmt.{decimal}
 use Rattle.chanrun.specs.Script.{as_line}
-use Rattle.chandraw.specs.Marks.{mark_bytes}
-use Rattle.chandraw.specs.declared.piece.Form.{Form}
-use Rattle.chandraw.specs.declared.piece.Form.TheVariants.{Svg, Terminal}
-use Rattle.chandraw.specs.declared.piece.Piece.{Piece}
-use Rattle.chandraw.specs.declared.piece.Piece.TheVariants.{Mark, Number, Text}
+use Rattle.chandraw_layout.specs.Marks.{mark_bytes}
+use Rattle.chandraw_layout.specs.declared.piece.Form.{Form}
+use Rattle.chandraw_layout.specs.declared.piece.Form.TheVariants.{Svg, Terminal}
+use Rattle.chandraw_layout.specs.declared.piece.Piece.{Piece}
+use Rattle.chandraw_layout.specs.declared.piece.Piece.TheVariants.{Mark, Number, Text}
 use Rattle.chandraw.specs.declared.piece.Row.{Row}
 
 -- a byte that can be printed in ASCII, and `?` in the place of any other

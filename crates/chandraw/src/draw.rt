@@ -22,9 +22,8 @@ ghost use Rattle.chandraw.specs.Picture.{AreRows, HasPicture, HasRows, IsLineDra
 ghost use Rattle.chandraw.specs.declared.piece.Row.{Row};
 
 use crate::answers::replies_to;
-use crate::layout::Layout;
-use crate::mark::Mark;
-use crate::piece::{Form, Piece, Pieces, add_pieces, add_row};
+use crate::piece::{Row, add_pieces, add_row};
+use chandraw_layout::{Form, Layout, Piece, RowTexts, blank};
 use channel_model::Kind;
 use channel_run::Run;
 use chanrun::device::{Sink, Source};
@@ -47,7 +46,25 @@ fn write_pieces<W: Sink>(
     write_text(writer, page.as_slice())
 }
 
-// Adds the row of a reply. The first one of a line has the line's number.
+// The row of a reply. The first one of a line has the line's number.
+fn row_of(
+    layout: &mut Layout,
+    number: Option<u64>,
+    line: &[u8],
+    reply: String,
+) -> Result<Row, ScriptError>
+    ensures { IfOk result (λ row. row.reply ≡ reply) }
+{
+    let texts = RowTexts {
+        number,
+        line,
+        reply: reply.as_str(),
+    };
+    let (head, tail) = layout.around(texts)?;
+    Ok(Row { head, reply, tail })
+}
+
+// Adds the row of a reply.
 fn add_reply(
     alloc: Global,
     page: &mut Vec<u8>,
@@ -60,7 +77,7 @@ fn add_reply(
     ensures { OnOk result ((row : Row) × (row.reply ≡ reply)
         × (page.new.items ≡ page.old.items ++ row_bytes form row)) }
 {
-    let row = layout.row(number, line, reply)?;
+    let row = row_of(layout, number, line, reply)?;
     add_row(alloc, page, form, &row)?;
     Ok(())
 }
@@ -179,6 +196,26 @@ fn draw_run<W: Sink>(
     Ok(fault)
 }
 
+// Draws a channel of this kind, and the other lines, as the layout has them.
+fn draw_laid_out<W: Sink>(
+    alloc: Global,
+    form: Form,
+    kind: Kind,
+    layout: &mut Layout,
+    first: &[u8],
+    lines: &[u8],
+    writer: &mut W,
+) -> Result<Option<(u64, Fault)>, ScriptError>
+    requires positive { HasPositiveCapacity kind }
+    requires short { length lines.now ≤ SCRIPT_LIMIT }
+    ensures { IfOk result (λ fault. (fault ≡ fault_from 2 (lines_of lines.now))
+        × HasPicture form (texts_after kind [] (commands_of (lines_of lines.now)))
+        (W.written writer.old) (W.written writer.new)) }
+{
+    let mut run = Run::new(alloc, kind)?;
+    draw_run(alloc, form, &mut run, layout, first, lines, writer)
+}
+
 // Draws the channel that the first line asks for, and the other lines.
 fn draw_channel<W: Sink>(
     alloc: Global,
@@ -195,8 +232,7 @@ fn draw_channel<W: Sink>(
         (W.written writer.old) (W.written writer.new)) }
 {
     let mut layout = Layout::new(alloc, form, kind, lines)?;
-    let mut run = Run::new(alloc, kind)?;
-    draw_run(alloc, form, &mut run, &mut layout, first, lines, writer)
+    draw_laid_out(alloc, form, kind, &mut layout, first, lines, writer)
 }
 
 // Draws a picture without a row.
@@ -204,13 +240,8 @@ fn draw_nothing<W: Sink>(alloc: Global, form: Form, writer: &mut W) -> Result<()
     ensures { OnOk result
         (HasPicture form [] (W.written writer.old) (W.written writer.new)) }
 {
-    let mark = match form {
-        Form::Svg => Mark::Blank,
-        Form::Terminal => Mark::Newline,
-    };
-    let mut pieces = Pieces::new(alloc);
-    pieces.mark(mark)?;
-    write_pieces(alloc, form, pieces.list.as_slice(), writer)
+    let pieces = blank(alloc, form)?;
+    write_pieces(alloc, form, pieces.as_slice(), writer)
 }
 
 // Draws what the bytes of a script say.
@@ -249,6 +280,11 @@ fn draw<W: Sink>(
 /// let mut writer = FromStd::new(Vec::new(rt.alloc()));
 /// let drawn = draw_script(rt.alloc(), Form::Svg, &mut reader, &mut writer);
 /// assert_eq!(rt; drawn, Ok(Some((2, Fault::WrongWordCount))));
+///
+/// let mut reader = FromStd::new(b"unbounded\nlen s0\n".as_slice());
+/// let mut writer = FromStd::new(Vec::new(rt.alloc()));
+/// let drawn = draw_script(rt.alloc(), Form::Terminal, &mut reader, &mut writer);
+/// assert_eq!(rt; drawn, Ok(None));
 /// ```
 pub fn draw_script<R: Source, W: Sink>(
     alloc: Global,

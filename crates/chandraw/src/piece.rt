@@ -1,38 +1,9 @@
-//! What a picture is made of, and its bytes.
+//! The bytes of what a picture is made of.
 ghost use Rattle.std.specs.Prelude.{◌≡◌, ◌++◌, OnOk};
 ghost use Rattle.chandraw.specs.Pieces.{escaped, escaped_byte, named_byte, piece_bytes, pieces_bytes, printed, row_bytes};
 
-use crate::mark::{Mark, mark_bytes};
+use chandraw_layout::{Form, Piece, mark_bytes};
 use std::alloc::{AllocError, Global};
-
-/// What a script is drawn as.
-///
-/// # Examples
-///
-/// ```
-/// let mut reader = FromStd::new(b"unbounded\nlen s0\n".as_slice());
-/// let mut writer = FromStd::new(Vec::new(rt.alloc()));
-/// let drawn = draw_script(rt.alloc(), Form::Terminal, &mut reader, &mut writer);
-/// assert_eq!(rt; drawn, Ok(None));
-/// ```
-#[derive(Clone, Copy, Debug, PartialEq, Eq)]
-pub enum Form {
-    /// A picture in SVG.
-    Svg,
-    /// Lines of at most 100 columns.
-    Terminal,
-}
-
-/// A part of a picture.
-#[derive(Drop)]
-pub enum Piece {
-    /// Constant bytes.
-    Mark(Mark),
-    /// A number in decimal.
-    Number(u64),
-    /// Bytes that may come from the input.
-    Text(Vec<u8>),
-}
 
 /// What is drawn for one reply: the pieces before it, the reply, and the pieces behind it.
 #[derive(Drop)]
@@ -40,38 +11,6 @@ pub struct Row {
     pub head: Vec<Piece>,
     pub reply: String,
     pub tail: Vec<Piece>,
-}
-
-/// Pieces that are being listed.
-#[derive(Drop)]
-pub(crate) struct Pieces {
-    alloc: Global,
-    pub list: Vec<Piece>,
-}
-
-impl Pieces {
-    pub fn new(alloc: Global) -> Pieces {
-        Pieces {
-            alloc,
-            list: Vec::new(alloc),
-        }
-    }
-
-    pub fn mark(&mut self, mark: Mark) -> Result<(), AllocError> {
-        self.list.push(Piece::Mark(mark))?;
-        Ok(())
-    }
-
-    pub fn number(&mut self, number: u64) -> Result<(), AllocError> {
-        self.list.push(Piece::Number(number))?;
-        Ok(())
-    }
-
-    pub fn text(&mut self, text: &[u8]) -> Result<(), AllocError> {
-        self.list
-            .push(Piece::Text(Vec::from_slice(self.alloc, text)?))?;
-        Ok(())
-    }
 }
 
 // Adds a byte, or another one in its place where it can't be printed.

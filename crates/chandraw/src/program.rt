@@ -3,10 +3,10 @@ ghost use Rattle.std.specs.Prelude.{◌≡◌, ℕ, ◌⊎◌, None, Some, IfSom
 ghost use Rattle.chanrun.specs.declared.grammar.fault.Fault.{Fault};
 ghost use Rattle.chandraw.specs.Arguments.{form_in};
 ghost use Rattle.chandraw.specs.Picture.{IsScriptDrawn};
-ghost use Rattle.chandraw.specs.declared.piece.Form.{Form};
+ghost use Rattle.chandraw_layout.specs.declared.piece.Form.{Form};
 
 use crate::draw::draw_script;
-use crate::piece::Form;
+use chandraw_layout::Form;
 use chanrun::device::{Sink, Source};
 use chanrun::script::{ScriptError, write_text};
 use std::alloc::Global;

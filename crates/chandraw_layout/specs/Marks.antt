@@ -1,7 +1,7 @@
 -- The constant bytes of a picture.
 use Rattle.std.specs.Prelude.{ℕ, List, codes}
-use Rattle.chandraw.specs.declared.mark.Mark.{Mark}
-use Rattle.chandraw.specs.declared.mark.Mark.TheVariants.{SvgStart, SvgHeight, SvgHead, SvgStyle, SvgArrow, SvgCross, SvgRows, SvgLegend, SvgLegendEnd, SvgTitles, SvgEnd, Blank, Title, HeldName, SendsName, ReceivesName, StreamsName, ClosedsName, NumberText, LineText, PollText, PollName, ReplyText, RefusedText, NameText, CellText, AtX, TextStart, SqueezedName, SqueezedLine, SqueezedReply, TextEnd, LifePath, WaitPath, ToldPath, BorrowPath, MessagePath, DisplacedPath, ClosingPath, EndPath, Move, LineTo, Down, Across, Space, Bar, PathEnd, Newline, TerminalHead, TerminalHeld, TerminalPoll, Legend, LegendEnd}
+use Rattle.chandraw_layout.specs.declared.mark.Mark.{Mark}
+use Rattle.chandraw_layout.specs.declared.mark.Mark.TheVariants.{SvgStart, SvgHeight, SvgHead, SvgStyle, SvgArrow, SvgCross, SvgRows, SvgLegend, SvgLegendEnd, SvgTitles, SvgEnd, Blank, Title, HeldName, SendsName, ReceivesName, StreamsName, ClosedsName, NumberText, LineText, PollText, PollName, ReplyText, RefusedText, NameText, CellText, AtX, TextStart, SqueezedName, SqueezedLine, SqueezedReply, TextEnd, LifePath, WaitPath, ToldPath, BorrowPath, MessagePath, DisplacedPath, ClosingPath, EndPath, Move, LineTo, Down, Across, Space, Bar, PathEnd, Newline, TerminalHead, TerminalHeld, TerminalPoll, Legend, LegendEnd}
 
 -- What stands in a picture whatever the input is: the bytes of each mark.
 abbrev pub mark_bytes : Mark → List ℕ

@@ -1,5 +1,5 @@
 use Rattle.std.proofs.Common.{length}
-use Rattle.chandraw.proofs.size.Measure.follow_all.Given as goal
+use Rattle.chandraw_layout.proofs.size.Measure.follow_all.Given as goal
 
 -- what is left gets shorter
 abbrev pub decreases-loop-rest : goal.decreases-loop-rest

@@ -1,6 +1,6 @@
 //! The constant bytes of a picture.
 ghost use Rattle.std.specs.Prelude.{◌≡◌};
-ghost use Rattle.chandraw.specs.Marks.{mark_bytes};
+ghost use Rattle.chandraw_layout.specs.Marks.{mark_bytes};
 
 /// Constant bytes of a picture.
 #[derive(Clone, Copy)]
@@ -68,7 +68,13 @@ pub enum Mark {
 }
 
 /// The bytes of a mark.
-pub(crate) fn mark_bytes(mark: Mark) -> &'static [u8]
+///
+/// # Examples
+///
+/// ```
+/// assert_eq!(rt; mark_bytes(Mark::TextEnd), b"</text>".as_slice());
+/// ```
+pub fn mark_bytes(mark: Mark) -> &'static [u8]
     ensures { result.now ≡ mark_bytes mark }
 {
     match mark {

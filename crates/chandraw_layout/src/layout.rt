@@ -2,30 +2,49 @@
 //!
 //! The table makes each command in a row of its own, and each poll of settling that was ready in a
 //! further one. Of each row the form says what stands before and behind its reply.
-ghost use Rattle.std.specs.Prelude.{◌≡◌, IfOk};
 ghost use Rattle.channel_model.specs.Capacity.{HasPositiveCapacity};
 
-use crate::piece::{Form, Piece, Row};
+use crate::mark::Mark;
+use crate::piece::{Form, Piece, Pieces};
 use crate::size::{Size, size_of};
 use crate::table::Table;
 use crate::{svg, terminal};
 use channel_model::Kind;
 use chanrun::grammar::{Command, command_of};
 use chanrun::script::ScriptError;
-use std::alloc::Global;
+use std::alloc::{AllocError, Global};
 
 /// What stands in a row as it was given.
 #[derive(Clone, Copy)]
-pub(crate) struct RowTexts<'a> {
-    /// The line's number, and none for a poll of settling.
+pub struct RowTexts<'a> {
+    /// The line's number, and none for a further reply to it.
     pub number: Option<u64>,
     pub line: &'a [u8],
     pub reply: &'a str,
 }
 
 /// A picture that is being drawn.
+///
+/// # Examples
+///
+/// ```
+/// let mut layout = Layout::new(rt.alloc(), Form::Svg, Kind::Unbounded, b"settle\n")?;
+/// let before = layout.opening(b"unbounded")?;
+/// assert!(rt; matches!(before.first(), Some(Piece::Mark(Mark::SvgStart))));
+/// let texts = RowTexts {
+///     number: Some(2),
+///     line: b"settle",
+///     reply: "settled 0 0",
+/// };
+/// let (head, tail) = layout.around(texts)?;
+/// assert!(rt; matches!(head.first(), Some(Piece::Mark(Mark::NumberText))));
+/// assert!(rt; matches!(tail.first(), Some(Piece::Mark(Mark::TextEnd))));
+/// layout.end_line()?;
+/// let behind = layout.closing()?;
+/// assert!(rt; matches!(behind.last(), Some(Piece::Mark(Mark::SvgEnd))));
+/// ```
 #[derive(Drop)]
-pub(crate) struct Layout {
+pub struct Layout {
     alloc: Global,
     form: Form,
     table: Table,
@@ -79,26 +98,8 @@ impl Layout {
         }
     }
 
-    /// The row of a reply. The first one of a line has the line's number.
-    pub fn row(
-        &mut self,
-        number: Option<u64>,
-        line: &[u8],
-        reply: String,
-    ) -> Result<Row, ScriptError>
-        ensures { IfOk result (λ row. row.reply ≡ reply) }
-    {
-        let texts = RowTexts {
-            number,
-            line,
-            reply: reply.as_str(),
-        };
-        let (head, tail) = self.around(texts)?;
-        Ok(Row { head, reply, tail })
-    }
-
-    // Makes the row of these texts, and answers what stands before its reply, and what behind it.
-    fn around(&mut self, texts: RowTexts<'_>) -> Result<(Vec<Piece>, Vec<Piece>), ScriptError> {
+    /// Makes the row of these texts, and answers what stands before its reply, and what behind it.
+    pub fn around(&mut self, texts: RowTexts<'_>) -> Result<(Vec<Piece>, Vec<Piece>), ScriptError> {
         self.follow(texts.number, texts.line)?;
         let row = match self.form {
             Form::Svg => svg::row(self.alloc, &self.table, self.size, texts),
@@ -125,4 +126,21 @@ impl Layout {
             Form::Terminal => terminal::closing(self.alloc)?,
         })
     }
+}
+
+/// What is drawn where the first line makes no channel: a picture without a row.
+///
+/// # Examples
+///
+/// ```
+/// let pieces = blank(rt.alloc(), Form::Svg)?;
+/// assert_eq!(rt; pieces.len(), 1);
+/// ```
+pub fn blank(alloc: Global, form: Form) -> Result<Vec<Piece>, AllocError> {
+    let mut pieces = Pieces::new(alloc);
+    pieces.mark(match form {
+        Form::Svg => Mark::Blank,
+        Form::Terminal => Mark::Newline,
+    })?;
+    Ok(pieces.list)
 }
