@@ -6,7 +6,7 @@ ghost use Rattle.channel_model.specs.Past.{Past};
 ghost use Rattle.channel_run.specs.StandsFor.{StandsFor};
 ghost use Rattle.chanrun.specs.Script.{command_text, finished_line, past_after_command, settled_line, settled_text};
 ghost use Rattle.chanrun.specs.Texts.{notice_text, reply_text};
-ghost use Rattle.chanrun.specs.Wants.{wants_memory};
+ghost use Rattle.channel_model.specs.Answers.{wants_memory};
 ghost use Rattle.chandraw.specs.Pieces.{text_line};
 
 use channel_model::{Notice, Refusal, Reply, Who};

@@ -2,7 +2,7 @@ use Rattle.std.proofs.Common.{◌≡◌, string_bytes, append-nil, ap, sym, ◌�
 use Rattle.std.specs.List.{flat_map}
 use Rattle.chanrun.specs.Script.{as_line}
 use Rattle.chanrun.specs.Texts.{reply_text}
-use Rattle.chanrun.proofs.Answered.{answered, made_after}
+use Rattle.channel_run.proofs.Steps.Decided.{answered, made_after}
 use Rattle.chanrun.proofs.SettlingPolls.{settled_after, text-Settles}
 use Rattle.chandraw.specs.Pieces.{text_line}
 use Rattle.chandraw.proofs.answers.replies_to.Goals as goal
