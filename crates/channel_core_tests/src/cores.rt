@@ -1,4 +1,5 @@
 //! Calls of a core and of a queue, as rows of calls and answers.
+ghost use Rattle.std.specs.Prelude.{◌<◌, IfSome};
 
 use channel_core::{
     Core, Group, Queue, Quiet, RecvError, SendError, Ticket, TryRecvError, TrySendError, Upgrade,
@@ -62,13 +63,18 @@ struct Probe {
 }
 
 impl Probe {
-    fn of(core: Core<u64, u64>) -> Self {
-        Probe {
-            core,
+    fn new(alloc: Global, capacity: Option<usize>) -> Result<Self, Fail>
+        requires { IfSome capacity (λ count. 0 < count) }
+    {
+        Ok(Probe {
+            core: match capacity {
+                Some(capacity) => Core::bounded(alloc, capacity)?,
+                None => Core::unbounded(alloc),
+            },
             log: Log::new(),
             message: Some(5),
             tickets: [None, None, None],
-        }
+        })
     }
 
     fn answer(&mut self, call: Call) -> Result<Answer, Fail> {
@@ -134,35 +140,47 @@ impl Probe {
 }
 
 /// Makes the calls in order, and looks at each answer.
-fn run(rt: &impl Abort, core: Core<u64, u64>, rows: &[(Call, Answer)]) -> Result<Probe, Fail> {
-    let mut probe = Probe::of(core);
+fn make(rt: &impl Abort, probe: &mut Probe, rows: &[(Call, Answer)]) -> Result<(), Fail> {
     for (call, want) in rows {
         let got = probe.answer(*call)?;
         assert!(rt; got == *want, "{call:?} answers {got:?}");
     }
-    Ok(probe)
+    Ok(())
+}
+
+/// Makes the calls on a new core of this capacity.
+fn run(
+    rt: &impl Abort,
+    alloc: Global,
+    capacity: Option<usize>,
+    rows: &[(Call, Answer)],
+) -> Result<(), Fail>
+    requires { IfSome capacity (λ count. 0 < count) }
+{
+    make(rt, &mut Probe::new(alloc, capacity)?, rows)
 }
 
 #[test]
 fn documentation_of_try_send(rt: HostRuntime) -> Result<(), Fail> {
     run(
         &rt,
-        Core::bounded(rt.alloc(), 1)?,
+        rt.alloc(),
+        Some(1),
         &[
             (TrySend(1), Answer::TrySent(Ok(()))),
             (TrySend(2), Answer::TrySent(Err(TrySendError::Full(2)))),
             (DropReceiver, Answer::Flag(true)),
             (TrySend(3), Answer::TrySent(Err(TrySendError::Closed(3)))),
         ],
-    )?;
-    Ok(())
+    )
 }
 
 #[test]
 fn documentation_of_force_send(rt: HostRuntime) -> Result<(), Fail> {
     run(
         &rt,
-        Core::bounded(rt.alloc(), 3)?,
+        rt.alloc(),
+        Some(3),
         &[
             (TrySend(1), Answer::TrySent(Ok(()))),
             (TrySend(2), Answer::TrySent(Ok(()))),
@@ -172,15 +190,15 @@ fn documentation_of_force_send(rt: HostRuntime) -> Result<(), Fail> {
             (TryRecv, Answer::Received(Ok(3))),
             (TryRecv, Answer::Received(Ok(4))),
         ],
-    )?;
-    Ok(())
+    )
 }
 
 #[test]
 fn closed_before_full(rt: HostRuntime) -> Result<(), Fail> {
     run(
         &rt,
-        Core::bounded(rt.alloc(), 1)?,
+        rt.alloc(),
+        Some(1),
         &[
             (TrySend(1), Answer::TrySent(Ok(()))),
             (Close, Answer::Flag(true)),
@@ -189,13 +207,10 @@ fn closed_before_full(rt: HostRuntime) -> Result<(), Fail> {
             (TryRecv, Answer::Received(Ok(1))),
             (TryRecv, Answer::Received(Err(TryRecvError::Closed))),
         ],
-    )?;
-    Ok(())
+    )
 }
 
-#[test]
-fn messages_without_size(rt: HostRuntime) -> Result<(), Fail> {
-    let mut core: Core<(), u64> = Core::bounded(rt.alloc(), 2)?;
+fn without_size(rt: &impl Abort, core: &mut Core<(), u64>) -> Result<(), Fail> {
     let _ = core.try_send((), &mut Quiet)?;
     let _ = core.try_send((), &mut Quiet)?;
     assert!(rt; core.len() == 2 && !core.is_empty() && core.is_full());
@@ -205,7 +220,11 @@ fn messages_without_size(rt: HostRuntime) -> Result<(), Fail> {
 }
 
 #[test]
-fn a_core_rings_its_bell(rt: HostRuntime) -> Result<(), Fail> {
+fn messages_without_size(rt: HostRuntime) -> Result<(), Fail> {
+    without_size(&rt, &mut Core::bounded(rt.alloc(), 2)?)
+}
+
+fn rings_its_bell(rt: &impl Abort, probe: &mut Probe) -> Result<(), Fail> {
     let rows: [(Call, Answer, &[u64]); 6] = [
         (PollRecv(0, 1), Answer::RecvPolled(Poll::Pending), &[]),
         (PollRecv(1, 2), Answer::RecvPolled(Poll::Pending), &[]),
@@ -218,20 +237,25 @@ fn a_core_rings_its_bell(rt: HostRuntime) -> Result<(), Fail> {
         ),
         (Close, Answer::Flag(true), &[1, 2]),
     ];
-    let mut probe = Probe::of(Core::bounded(rt.alloc(), 1)?);
-    for (call, want, rung) in rows {
-        let got = probe.answer(call)?;
-        assert!(rt; got == want, "{call:?} answers {got:?}");
-        assert_eq!(rt; probe.log.stored(), rung);
+    for (call, want, rung) in &rows {
+        let got = probe.answer(*call)?;
+        assert!(rt; got == *want, "{call:?} answers {got:?}");
+        assert_eq!(rt; probe.log.stored(), *rung);
     }
     Ok(())
+}
+
+#[test]
+fn a_core_rings_its_bell(rt: HostRuntime) -> Result<(), Fail> {
+    rings_its_bell(&rt, &mut Probe::new(rt.alloc(), Some(1))?)
 }
 
 #[test]
 fn a_bounded_core_takes_no_memory(rt: HostRuntime) -> Result<(), Fail> {
     run(
         &rt,
-        Core::bounded(rt.alloc(), 2)?,
+        rt.alloc(),
+        Some(2),
         &[
             (PollRecv(0, 0), Answer::RecvPolled(Poll::Pending)),
             (TrySend(1), Answer::TrySent(Ok(()))),
@@ -247,15 +271,13 @@ fn a_bounded_core_takes_no_memory(rt: HostRuntime) -> Result<(), Fail> {
             (TryRecv, Answer::Received(Ok(5))),
             (TryRecv, Answer::Received(Err(TryRecvError::Closed))),
         ],
-    )?;
-    Ok(())
+    )
 }
 
-#[test]
-fn a_core_and_its_closed_operations(rt: HostRuntime) -> Result<(), Fail> {
-    let probe = run(
-        &rt,
-        Core::bounded(rt.alloc(), 1)?,
+fn closed_operations(rt: &impl Abort, probe: &mut Probe) -> Result<(), Fail> {
+    make(
+        rt,
+        probe,
         &[
             (PollClosed(0, 3), Answer::ClosedPolled(Poll::Pending)),
             (DropSender, Answer::Flag(true)),
@@ -270,10 +292,16 @@ fn a_core_and_its_closed_operations(rt: HostRuntime) -> Result<(), Fail> {
 }
 
 #[test]
+fn a_core_and_its_closed_operations(rt: HostRuntime) -> Result<(), Fail> {
+    closed_operations(&rt, &mut Probe::new(rt.alloc(), Some(1))?)
+}
+
+#[test]
 fn a_stream_to_its_end(rt: HostRuntime) -> Result<(), Fail> {
     run(
         &rt,
-        Core::unbounded(rt.alloc()),
+        rt.alloc(),
+        None,
         &[
             (TrySend(1), Answer::TrySent(Ok(()))),
             (PollNext(0, 0), Answer::NextPolled(Poll::Ready(Some(1)))),
@@ -285,15 +313,13 @@ fn a_stream_to_its_end(rt: HostRuntime) -> Result<(), Fail> {
             (Numbers(Group::Streams), Answer::Numbers(0, 0, 0)),
             (Flags, Answer::Flags(true, true, false, true)),
         ],
-    )?;
-    Ok(())
+    )
 }
 
-#[test]
-fn waits_given_up(rt: HostRuntime) -> Result<(), Fail> {
-    let probe = run(
-        &rt,
-        Core::bounded(rt.alloc(), 1)?,
+fn given_up(rt: &impl Abort, probe: &mut Probe) -> Result<(), Fail> {
+    make(
+        rt,
+        probe,
         &[
             (PollRecv(0, 1), Answer::RecvPolled(Poll::Pending)),
             (PollRecv(1, 2), Answer::RecvPolled(Poll::Pending)),
@@ -318,13 +344,21 @@ fn waits_given_up(rt: HostRuntime) -> Result<(), Fail> {
 }
 
 #[test]
-fn counts_and_upgrades(rt: HostRuntime) -> Result<(), Fail> {
-    let mut core: Core<u64, u64> = Core::bounded(rt.alloc(), 1)?;
+fn waits_given_up(rt: HostRuntime) -> Result<(), Fail> {
+    given_up(&rt, &mut Probe::new(rt.alloc(), Some(1))?)
+}
+
+fn counts_handles(rt: &impl Abort, core: &mut Core<u64, u64>) {
     assert!(rt; core.add_sender() && core.add_receiver());
     assert!(rt; core.upgrade_sender() == Upgrade::Raised);
     assert!(rt; core.upgrade_receiver() == Upgrade::Raised);
     assert!(rt; core.sender_count() == 3 && core.receiver_count() == 3);
     assert!(rt; core.capacity() == Some(1));
+}
+
+#[test]
+fn counts_and_upgrades(rt: HostRuntime) -> Result<(), Fail> {
+    counts_handles(&rt, &mut Core::bounded(rt.alloc(), 1)?);
     Ok(())
 }
 

@@ -1,6 +1,6 @@
 //! Recorded channels: worked rows, and calls from many threads.
 use channel_record::{
-    Call, Clerk, Exact, FinishError, Journal, Kind, Outcome, Recorder, SendError, StampMaker,
+    Book, Call, Clerk, Exact, FinishError, Journal, Kind, Outcome, Recorder, SendError, StampMaker,
     TryRecvError, TrySendError,
 };
 use std::alloc::Global;
@@ -78,6 +78,15 @@ const CALLS_OF_TWO: [(usize, Call<u64>, Outcome<u64>); 5] = [
     (1, Call::Close, Outcome::Flag(false)),
 ];
 
+/// Looks at the book of two clerks that made those calls.
+fn has_calls_of_two(rt: &impl Abort, book: &Book<u64>) {
+    assert_eq!(rt; book.kind(), Kind::Bounded(1));
+    assert_eq!(rt; book.history().len(), 5);
+    assert_eq!(rt; book.clerks(), 2);
+    assert_eq!(rt; book.places(0), Some([0, 3].as_slice()));
+    assert_eq!(rt; book.places(1), Some([1, 2, 4].as_slice()));
+}
+
 #[test]
 fn the_recorders_calls(rt: HostRuntime) -> Result<(), Fail> {
     let mut maker = StampMaker::new();
@@ -87,12 +96,7 @@ fn the_recorders_calls(rt: HostRuntime) -> Result<(), Fail> {
     assert_eq!(rt; clerks.first().map(|clerk| clerk.len()), Some(2));
     let second = clerks.last().and_then(|clerk| clerk.entry(1));
     assert_eq!(rt; second, Some((2, Call::TryRecv, Outcome::Received(Ok(1)))));
-    let book = recorder.finish(clerks)?;
-    assert_eq!(rt; book.kind(), Kind::Bounded(1));
-    assert_eq!(rt; book.history().len(), 5);
-    assert_eq!(rt; book.clerks(), 2);
-    assert!(rt; matches!(book.places(0), Some([0, 3])));
-    assert!(rt; matches!(book.places(1), Some([1, 2, 4])));
+    has_calls_of_two(&rt, &recorder.finish(clerks)?);
     Ok(())
 }
 
@@ -123,18 +127,25 @@ const EMPTY: Outcome<u64> = Outcome::Received(Err(TryRecvError::Empty));
 
 const ENDED: Outcome<u64> = Outcome::Received(Err(TryRecvError::Closed));
 
+/// Looks at the book of two clerks that made these calls by turns.
+fn has_every_outcome(rt: &impl Abort, book: &Book<u64>) {
+    for (made, (_, call, outcome)) in book.history().iter().zip(EVERY_OUTCOME) {
+        assert_eq!(rt; *made, (call, outcome));
+    }
+    assert_eq!(rt;
+        book.places(0),
+        Some([0, 2, 4, 6, 8, 10, 12, 14].as_slice())
+    );
+    assert_eq!(rt; book.places(1), Some([1, 3, 5, 7, 9, 11, 13].as_slice()));
+}
+
 #[test]
 fn a_book_with_every_outcome(rt: HostRuntime) -> Result<(), Fail> {
     let mut maker = StampMaker::new();
     let recorder = Recorder::bounded(rt.alloc(), 1, &mut maker)?;
     let mut clerks = clerks_of(&rt, rt.alloc(), &recorder, 2)?;
     make(&rt, &recorder, &mut clerks, &EVERY_OUTCOME)?;
-    let book = recorder.finish(clerks)?;
-    for (made, (_, call, outcome)) in book.history().iter().zip(EVERY_OUTCOME) {
-        assert_eq!(rt; *made, (call, outcome));
-    }
-    assert!(rt; matches!(book.places(0), Some([0, 2, 4, 6, 8, 10, 12, 14])));
-    assert!(rt; matches!(book.places(1), Some([1, 3, 5, 7, 9, 11, 13])));
+    has_every_outcome(&rt, &recorder.finish(clerks)?);
     Ok(())
 }
 
@@ -192,18 +203,18 @@ fn a_book_without_calls(rt: HostRuntime) -> Result<(), Fail> {
     )
 }
 
+/// Makes two calls on a journal with room for one message, and looks at what comes of them.
+fn displaces(rt: &impl Abort, journal: &mut Journal<u64>) {
+    let first = journal.call(Call::ForceSend(1)).ok();
+    assert_eq!(rt; first, Some((0, Outcome::Forced(Ok(None)))));
+    let second = journal.call(Call::ForceSend(2)).ok();
+    assert_eq!(rt; second, Some((1, Outcome::Forced(Ok(Some(1))))));
+    assert_eq!(rt; journal.history().len(), 2);
+}
+
 #[test]
 fn a_journal(rt: HostRuntime) -> Result<(), Fail> {
-    let mut journal = Journal::new(rt.alloc(), Kind::Bounded(1))?;
-    assert_eq!(rt;
-        journal.call(Call::ForceSend(1u64))?,
-        (0, Outcome::Forced(Ok(None)))
-    );
-    assert_eq!(rt;
-        journal.call(Call::ForceSend(2))?,
-        (1, Outcome::Forced(Ok(Some(1))))
-    );
-    assert_eq!(rt; journal.history().len(), 2);
+    displaces(&rt, &mut Journal::new(rt.alloc(), Kind::Bounded(1))?);
     Ok(())
 }
 

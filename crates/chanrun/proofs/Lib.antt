@@ -4,4 +4,5 @@ pub mod Words
 pub mod Known
 pub mod SettlingPolls
 pub mod TextsOfLines
+pub mod LinesDone
 pub mod LegalScripts

@@ -2,7 +2,8 @@
 //!
 //! 1. `read_script` reads block by block, up to one byte more than a script may have. So a read
 //!    that fails, and a script that is too long, are found before anything is written.
-//! 2. `answer` splits the first line off, and makes a run of the channel that it asks for.
+//! 2. `answer` splits the first line off, and `answer_others` makes a run of the channel that it
+//!    asks for.
 //! 3. `answer_lines` splits the others off one by one and numbers them. Of each, `answer_line`
 //!    finds the command or the fault, `answer_command` makes the step on the run and the text of
 //!    its reply, and `write_text` writes it before the next line is looked at.
@@ -229,8 +230,34 @@ fn answer_line<W: Sink>(
     write_text(writer, text.as_bytes())
 }
 
-// Does the lines after the first one in order, up to the first faulty one.
+// Does the lines after the first one in order, on a run on which no step was made, up to the first
+// faulty one.
 fn answer_lines<W: Sink>(
+    alloc: Global,
+    run: &mut Run<u64>,
+    lines: &[u8],
+    writer: &mut W,
+) -> Result<(), ScriptError>
+    requires { length lines.now ≤ SCRIPT_LIMIT }
+    ensures { (kind : Kind) → StandsFor kind [] run.old → IsAnswered
+        (fault_from 2 (lines_of lines.now))
+        (texts_after kind [] (commands_of (lines_of lines.now))) result
+        (W.written writer.old) (W.written writer.new)
+        (W.failures writer.old) (W.failures writer.new) }
+{
+    let mut rest = lines;
+    let mut number: u64 = 1;
+    while !rest.is_empty() {
+        let (line, others) = split_line(rest);
+        number += 1;
+        answer_line(alloc, run, number, line, writer)?;
+        rest = others;
+    }
+    Ok(())
+}
+
+// Makes a channel of this kind, and does the lines after the first one on it.
+fn answer_others<W: Sink>(
     alloc: Global,
     kind: Kind,
     lines: &[u8],
@@ -244,15 +271,7 @@ fn answer_lines<W: Sink>(
         (W.failures writer.old) (W.failures writer.new) }
 {
     let mut run = Run::new(alloc, kind)?;
-    let mut rest = lines;
-    let mut number: u64 = 1;
-    while !rest.is_empty() {
-        let (line, others) = split_line(rest);
-        number += 1;
-        answer_line(alloc, &mut run, number, line, writer)?;
-        rest = others;
-    }
-    Ok(())
+    answer_lines(alloc, &mut run, lines, writer)
 }
 
 // Makes the channel that the first line asks for, and does the other lines in order, up to the
@@ -271,7 +290,7 @@ fn answer<W: Sink>(alloc: Global, input: &[u8], writer: &mut W) -> Result<(), Sc
     }
     let (first, others) = split_line(input);
     match kind_of(alloc, first)? {
-        Ok(kind) => answer_lines(alloc, kind, others, writer),
+        Ok(kind) => answer_others(alloc, kind, others, writer),
         Err(fault) => Err(ScriptError::Fault { line: 1, fault }),
     }
 }

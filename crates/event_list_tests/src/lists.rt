@@ -3,7 +3,9 @@ ghost use Rattle.event_list.specs.Opens.{Opens};
 
 use crate::log::Log;
 use event_list::{Quiet, Steps, Ticket, WaitList};
+use std::alloc::Global;
 use std::marker::Brand;
+use std::process::Abort;
 use std::sync::ledger::{Blank, Ledger};
 use std::test::Fail;
 
@@ -14,38 +16,48 @@ pub fn listen(list: &mut WaitList<u64>, payload: u64) -> Result<Ticket, Fail> {
     )
 }
 
-#[test]
-fn the_waiting_list_by_hand(rt: HostRuntime) -> Result<(), Fail> {
-    let mut list = WaitList::new(rt.alloc());
-    let mut log = Log::<16>::new();
-    let a = listen(&mut list, 10)?;
-    let b = listen(&mut list, 11)?;
-    let c = listen(&mut list, 12)?;
-    assert_eq!(rt; list.tell_one(&mut log), true);
+fn waits_again(rt: &impl Abort, list: &mut WaitList<u64>, log: &mut Log<16>) -> Result<(), Fail> {
+    let first = listen(list, 10)?;
+    let _ = listen(list, 11)?;
+    let _ = listen(list, 12)?;
+    assert_eq!(rt; list.tell_one(log), true);
     assert_eq!(rt; log.stored(), [10].as_slice());
-    assert_eq!(rt; list.again(&a, 20), true);
-    assert_eq!(rt; list.told(), 0);
-    assert_eq!(rt; list.tell_all(&mut log), 3);
+    assert_eq!(rt; (list.again(&first, 20), list.told()), (true, 0));
+    assert_eq!(rt; (list.tell_all(log), list.told()), (3, 3));
     assert_eq!(rt; log.stored(), [10, 11, 12, 20].as_slice());
-    assert_eq!(rt; list.remove(b), Some(true));
-    assert_eq!(rt; list.told(), 2);
-    list.cancel(c, &mut log);
-    assert_eq!(rt; list.len(), 1);
-    assert_eq!(rt; list.told(), 1);
-    assert_eq!(rt; log.stored(), [10, 11, 12, 20].as_slice());
-    let _ = listen(&mut list, 13)?;
-    list.cancel(a, &mut log);
-    assert_eq!(rt; list.len(), 1);
-    assert_eq!(rt; list.told(), 1);
-    assert_eq!(rt; log.stored(), [10, 11, 12, 20, 13].as_slice());
     Ok(())
 }
 
 #[test]
-fn a_ticket_of_another_list(rt: HostRuntime) -> Result<(), Fail> {
-    let mut other = WaitList::new(rt.alloc());
-    let ticket = listen(&mut other, 5)?;
-    let mut list = WaitList::new(rt.alloc());
+fn a_told_entry_waits_again_behind_the_others(rt: HostRuntime) -> Result<(), Fail> {
+    waits_again(&rt, &mut WaitList::new(rt.alloc()), &mut Log::new())
+}
+
+fn taken_out(rt: &impl Abort, list: &mut WaitList<u64>, log: &mut Log<16>) -> Result<(), Fail> {
+    let (a, b) = (listen(list, 10)?, listen(list, 11)?);
+    let c = listen(list, 12)?;
+    assert_eq!(rt; list.tell_all(log), 3);
+    assert_eq!(rt; (list.remove(b), list.told()), (Some(true), 2));
+    list.cancel(c, log);
+    assert_eq!(rt; (list.len(), list.told()), (1, 1));
+    let _ = listen(list, 13)?;
+    list.cancel(a, log);
+    assert_eq!(rt; (list.len(), list.told()), (1, 1));
+    assert_eq!(rt; log.stored(), [10, 11, 12, 13].as_slice());
+    Ok(())
+}
+
+#[test]
+fn a_cancelled_entry_tells_the_next_one(rt: HostRuntime) -> Result<(), Fail> {
+    taken_out(&rt, &mut WaitList::new(rt.alloc()), &mut Log::new())
+}
+
+fn stranger(
+    rt: &impl Abort,
+    list: &mut WaitList<u64>,
+    other: &mut WaitList<u64>,
+) -> Result<(), Fail> {
+    let ticket = listen(other, 5)?;
     assert_eq!(rt; list.again(&ticket, 1), false);
     assert_eq!(rt; list.is_told(&ticket), None);
     assert_eq!(rt; list.remove(ticket), None);
@@ -53,10 +65,14 @@ fn a_ticket_of_another_list(rt: HostRuntime) -> Result<(), Fail> {
 }
 
 #[test]
-fn questions_about_an_entry(rt: HostRuntime) -> Result<(), Fail> {
-    let mut list = WaitList::new(rt.alloc());
-    let a = listen(&mut list, 1)?;
-    let b = listen(&mut list, 2)?;
+fn a_ticket_of_another_list(rt: HostRuntime) -> Result<(), Fail> {
+    let other = &mut WaitList::new(rt.alloc());
+    stranger(&rt, &mut WaitList::new(rt.alloc()), other)
+}
+
+fn questions(rt: &impl Abort, list: &mut WaitList<u64>) -> Result<(), Fail> {
+    let a = listen(list, 1)?;
+    let b = listen(list, 2)?;
     assert_eq!(rt; list.contains(&b), true);
     assert_eq!(rt; list.is_told(&a), Some(false));
     assert_eq!(rt; list.first_told(), None);
@@ -68,41 +84,85 @@ fn questions_about_an_entry(rt: HostRuntime) -> Result<(), Fail> {
 }
 
 #[test]
-fn a_thousand_waiters(rt: HostRuntime) -> Result<(), Fail> {
-    let mut list = WaitList::new(rt.alloc());
-    let mut log = Log::<1024>::new();
-    let mut tickets = Vec::new(rt.alloc());
-    for i in 0..1000 {
-        tickets.push(Some(listen(&mut list, i)?))?;
+fn questions_about_an_entry(rt: HostRuntime) -> Result<(), Fail> {
+    questions(&rt, &mut WaitList::new(rt.alloc()))
+}
+
+/// The tickets of so many entries, whose payloads count from 0.
+fn crowd(alloc: Global, list: &mut WaitList<u64>, count: u64) -> Result<Vec<Option<Ticket>>, Fail> {
+    let mut tickets = Vec::new(alloc);
+    for payload in 0..count {
+        tickets.push(Some(listen(list, payload)?))?;
     }
-    for _ in 0..500 {
-        assert_eq!(rt; list.tell_one(&mut log), true);
+    Ok(tickets)
+}
+
+/// The ticket at a place, which it leaves empty.
+fn taken(tickets: &mut [Option<Ticket>], place: usize) -> Result<Ticket, Fail> {
+    let ticket = tickets.get_mut(place).and_then(|ticket| ticket.take());
+    Ok(ticket.ok_or("no ticket")?)
+}
+
+/// Tells so many, one by one. The answer is whether each time somebody was there.
+fn tells(list: &mut WaitList<u64>, log: &mut Log<1024>, count: usize) -> bool {
+    for _ in 0..count {
+        if !list.tell_one(log) {
+            return false;
+        }
     }
-    assert_eq!(rt; log.stored().len(), 500);
-    for (place, stored) in log.stored().iter().enumerate() {
-        assert_eq!(rt; *stored, place as u64);
-    }
-    assert_eq!(rt; tickets.len(), 1000);
-    let told = tickets[250].take().ok_or("no ticket")?;
-    assert_eq!(rt; list.remove(told), Some(true));
-    let untold = tickets[750].take().ok_or("no ticket")?;
-    assert_eq!(rt; list.remove(untold), Some(false));
-    assert_eq!(rt; list.len(), 998);
-    assert_eq!(rt; list.told(), 499);
-    let first = tickets[0].take().ok_or("no ticket")?;
-    assert_eq!(rt; list.again(&first, 1000), true);
-    assert_eq!(rt; list.told(), 498);
-    assert_eq!(rt; list.tell_all(&mut log), 500);
-    assert_eq!(rt; log.stored().len(), 1000);
-    for (place, stored) in log.stored().iter().enumerate() {
-        let wanted = if place < 750 {
-            place as u64
-        } else {
-            place as u64 + 1
-        };
-        assert_eq!(rt; *stored, wanted);
-    }
+    true
+}
+
+/// Whether the numbers count up from 0, and jump over 750.
+fn count_up(numbers: &[u64]) -> bool {
+    let places = 0..numbers.len() as u64;
+    numbers.iter().zip(places).all(|(number, place)| {
+        *number == if place < 750 { place } else { place + 1 }
+    })
+}
+
+/// Tells the first 500 of a thousand, and takes a told entry and an untold one out.
+fn half_told(
+    rt: &impl Abort,
+    list: &mut WaitList<u64>,
+    log: &mut Log<1024>,
+    tickets: &mut [Option<Ticket>],
+) -> Result<(), Fail> {
+    assert!(rt; tells(list, log, 500));
+    assert!(rt; log.stored().len() == 500 && count_up(log.stored()));
+    assert_eq!(rt; list.remove(taken(tickets, 250)?), Some(true));
+    assert_eq!(rt; list.remove(taken(tickets, 750)?), Some(false));
+    assert_eq!(rt; (list.len(), list.told()), (998, 499));
     Ok(())
+}
+
+/// Lets the first told one wait again, and tells all.
+fn all_told(rt: &impl Abort, list: &mut WaitList<u64>, log: &mut Log<1024>, first: &Ticket) {
+    assert_eq!(rt; (list.again(first, 1000), list.told()), (true, 498));
+    assert_eq!(rt; list.tell_all(log), 500);
+    assert!(rt; log.stored().len() == 1000 && count_up(log.stored()));
+}
+
+fn thousand(
+    rt: &impl Abort,
+    alloc: Global,
+    list: &mut WaitList<u64>,
+    log: &mut Log<1024>,
+) -> Result<(), Fail> {
+    let mut tickets = crowd(alloc, list, 1000)?;
+    half_told(rt, list, log, &mut tickets)?;
+    all_told(rt, list, log, &taken(&mut tickets, 0)?);
+    Ok(())
+}
+
+#[test]
+fn a_thousand_waiters(rt: HostRuntime) -> Result<(), Fail> {
+    thousand(
+        &rt,
+        rt.alloc(),
+        &mut WaitList::new(rt.alloc()),
+        &mut Log::new(),
+    )
 }
 
 // Calls each counted call once. The answer is what they answered, but for the ticket.
@@ -128,13 +188,15 @@ fn call_each<L: Ledger>(
     Ok((was_told, was_there, newly_told, was_told_last))
 }
 
-#[test]
-fn the_counted_calls(rt: HostRuntime) -> Result<(), Fail> {
-    let mut list = WaitList::new(rt.alloc());
-    let mut log = Log::<16>::new();
-    let answers = call_each::<Brand>(&mut list, &mut log, Blank::new(1))?;
+fn counted(rt: &impl Abort, list: &mut WaitList<u64>, log: &mut Log<16>) -> Result<(), Fail> {
+    let answers = call_each::<Brand>(list, log, Blank::new(1))?;
     assert_eq!(rt; answers, (true, true, 2, Some(true)));
     assert_eq!(rt; log.stored(), [10, 11, 12].as_slice());
     assert_eq!(rt; list.len(), 0);
     Ok(())
+}
+
+#[test]
+fn the_counted_calls(rt: HostRuntime) -> Result<(), Fail> {
+    counted(&rt, &mut WaitList::new(rt.alloc()), &mut Log::new())
 }

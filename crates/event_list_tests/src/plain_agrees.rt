@@ -4,6 +4,7 @@ use crate::log::Log;
 use crate::plain::PlainList;
 use event_list::{Ticket, WaitList};
 use std::alloc::Global;
+use std::process::Abort;
 use std::test::Fail;
 
 const CALLS: usize = 10_000;
@@ -71,9 +72,7 @@ impl Pair {
     }
 }
 
-#[test]
-fn the_plain_list_agrees(rt: HostRuntime) -> Result<(), Fail> {
-    let mut pair = Pair::new(rt.alloc());
+fn agrees(rt: &impl Abort, pair: &mut Pair) -> Result<(), Fail> {
     let mut word: u64 = 1;
     for turn in 0..CALLS {
         word = word
@@ -88,4 +87,9 @@ fn the_plain_list_agrees(rt: HostRuntime) -> Result<(), Fail> {
         );
     }
     Ok(())
+}
+
+#[test]
+fn the_plain_list_agrees(rt: HostRuntime) -> Result<(), Fail> {
+    agrees(&rt, &mut Pair::new(rt.alloc()))
 }

@@ -1,4 +1,4 @@
-use Rattle.event_list_tests.proofs.lists.the_counted_calls.Given as goal
+use Rattle.event_list_tests.proofs.lists.counted.Given as goal
 
 -- the ledger of the blank
 abbrev pub ghosts-call_each : goal.ghosts-call_each
