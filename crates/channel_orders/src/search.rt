@@ -6,7 +6,7 @@
 //! earlier step, so each order has a channel of its own, on which the choices are made from the
 //! first on.
 
-ghost use Rattle.std.specs.Prelude.{◌≡◌, ℕ, suc, ◌≤◌, ◌^◌, ◌+◌, List, [], ◌∷◌, ◌++◌, take, max, IfOk, IfErr, OnOk, OnErr, MatchOption};
+ghost use Rattle.std.specs.Prelude.{◌≡◌, ℕ, suc, ◌≤◌, ◌^◌, ◌+◌, List, [], ◌∷◌, ◌++◌, take, max, IfOk, IfErr, OnOk, OnErr, None, Some, MatchOption};
 ghost use Rattle.channel_model.specs.declared.step.Kind.{Kind};
 ghost use Rattle.channel_orders.specs.Lines.{acts_in};
 ghost use Rattle.channel_orders.specs.Orders.{Moment, all_orders, orders_of, turn_of, turns_from};
@@ -146,40 +146,6 @@ fn take_back(choices: &mut Vec<Choice>) -> Option<usize>
     None
 }
 
-// Makes the first order, where no turn has been made.
-fn make_first<O: Opening>(
-    alloc: Global,
-    opening: &O,
-    parties: &[Vec<Act>],
-    choices: &mut Vec<Choice>,
-    turns: &mut Vec<Turn>,
-) -> Result<(), OutOfMemory>
-    ensures { (most : ℕ) → 2 ^ 64 ≤ most → choices.old.items ≡ [] → turns.old.items ≡ []
-        → let tree = tree_of (O.kind opening.now) (O.past opening.now) (acts_in parties.now) most in
-        OnOk result (IsEnd tree turns.new.items choices.new.items
-        (orders_of tree.kind tree.parties most tree.first)) }
-{
-    let mut scene = Scene::begin(alloc, opening, parties)?;
-    complete(&mut scene, parties, choices, turns)
-}
-
-// The first order.
-fn first_order<O: Opening>(
-    alloc: Global,
-    opening: &O,
-    parties: &[Vec<Act>],
-    choices: &mut Vec<Choice>,
-) -> Result<Vec<Turn>, OutOfMemory>
-    ensures { (most : ℕ) → 2 ^ 64 ≤ most → choices.old.items ≡ []
-        → let tree = tree_of (O.kind opening.now) (O.past opening.now) (acts_in parties.now) most in
-        IfOk result (λ order. IsEnd tree order.items choices.new.items
-        (orders_of tree.kind tree.parties most tree.first)) }
-{
-    let mut turns = Vec::new(alloc);
-    make_first(alloc, opening, parties, choices, &mut turns)?;
-    Ok(turns)
-}
-
 // Makes the choices again, gives the turn to this party, and from there each turn to the first
 // party that can go on.
 fn go_on(
@@ -199,23 +165,71 @@ fn go_on(
     complete(scene, parties, choices, turns)
 }
 
-// Makes the order that begins with these choices and then gives the turn to this party, where no
-// turn has been made.
-fn make_next<O: Opening>(
+// Makes an order, where no turn has been made: the first one, or the one that begins with these
+// choices and then gives the turn to this party.
+fn make_order(
+    scene: &mut Scene,
+    parties: &[Vec<Act>],
+    choices: &mut Vec<Choice>,
+    next: Option<usize>,
+    turns: &mut Vec<Turn>,
+) -> Result<(), OutOfMemory>
+    ensures first { (tree : Tree) → IsOf tree (acts_in parties.now) → next ≡ None
+        → choices.old.items ≡ [] → turns.old.items ≡ []
+        → Stands tree.kind tree.first scene.old.run scene.old.places.items
+        → OnOk result (IsEnd tree turns.new.items choices.new.items
+        (orders_of tree.kind tree.parties tree.most tree.first)) }
+    ensures next { (tree : Tree) (party : ℕ) (orders : List (List Turn))
+        → IsOf tree (acts_in parties.now) → next ≡ Some party
+        → IsNext tree party choices.old.items orders → turns.old.items ≡ []
+        → Stands tree.kind tree.first scene.old.run scene.old.places.items
+        → OnOk result (IsEnd tree turns.new.items choices.new.items orders) }
+{
+    match next {
+        None => complete(scene, parties, choices, turns),
+        Some(party) => go_on(scene, parties, choices, party, turns),
+    }
+}
+
+// Opens a channel, and makes an order on it.
+fn open_and_make<O: Opening>(
     alloc: Global,
     opening: &O,
     parties: &[Vec<Act>],
     choices: &mut Vec<Choice>,
-    party: usize,
+    next: Option<usize>,
     turns: &mut Vec<Turn>,
 ) -> Result<(), OutOfMemory>
-    ensures { (most : ℕ) (orders : List (List Turn)) → 2 ^ 64 ≤ most
+    ensures first { (most : ℕ) → 2 ^ 64 ≤ most → next ≡ None → choices.old.items ≡ []
+        → turns.old.items ≡ []
+        → let tree = tree_of (O.kind opening.now) (O.past opening.now) (acts_in parties.now) most in
+        OnOk result (IsEnd tree turns.new.items choices.new.items
+        (orders_of tree.kind tree.parties most tree.first)) }
+    ensures next { (most : ℕ) (party : ℕ) (orders : List (List Turn)) → 2 ^ 64 ≤ most
+        → next ≡ Some party
         → let tree = tree_of (O.kind opening.now) (O.past opening.now) (acts_in parties.now) most in
         IsNext tree party choices.old.items orders → turns.old.items ≡ []
         → OnOk result (IsEnd tree turns.new.items choices.new.items orders) }
 {
     let mut scene = Scene::begin(alloc, opening, parties)?;
-    go_on(&mut scene, parties, choices, party, turns)
+    make_order(&mut scene, parties, choices, next, turns)
+}
+
+// The first order.
+fn first_order<O: Opening>(
+    alloc: Global,
+    opening: &O,
+    parties: &[Vec<Act>],
+    choices: &mut Vec<Choice>,
+) -> Result<Vec<Turn>, OutOfMemory>
+    ensures { (most : ℕ) → 2 ^ 64 ≤ most → choices.old.items ≡ []
+        → let tree = tree_of (O.kind opening.now) (O.past opening.now) (acts_in parties.now) most in
+        IfOk result (λ order. IsEnd tree order.items choices.new.items
+        (orders_of tree.kind tree.parties most tree.first)) }
+{
+    let mut turns = Vec::new(alloc);
+    open_and_make(alloc, opening, parties, choices, None, &mut turns)?;
+    Ok(turns)
 }
 
 // The order that begins with these choices and then gives the turn to this party, and from there
@@ -233,7 +247,7 @@ fn next_order<O: Opening>(
         → IfOk result (λ order. IsEnd tree order.items choices.new.items orders) }
 {
     let mut turns = Vec::new(alloc);
-    make_next(alloc, opening, parties, choices, party, &mut turns)?;
+    open_and_make(alloc, opening, parties, choices, Some(party), &mut turns)?;
     Ok(turns)
 }
 
