@@ -1,7 +1,7 @@
 //! The whole program over its devices.
 
 use crate::outcomes::Outcomes;
-use crate::plan::plan_of;
+use crate::plan::{Plan, plan_of};
 use crate::report::write_report;
 use channel_model::OutOfMemory;
 use channel_orders::party::Turn;
@@ -74,6 +74,25 @@ pub fn orders_allowed(arguments: &[String]) -> Option<u64> {
     }
 }
 
+// Makes each order of a plan up to the limit, and writes what they came to.
+fn explore_plan<W: Sink, P: Watch>(
+    alloc: Global,
+    limit: u64,
+    plan: &Plan,
+    writer: &mut W,
+    watch: &mut P,
+) -> Result<bool, ScriptError> {
+    let mut watched = Watched {
+        outcomes: Outcomes::new(alloc, plan)?,
+        orders: 0,
+        watch,
+    };
+    let searched = search(alloc, plan, plan.parties.as_slice(), limit, &mut watched)?;
+    let list = watched.outcomes.into_list()?;
+    write_report(alloc, plan, searched, list.as_slice(), writer)?;
+    Ok(searched.whole)
+}
+
 /// Reads what is to be explored to its end, makes each order up to the limit, and writes what they
 /// came to. It answers whether there is no other order.
 pub fn explore<R: Source, W: Sink, P: Watch>(
@@ -85,15 +104,7 @@ pub fn explore<R: Source, W: Sink, P: Watch>(
 ) -> Result<bool, ScriptError> {
     let input = read_script(alloc, reader)?;
     let plan = plan_of(alloc, input.as_slice())?;
-    let mut watched = Watched {
-        outcomes: Outcomes::new(alloc, &plan)?,
-        orders: 0,
-        watch,
-    };
-    let searched = search(alloc, &plan, plan.parties.as_slice(), limit, &mut watched)?;
-    let list = watched.outcomes.into_list()?;
-    write_report(alloc, &plan, searched, list.as_slice(), writer)?;
-    Ok(searched.whole)
+    explore_plan(alloc, limit, &plan, writer, watch)
 }
 
 // A sink to which text is written.

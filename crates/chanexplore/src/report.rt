@@ -154,6 +154,19 @@ fn stuck_count(
     Ok(count)
 }
 
+// Writes one outcome: how often it came, and the first order that it came of.
+fn write_outcome<W: Sink>(
+    alloc: Global,
+    plan: &Plan,
+    text: &str,
+    tally: &Tally,
+    writer: &mut W,
+) -> Result<(), ScriptError> {
+    let answers = answers_in(alloc, text)?;
+    let page = outcome_page(alloc, plan, answers.as_slice(), tally)?;
+    write_text(writer, page.text.as_slice())
+}
+
 /// Writes what a search came to.
 pub fn write_report<W: Sink>(
     alloc: Global,
@@ -172,9 +185,7 @@ pub fn write_report<W: Sink>(
     let head = format!(in alloc; "orders {orders}{more}\noutcomes {count}\nstuck {stuck}\n")?;
     write_text(writer, head.as_bytes())?;
     for (text, tally) in outcomes {
-        let answers = answers_in(alloc, text.as_str())?;
-        let page = outcome_page(alloc, plan, answers.as_slice(), tally)?;
-        write_text(writer, page.text.as_slice())?;
+        write_outcome(alloc, plan, text.as_str(), tally, writer)?;
     }
     Ok(())
 }
