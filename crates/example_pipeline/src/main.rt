@@ -6,34 +6,16 @@
 #![tactic(auto)]
 
 use anyhow::Result;
-use async_channel::{OutOfMemory, SendError, StampMaker, bounded};
+use async_channel::{StampMaker, bounded};
 use futures::executor::block_on;
 use futures::future::join;
 use futures::{FutureExt, StreamExt, TryStreamExt, stream};
-use std::alloc::AllocError;
 
 /// The numbers from 1 to this one are sent.
 const LIMIT: u32 = 6;
 
 /// How many messages a channel holds before its sender waits.
 const CAPACITY: usize = 1;
-
-/// What came of a stage's sends.
-type Answers = Result<Vec<Result<Result<(), SendError<u32>>, OutOfMemory>>, AllocError>;
-
-/// What the last stage gathered.
-type Gathered = Result<Vec<Result<u32, OutOfMemory>>, AllocError>;
-
-/// Prints what was gathered, unless a send failed.
-fn print(rt: &impl Print, sent: Answers, squared: Answers, gathered: Gathered) -> Result<()> {
-    for answer in sent?.into_iter().chain(squared?) {
-        answer??;
-    }
-    for square in gathered? {
-        println!(rt; "{}", square?)?;
-    }
-    Ok(())
-}
 
 fn main(rt: HostRuntime) -> Result<()> {
     let mut maker = StampMaker::new();
@@ -58,5 +40,11 @@ fn main(rt: HostRuntime) -> Result<()> {
     let gather = squares.collect(rt.alloc());
 
     let ((sent, squared), gathered) = block_on(&rt, join(join(send, square), gather))?;
-    print(&rt, sent, squared, gathered)
+    for answer in sent?.into_iter().chain(squared?) {
+        answer??;
+    }
+    for square in gathered? {
+        println!(rt; "{}", square?)?;
+    }
+    Ok(())
 }
