@@ -6,10 +6,9 @@ ghost use Rattle.channel_model.specs.Past.{Past};
 ghost use Rattle.channel_run.specs.StandsFor.{StandsFor};
 ghost use Rattle.chanrun.specs.Script.{command_text, finished_line, past_after_command, settled_line, settled_text};
 ghost use Rattle.chanrun.specs.Texts.{notice_text, reply_text};
-ghost use Rattle.channel_model.specs.Answers.{wants_memory};
 ghost use Rattle.chandraw.specs.Pieces.{text_line};
 
-use channel_model::{Notice, Refusal, Reply, Who};
+use channel_model::{Notice, Reply, Who};
 use channel_run::{Run, Settled};
 use chanrun::grammar::Command;
 use chanrun::reply_text::{NoticeText, ReplyText, WhoText};
@@ -70,13 +69,6 @@ fn notice_text(alloc: Global, notice: Notice) -> Result<String, AllocError>
     format!(in alloc; "{notice}")
 }
 
-// Whether memory was refused.
-fn wants_memory(reply: &Reply<u64>) -> bool
-    ensures { result ≡ wants_memory reply.now }
-{
-    matches!(reply, Reply::Refused(Refusal::OutOfMemory, _))
-}
-
 /// Does a command, after any past that stands for the run. The texts are what answers it.
 pub(crate) fn replies_to(
     alloc: Global,
@@ -90,7 +82,7 @@ pub(crate) fn replies_to(
     match command {
         Command::Make(step) => {
             let reply = run.step(step);
-            if wants_memory(&reply) {
+            if reply.wants_memory() {
                 return Err(ScriptError::OutOfMemory);
             }
             let text = reply_text(alloc, reply)?;

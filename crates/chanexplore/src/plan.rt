@@ -14,6 +14,16 @@ use chanrun::script::ScriptError;
 use std::alloc::{AllocError, Global};
 
 /// What the input says.
+///
+/// # Examples
+///
+/// ```
+/// let input = b"bounded 1\nlen s0\nparty first\ntry_send s0 1\nparty second\nlen r0\n";
+/// let plan = plan_of(rt.alloc(), input.as_slice())?;
+/// assert_eq!(rt; plan.kind, Kind::Bounded(1));
+/// assert_eq!(rt; plan.before.len(), 1);
+/// assert_eq!(rt; plan.parties.len(), 2);
+/// ```
 #[derive(Drop)]
 pub struct Plan {
     /// The channel.
@@ -28,6 +38,17 @@ pub struct Plan {
 }
 
 /// The lines of the input.
+///
+/// # Examples
+///
+/// ```
+/// let input = b"bounded 1\nparty first\ntry_send s0 1\n";
+/// let plan = plan_of(rt.alloc(), input.as_slice())?;
+/// let texts: Texts = plan.texts;
+/// assert_eq!(rt; texts.before[0].as_slice(), b"bounded 1".as_slice());
+/// assert_eq!(rt; texts.names[0].as_slice(), b"first".as_slice());
+/// assert_eq!(rt; texts.lines[0][0].as_slice(), b"try_send s0 1".as_slice());
+/// ```
 #[derive(Drop)]
 pub struct Texts {
     /// Those before the parties, the first one among them.
@@ -71,6 +92,15 @@ fn awaited(line: &[u8]) -> Option<Result<Who, Fault>> {
 }
 
 /// What a party's line asks for, or its first fault.
+///
+/// # Examples
+///
+/// ```
+/// let act = act_of(rt.alloc(), b"await o0".as_slice())?;
+/// assert!(rt; matches!(act, Ok(Act::Await(Who::Op(0)))));
+/// let act = act_of(rt.alloc(), b"settle".as_slice())?;
+/// assert!(rt; matches!(act, Err(Fault::UnknownCommand)));
+/// ```
 pub fn act_of(alloc: Global, line: &[u8]) -> Result<Result<Act, Fault>, AllocError> {
     if line.len() > LINE_LIMIT {
         return Ok(Err(Fault::LineTooLong));
@@ -208,6 +238,14 @@ impl Plan {
 }
 
 /// What the input says, or its first fault.
+///
+/// # Examples
+///
+/// ```
+/// let twice = plan_of(rt.alloc(), b"unbounded\nparty one\nparty one\n".as_slice());
+/// let error = ScriptError::Fault { line: 3, fault: Fault::BadName };
+/// assert!(rt; matches!(twice, Err(found) if found == error));
+/// ```
 pub fn plan_of(alloc: Global, input: &[u8]) -> Result<Plan, ScriptError> {
     if input.is_empty() {
         return Err(ScriptError::Fault {

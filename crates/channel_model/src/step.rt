@@ -2,6 +2,9 @@
 //!
 //! One step is one call on the channel's whole state, made while nobody else makes one. So a list
 //! of steps is any way in which the calls of any number of parties follow one another.
+ghost use Rattle.std.specs.Prelude.{◌≡◌};
+ghost use Rattle.channel_model.specs.Answers.{wants_memory};
+
 use crate::errors::{RecvError, SendError, TryRecvError, TrySendError};
 use futures::task::Poll;
 
@@ -221,4 +224,22 @@ pub enum Reply<T> {
     /// The step changed nothing. The message of `TrySend`, `ForceSend` or `StartSend` is here
     /// again.
     Refused(Refusal, Option<T>),
+}
+
+impl<T> Reply<T> {
+    /// Whether memory was refused. Nothing has changed then, and the same step may be made again.
+    ///
+    /// # Examples
+    ///
+    /// ```
+    /// let mut run: Run<u64> = Run::new(rt.alloc(), Kind::Bounded(1))?;
+    /// assert!(rt; !run.step(Step::TrySend(1, 7)).wants_memory());
+    /// let refused: Reply<u64> = Reply::Refused(Refusal::OutOfMemory, Some(7));
+    /// assert!(rt; refused.wants_memory());
+    /// ```
+    pub fn wants_memory(&self) -> bool
+        ensures { result ≡ wants_memory self.now }
+    {
+        matches!(self, Reply::Refused(Refusal::OutOfMemory, _))
+    }
 }

@@ -2,17 +2,39 @@
 ghost use Rattle.std.specs.Prelude.{◌≡◌, ℕ, IfOk};
 ghost use Rattle.channel_model.specs.declared.step.Kind.{Kind};
 ghost use Rattle.channel_model.specs.Past.{Past};
-ghost use Rattle.channel_model.specs.Answers.{answer_of, past_made, wants_memory};
+ghost use Rattle.channel_model.specs.Answers.{answer_of, past_made};
 ghost use Rattle.channel_run.specs.StandsFor.{StandsFor};
 ghost use Rattle.channel_orders.specs.Orders.{poll_of};
 
-use channel_model::{Notice, OutOfMemory, Refusal, Reply, Step, Who};
+use channel_model::{Notice, OutOfMemory, Reply, Step, Who};
 use channel_run::Run;
 use std::alloc::Global;
 
 /// How the channel is made that the parties find.
 ///
 /// Each order is made on a channel of its own, so it is opened again for each.
+///
+/// # Examples
+///
+/// ```
+/// struct Empty;
+///
+/// impl Opening for Empty {
+///     ghost use Rattle.std.specs.Prelude.{[]};
+///     ghost use Rattle.channel_model.specs.declared.step.Kind.TheVariants.{Unbounded};
+///
+///     ghost kind = { λ _. Unbounded };
+///
+///     ghost past = { λ _. [] };
+///
+///     fn open(&self, alloc: Global) -> Result<Run<u64>, OutOfMemory> {
+///         Ok(Run::new(alloc, Kind::Unbounded)?)
+///     }
+/// }
+///
+/// let mut run = Empty.open(rt.alloc())?;
+/// assert_eq!(rt; make(&mut run, Step::Len(Side::Sender(0)))?, Reply::Count(0));
+/// ```
 pub trait Opening {
     /// What kind of channel it is.
     ghost kind: { Self → Kind };
@@ -26,6 +48,20 @@ pub trait Opening {
 }
 
 /// What a line of a party asks for.
+///
+/// # Examples
+///
+/// ```
+/// // The send comes first, or between start and poll, or once the poll was pending.
+/// let sends = vec![in rt.alloc(); Act::Make(Step::TrySend(0, 7))]?;
+/// let start = Step::StartRecv { op: 0, receiver: 0 };
+/// let receives = vec![in rt.alloc(); Act::Make(start), Act::Await(Who::Op(0))]?;
+/// let parties = vec![in rt.alloc(); sends, receives]?;
+/// let mut count = Count { orders: 0 };
+/// let searched = search(rt.alloc(), &Empty, parties.as_slice(), 100, &mut count)?;
+/// assert_eq!(rt; searched.orders, 3);
+/// assert!(rt; searched.whole);
+/// ```
 #[derive(Drop)]
 pub enum Act {
     /// A step.
@@ -37,6 +73,15 @@ pub enum Act {
 }
 
 /// Where a party stands.
+///
+/// # Examples
+///
+/// ```
+/// // The party did one line, and is told once the poll of the next one may be ready.
+/// let place = Place { done: 1, waiting: true };
+/// assert_eq!(rt; place.done, 1);
+/// assert!(rt; place.waiting);
+/// ```
 #[derive(Clone, Copy)]
 pub struct Place {
     /// How many of its lines it has done.
@@ -46,6 +91,15 @@ pub struct Place {
 }
 
 /// What answers a line.
+///
+/// # Examples
+///
+/// ```
+/// let mut run = Empty.open(rt.alloc())?;
+/// let answer = Answer::Replied(make(&mut run, Step::TryRecv(0))?);
+/// let empty = Reply::Received(Err(TryRecvError::Empty));
+/// assert!(rt; matches!(answer, Answer::Replied(reply) if reply == empty));
+/// ```
 #[derive(Drop)]
 pub enum Answer {
     /// The reply to a step or a poll.
@@ -55,6 +109,14 @@ pub enum Answer {
 }
 
 /// One turn in an order: a party did a line.
+///
+/// # Examples
+///
+/// ```
+/// // The first party did its third line, which asked whether somebody was told.
+/// let turn = Turn { party: 0, line: 2, answer: Answer::Noticed(Notice::Told) };
+/// assert!(rt; matches!(turn.answer, Answer::Noticed(Notice::Told)));
+/// ```
 #[derive(Drop)]
 pub struct Turn {
     /// The party's number, from 0.
@@ -66,6 +128,13 @@ pub struct Turn {
 }
 
 /// The poll by which somebody is awaited.
+///
+/// # Examples
+///
+/// ```
+/// assert_eq!(rt; poll_of(Who::Op(3)), Step::Poll(3));
+/// assert_eq!(rt; poll_of(Who::Receiver(1)), Step::PollNext(1));
+/// ```
 pub fn poll_of(who: Who) -> Step<u64>
     ensures { result ≡ poll_of who }
 {
@@ -76,6 +145,13 @@ pub fn poll_of(who: Who) -> Step<u64>
 }
 
 /// The same step again.
+///
+/// # Examples
+///
+/// ```
+/// let step = Step::TrySend(0, 7);
+/// assert_eq!(rt; step_again(&step), step);
+/// ```
 pub fn step_again(step: &Step<u64>) -> Step<u64>
     ensures { result ≡ step.now }
 {
@@ -113,13 +189,6 @@ pub fn step_again(step: &Step<u64>) -> Step<u64>
     }
 }
 
-// Whether memory was refused.
-fn wants_memory(reply: &Reply<u64>) -> bool
-    ensures { result ≡ wants_memory reply.now }
-{
-    matches!(reply, Reply::Refused(Refusal::OutOfMemory, _))
-}
-
 /// Makes a step, unless memory is refused.
 ///
 /// # Examples
@@ -134,7 +203,7 @@ pub fn make(run: &mut Run<u64>, step: Step<u64>) -> Result<Reply<u64>, OutOfMemo
         (reply ≡ answer_of kind past step) × StandsFor kind (past_made kind past step) run.new) }
 {
     let reply = run.step(step);
-    if wants_memory(&reply) {
+    if reply.wants_memory() {
         return Err(OutOfMemory);
     }
     Ok(reply)

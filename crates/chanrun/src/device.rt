@@ -9,6 +9,15 @@ use std::io::{Read, Write};
 use std::marker::Model;
 
 /// A reader in the form of std's. Contracts alone see what it tells of itself.
+///
+/// # Examples
+///
+/// ```
+/// let mut reader = FromStd::new(b"len s0\n".as_slice());
+/// let mut buffer = [0u8; 4];
+/// assert!(rt; matches!(Source::read(&mut reader, &mut buffer), Ok(4)));
+/// assert_eq!(rt; buffer.as_slice(), b"len ".as_slice());
+/// ```
 pub trait Source {
     /// The bytes that are left, where they are known.
     ghost left: { Self → Option (List ℕ) };
@@ -30,6 +39,15 @@ pub trait Source {
 }
 
 /// A writer in the form of std's. Contracts alone see what it tells of itself.
+///
+/// # Examples
+///
+/// ```
+/// let mut writer = FromStd::new(Vec::new(rt.alloc()));
+/// assert!(rt; matches!(Sink::write(&mut writer, b"ok\n".as_slice()), Ok(3)));
+/// let written: Vec<u8> = writer.into_inner();
+/// assert_eq!(rt; written.as_slice(), b"ok\n".as_slice());
+/// ```
 pub trait Sink {
     /// The bytes that were written, where they are known.
     ghost written: { Self → Option (List ℕ) };
@@ -50,6 +68,17 @@ pub trait Sink {
 /// A reader or a writer of std, with what contracts say of its calls.
 ///
 /// Contracts see the device, how many calls failed, and whether a read met the end.
+///
+/// # Examples
+///
+/// ```
+/// let mut reader = FromStd::new(b"unbounded\n".as_slice());
+/// let script = read_script(rt.alloc(), &mut reader)?;
+/// assert_eq!(rt; script.as_slice(), b"unbounded\n".as_slice());
+///
+/// // What is left to read is nothing.
+/// assert!(rt; reader.into_inner().is_empty());
+/// ```
 #[derive(Drop)]
 pub struct FromStd<D> {
     device: D,

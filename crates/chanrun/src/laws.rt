@@ -15,6 +15,20 @@ use channel_model::laws;
 
 /// Behind every list of a script's commands stands a past that can come about, and the polls by
 /// which a script settles the channel there are a complete settling.
+///
+/// # Examples
+///
+/// ```
+/// let script = b"unbounded\nrecv o0 r0\npoll o0\ntry_send s0 7\nsettle\nsettle\n";
+/// let mut reader = FromStd::new(script.as_slice());
+/// let mut writer = FromStd::new(Vec::new(rt.alloc()));
+/// assert_eq!(rt; run_script(rt.alloc(), &mut reader, &mut writer), Ok(()));
+///
+/// // The receive was told, and is polled once. Then nobody is told.
+/// let replies = b"done\npending\nok\nsettled 1 1\no0 ok 7\nsettled 0 0\n";
+/// let written: Vec<u8> = writer.into_inner();
+/// assert_eq!(rt; written.as_slice(), replies.as_slice());
+/// ```
 pub fn scripts_settle()
     ensures legal { (kind : Kind) (commands : List Command) → HasPositiveCapacity kind
         → IsLegal kind (past_after_all kind [] commands) }

@@ -44,6 +44,20 @@ fn status_of(error: &ScriptError) -> u8
 /// for a faulty line or for arguments, 1 otherwise. A line that says why it isn't 0 goes to
 /// `errors`; a failure there changes nothing. There are no arguments where they couldn't be read
 /// for want of memory.
+///
+/// # Examples
+///
+/// ```
+/// let mut reader = FromStd::new(b"unbounded\nlen s0\nlen t0\n".as_slice());
+/// let mut writer = FromStd::new(Vec::new(rt.alloc()));
+/// let mut errors = FromStd::new(Vec::new(rt.alloc()));
+/// let status = program(rt.alloc(), Some(0), &mut reader, &mut writer, &mut errors);
+/// assert_eq!(rt; status, 2);
+/// let written: Vec<u8> = writer.into_inner();
+/// assert_eq!(rt; written.as_slice(), b"0\n".as_slice());
+/// let said: Vec<u8> = errors.into_inner();
+/// assert_eq!(rt; said.as_slice(), b"line 3: bad name\n".as_slice());
+/// ```
 pub fn program<R: Source, W: Sink, E: Sink>(
     alloc: Global,
     arguments: Option<usize>,

@@ -4,14 +4,38 @@ use futures::task::Poll;
 use std::fmt;
 
 /// A reply to a step, as a script writes it.
+///
+/// # Examples
+///
+/// ```
+/// let text = format!(in rt.alloc(); "{}", ReplyText(Reply::Received(Ok(7))))?;
+/// assert_eq!(rt; text.as_str(), "ok 7");
+/// let refused = Reply::Refused(Refusal::Unknown, Some(7));
+/// let text = format!(in rt.alloc(); "{}", ReplyText(refused))?;
+/// assert_eq!(rt; text.as_str(), "refused: unknown");
+/// ```
 #[derive(Debug, Drop, PartialEq, Eq)]
 pub struct ReplyText(pub Reply<u64>);
 
 /// Whether somebody waits and was told, as a script writes it.
+///
+/// # Examples
+///
+/// ```
+/// let text = format!(in rt.alloc(); "{}", NoticeText(Notice::Untold))?;
+/// assert_eq!(rt; text.as_str(), "untold");
+/// ```
 #[derive(Clone, Copy, Debug, PartialEq, Eq)]
 pub struct NoticeText(pub Notice);
 
 /// Who was polled, as a script writes it.
+///
+/// # Examples
+///
+/// ```
+/// let text = format!(in rt.alloc(); "{}", WhoText(Who::Op(3)))?;
+/// assert_eq!(rt; text.as_str(), "o3");
+/// ```
 #[derive(Clone, Copy, Debug, PartialEq, Eq)]
 pub struct WhoText(pub Who);
 

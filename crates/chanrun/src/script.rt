@@ -23,7 +23,6 @@ ghost use Rattle.chanrun.specs.Device.{one_more, AppendsFront};
 ghost use Rattle.chanrun.specs.Grammar.{lines_of, command_of};
 ghost use Rattle.chanrun.specs.Script.{as_line, command_text, past_after_command, settled_line, finished_line, settled_text, fault_from, texts_after, commands_of, script_text, script_fault};
 ghost use Rattle.chanrun.specs.Texts.{reply_text};
-ghost use Rattle.channel_model.specs.Answers.{wants_memory};
 ghost use Rattle.chanrun.specs.Outcome.{HasRead, IsDone, IsBegun, ending};
 ghost use Rattle.chanrun.specs.Stages.{IsUnread, IsAnswered};
 ghost use Rattle.chanrun.specs.declared.grammar.command.Command.{Command};
@@ -32,19 +31,40 @@ ghost use Rattle.chanrun.specs.declared.script.ScriptError.TheVariants.{OutOfMem
 use crate::device::{Sink, Source};
 use crate::grammar::{Command, Fault, command_of, kind_of, split_line};
 use crate::reply_text::{NoticeText, ReplyText, WhoText};
-use channel_model::{Kind, OutOfMemory, Refusal, Reply, Who};
+use channel_model::{Kind, OutOfMemory, Reply, Who};
 use channel_run::{Run, Settled};
 use std::alloc::{AllocError, Global};
 use std::error::Error;
 use std::fmt;
 
 /// How many bytes a script may have.
+///
+/// # Examples
+///
+/// ```
+/// let long = vec![in rt.alloc(); b'x'; SCRIPT_LIMIT + 1]?;
+/// let mut reader = FromStd::new(long.as_slice());
+/// assert!(rt; matches!(read_script(rt.alloc(), &mut reader), Err(ScriptError::TooLong)));
+/// ```
 pub const SCRIPT_LIMIT: usize = 1_048_576;
 
 // how many bytes are read at once
 const BLOCK: usize = 4096;
 
 /// Why a script came to no end.
+///
+/// # Examples
+///
+/// ```
+/// let mut reader = FromStd::new(b"unbounded\nlen s0\npush s0 1\n".as_slice());
+/// let mut writer = FromStd::new(Vec::new(rt.alloc()));
+/// let ended = run_script(rt.alloc(), &mut reader, &mut writer);
+/// let error = ScriptError::Fault { line: 3, fault: Fault::UnknownCommand };
+/// assert_eq!(rt; ended, Err(error));
+///
+/// let text = format!(in rt.alloc(); "{error}")?;
+/// assert_eq!(rt; text.as_str(), "line 3: unknown command");
+/// ```
 #[derive(Clone, Copy, Debug, PartialEq, Eq)]
 pub enum ScriptError {
     /// A line is faulty. The replies to all lines before it were written.
@@ -95,6 +115,14 @@ impl fmt::Display for ScriptError {
 impl Error for ScriptError {}
 
 /// Reads to the end, unless a read fails or the bytes are too many.
+///
+/// # Examples
+///
+/// ```
+/// let mut reader = FromStd::new(b"unbounded\nlen s0".as_slice());
+/// let script = read_script(rt.alloc(), &mut reader)?;
+/// assert_eq!(rt; script.as_slice(), b"unbounded\nlen s0".as_slice());
+/// ```
 pub fn read_script<R: Source>(alloc: Global, reader: &mut R) -> Result<Vec<u8>, ScriptError>
     ensures ok { IfOk result (λ input. HasRead (R.left reader.old) (R.left reader.new)
         (R.ended reader.new) input.items × (R.failures reader.new ≡ R.failures reader.old)) }
@@ -117,6 +145,15 @@ pub fn read_script<R: Source>(alloc: Global, reader: &mut R) -> Result<Vec<u8>, 
 }
 
 /// Writes all of a text, unless a write fails.
+///
+/// # Examples
+///
+/// ```
+/// let mut writer = FromStd::new(Vec::new(rt.alloc()));
+/// assert_eq!(rt; write_text(&mut writer, b"full 2\n".as_slice()), Ok(()));
+/// let written: Vec<u8> = writer.into_inner();
+/// assert_eq!(rt; written.as_slice(), b"full 2\n".as_slice());
+/// ```
 pub fn write_text<W: Sink>(writer: &mut W, text: &[u8]) -> Result<(), ScriptError>
     ensures ok { OnOk result (Appends (W.written writer.old) (W.written writer.new) text.now
         × (W.failures writer.new ≡ W.failures writer.old)) }
@@ -163,13 +200,6 @@ fn settled_text(alloc: Global, settled: Settled<u64>) -> Result<String, AllocErr
     Ok(text)
 }
 
-// Whether memory was refused.
-fn wants_memory(reply: &Reply<u64>) -> bool
-    ensures { result ≡ wants_memory reply.now }
-{
-    matches!(reply, Reply::Refused(Refusal::OutOfMemory, _))
-}
-
 // Does a command, after any past that stands for the run. The text is what answers it.
 fn answer_command(
     alloc: Global,
@@ -184,7 +214,7 @@ fn answer_command(
     match command {
         Command::Make(step) => {
             let reply = run.step(step);
-            if wants_memory(&reply) {
+            if reply.wants_memory() {
                 return Err(ScriptError::OutOfMemory);
             }
             Ok(format!(in alloc; "{}\n", ReplyText(reply))?)
@@ -297,6 +327,17 @@ fn answer<W: Sink>(alloc: Global, input: &[u8], writer: &mut W) -> Result<(), Sc
 
 /// Reads a script to its end, and does its lines in order up to the first faulty one. Each reply is
 /// written as it comes.
+///
+/// # Examples
+///
+/// ```
+/// let script = b"bounded 1\ntry_send s0 1\ntry_send s0 2\n";
+/// let mut reader = FromStd::new(script.as_slice());
+/// let mut writer = FromStd::new(Vec::new(rt.alloc()));
+/// assert_eq!(rt; run_script(rt.alloc(), &mut reader, &mut writer), Ok(()));
+/// let written: Vec<u8> = writer.into_inner();
+/// assert_eq!(rt; written.as_slice(), b"ok\nfull 2\n".as_slice());
+/// ```
 pub fn run_script<R: Source, W: Sink>(
     alloc: Global,
     reader: &mut R,

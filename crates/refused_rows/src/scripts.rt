@@ -305,10 +305,6 @@ fn step_of(command: Command) -> Result<Step<u64>, Wrong> {
     }
 }
 
-fn wants_memory(reply: &Reply<u64>) -> bool {
-    matches!(reply, Reply::Refused(Refusal::OutOfMemory, _))
-}
-
 /// The replies alone.
 fn replies_of(end: End<u64>) -> Vec<Reply<u64>> {
     end.replies
@@ -316,7 +312,7 @@ fn replies_of(end: End<u64>) -> Vec<Reply<u64>> {
 
 /// The same replies, if none of them is a want of memory.
 fn unrefused(replies: Vec<Reply<u64>>) -> Option<Vec<Reply<u64>>> {
-    if replies.iter().any(wants_memory) {
+    if replies.iter().any(|reply| reply.wants_memory()) {
         None
     } else {
         Some(replies)

@@ -11,6 +11,16 @@ use super::word::Word;
 use channel_model::{Step, Who};
 
 /// What a line asks for.
+///
+/// # Examples
+///
+/// ```
+/// let command = command_of(rt.alloc(), b"try_send s0 7".as_slice())?;
+/// assert_eq!(rt; command, Ok(Command::Make(Step::TrySend(0, 7))));
+/// let command = command_of(rt.alloc(), b"notice r0".as_slice())?;
+/// assert_eq!(rt; command, Ok(Command::Notice(Who::Receiver(0))));
+/// assert_eq!(rt; command_of(rt.alloc(), b"settle".as_slice())?, Ok(Command::Settle));
+/// ```
 #[derive(Debug, Drop, PartialEq, Eq)]
 pub enum Command {
     /// A step by some party.

@@ -3,6 +3,15 @@ use std::error::Error;
 use std::fmt;
 
 /// What is wrong with a line. Where several apply, the first of them is named.
+///
+/// # Examples
+///
+/// ```
+/// let command = command_of(rt.alloc(), b"try_send r0 7".as_slice())?;
+/// assert_eq!(rt; command, Err(Fault::BadName));
+/// let text = format!(in rt.alloc(); "{}", Fault::BadName)?;
+/// assert_eq!(rt; text.as_str(), "bad name");
+/// ```
 #[derive(Clone, Copy, Debug, PartialEq, Eq)]
 pub enum Fault {
     /// More than 256 bytes stand before the line's end.

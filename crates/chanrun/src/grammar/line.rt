@@ -13,6 +13,13 @@ use channel_model::Kind;
 use std::alloc::{AllocError, Global};
 
 /// How many bytes a line may have, without its end.
+///
+/// # Examples
+///
+/// ```
+/// let line = [b'x'; LINE_LIMIT + 1];
+/// assert_eq!(rt; command_of(rt.alloc(), line.as_slice())?, Err(Fault::LineTooLong));
+/// ```
 pub const LINE_LIMIT: usize = 256;
 
 // The parts of a line between single spaces.
@@ -38,9 +45,16 @@ fn line_end(bytes: &[u8]) -> Option<usize>
 
 /// The first line without its end, and what stands behind it.
 ///
-/// ```text
-/// split_line(b"len s0\nlen r0")     (b"len s0", b"len r0")
-/// split_line(b"len r0")             (b"len r0", b"")
+/// # Examples
+///
+/// ```
+/// let (line, others) = split_line(b"len s0\nlen r0".as_slice());
+/// assert_eq!(rt; line, b"len s0".as_slice());
+/// assert_eq!(rt; others, b"len r0".as_slice());
+///
+/// let (line, others) = split_line(others);
+/// assert_eq!(rt; line, b"len r0".as_slice());
+/// assert!(rt; others.is_empty());
 /// ```
 pub fn split_line(bytes: &[u8]) -> (&[u8], &[u8])
     requires { 0 < length bytes.now }
@@ -54,6 +68,15 @@ pub fn split_line(bytes: &[u8]) -> (&[u8], &[u8])
 }
 
 /// What a line behind the first one asks for, or its first fault.
+///
+/// # Examples
+///
+/// ```
+/// let command = command_of(rt.alloc(), b"len s0".as_slice())?;
+/// assert_eq!(rt; command, Ok(Command::Make(Step::Len(Side::Sender(0)))));
+/// let command = command_of(rt.alloc(), b"len  s0".as_slice())?;
+/// assert_eq!(rt; command, Err(Fault::WrongWordCount));
+/// ```
 pub fn command_of(alloc: Global, line: &[u8]) -> Result<Result<Command, Fault>, AllocError>
     ensures { IfOk result (λ said. said ≡ command_of line.now) }
 {
@@ -104,6 +127,15 @@ fn kind_with(kind: &[u8], words: &[Word]) -> Result<Kind, Fault>
 }
 
 /// The channel that the first line asks for, or its first fault.
+///
+/// # Examples
+///
+/// ```
+/// assert_eq!(rt; kind_of(rt.alloc(), b"unbounded".as_slice())?, Ok(Kind::Unbounded));
+/// assert_eq!(rt; kind_of(rt.alloc(), b"bounded 5".as_slice())?, Ok(Kind::Bounded(5)));
+/// assert_eq!(rt; kind_of(rt.alloc(), b"bounded 0".as_slice())?, Err(Fault::CapacityZero));
+/// assert_eq!(rt; kind_of(rt.alloc(), b"len s0".as_slice())?, Err(Fault::ChannelMissing));
+/// ```
 pub fn kind_of(alloc: Global, line: &[u8]) -> Result<Result<Kind, Fault>, AllocError>
     ensures said { IfOk result (λ said. said ≡ kind_of line.now) }
     ensures positive { IfOk result (λ said. IfOk said HasPositiveCapacity) }

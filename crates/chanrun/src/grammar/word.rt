@@ -11,6 +11,16 @@ use super::fault::Fault;
 use channel_model::{Kind, Side, Who};
 
 /// The greatest capacity that a script may ask for.
+///
+/// # Examples
+///
+/// ```
+/// assert_eq!(rt; CAPACITY_LIMIT, 1_000_000);
+/// let kind = kind_of(rt.alloc(), b"bounded 1000000".as_slice())?;
+/// assert_eq!(rt; kind, Ok(Kind::Bounded(1_000_000)));
+/// let kind = kind_of(rt.alloc(), b"bounded 1000001".as_slice())?;
+/// assert_eq!(rt; kind, Err(Fault::CapacityTooLarge));
+/// ```
 pub const CAPACITY_LIMIT: u64 = 1_000_000;
 
 /// A word behind a command. A name is a number behind the letters of its kind.
@@ -91,10 +101,12 @@ pub(super) fn word_of(word: &[u8]) -> Word
 
 /// The operation, or the receiver of a stream, that a word names.
 ///
-/// ```text
-/// o3    the operation 3
-/// r1    the stream of the receiver 1
-/// s0    a bad name
+/// # Examples
+///
+/// ```
+/// assert_eq!(rt; who_of(b"o3".as_slice()), Ok(Who::Op(3)));
+/// assert_eq!(rt; who_of(b"r1".as_slice()), Ok(Who::Receiver(1)));
+/// assert_eq!(rt; who_of(b"s0".as_slice()), Err(Fault::BadName));
 /// ```
 pub fn who_of(word: &[u8]) -> Result<Who, Fault>
     ensures { result ≡ who_in (word_of word.now) }

@@ -224,3 +224,20 @@ pub enum Reply<T> {
     /// again.
     Refused(Refusal, Option<T>),
 }
+
+impl<T> Reply<T> {
+    /// Whether memory was refused. Nothing has changed then, and the same step may be made again.
+    ///
+    /// # Examples
+    ///
+    /// ```text
+    /// let mut run: Run<u64> = Run::new(rt.alloc(), Kind::Bounded(1))?;
+    /// assert!(rt; !run.step(Step::TrySend(1, 7)).wants_memory());
+    /// let refused: Reply<u64> = Reply::Refused(Refusal::OutOfMemory, Some(7));
+    /// assert!(rt; refused.wants_memory());
+    /// ```
+    #[inline]
+    pub fn wants_memory(&self) -> bool {
+        matches!(self, Reply::Refused(Refusal::OutOfMemory, _))
+    }
+}
