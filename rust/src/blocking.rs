@@ -1,15 +1,15 @@
 //! A thread that waits for a future, by a waker of its own.
 
+use crate::primitives::{current, park, turns, AtomicBool, Thread};
 use std::cell::Cell;
 use std::future::Future;
 use std::pin::Pin;
-use std::sync::atomic::{AtomicBool, Ordering};
+use std::sync::atomic::Ordering;
 use std::sync::Arc;
 use std::task::{Context, Poll, Wake, Waker};
-use std::thread::{self, Thread};
 
 /// How often a thread looks again before it sleeps.
-const LOOKS: u32 = 40;
+const LOOKS: u32 = turns(40);
 
 /// What wakes a thread: a word that says so, and the thread to be unparked.
 struct Parker {
@@ -31,7 +31,7 @@ impl Wake for Parker {
 
 impl Parker {
     fn new() -> Arc<Self> {
-        Arc::new(Parker { thread: thread::current(), woken: AtomicBool::new(false) })
+        Arc::new(Parker { thread: current(), woken: AtomicBool::new(false) })
     }
 
     /// Waits until somebody wakes this thread.
@@ -43,7 +43,7 @@ impl Parker {
             std::hint::spin_loop();
         }
         while !self.woken.swap(false, Ordering::Acquire) {
-            thread::park();
+            park();
         }
     }
 }

@@ -4,28 +4,38 @@
 //! yet is the call at once, `try_send` or `try_recv`, and waits where that finds no room or no
 //! message.
 //!
+//! What can be seen of the core without the lock, how many messages there are and whether it is
+//! closed, stands in one word, which is written under the lock after each step. The questions read it,
+//! and so does a thread that would have to wait.
+//!
 //! The numbers of handles are kept beside the lock, so that a copy needs none: to the core there
 //! is one sender as long as there is any, and one receiver likewise. The core is told when the last
-//! one goes, and decides what that means.
+//! one goes, and decides what that means. It is asked for each upgrade, too.
 
 use crate::lock::Lock;
-use crate::marks::{catch, Mark, Told};
-use crate::proved::channel_core::{Core as ProvedCore, HANDLE_LIMIT};
+use crate::marks::{Mark, Marks, Told};
+use crate::primitives::{abort, turns, yield_now, AtomicUsize};
+use crate::proved::channel_core::{Core as ProvedCore, Group, Upgrade, HANDLE_LIMIT};
 use crate::proved::event_list::Ticket;
 use crate::shim::Global;
 use crate::{RecvError, SendError, TryRecvError, TrySendError};
-use std::process::abort;
-use std::sync::atomic::{AtomicUsize, Ordering};
+use std::num::NonZeroUsize;
+use std::sync::atomic::Ordering;
 use std::task::{Context, Poll};
 
 type Core<T> = ProvedCore<T, Mark>;
+
+/// How often a thread looks before it waits, with others running in between.
+const LOOKS: u32 = turns(10);
 
 /// What the handles of a channel share.
 pub(crate) struct Channel<T> {
     /// The proved state.
     core: Lock<Core<T>>,
     /// The most messages that it may hold, which never changes.
-    capacity: Option<usize>,
+    capacity: Option<NonZeroUsize>,
+    /// Twice the number of messages, and one more where the channel is closed.
+    seen: AtomicUsize,
     /// How many senders there are.
     senders: AtomicUsize,
     /// How many receivers there are.
@@ -41,7 +51,8 @@ impl<T> Channel<T> {
         };
         Channel {
             core: Lock::new(core),
-            capacity,
+            capacity: capacity.and_then(NonZeroUsize::new),
+            seen: AtomicUsize::new(0),
             senders: AtomicUsize::new(1),
             receivers: AtomicUsize::new(1),
         }
@@ -51,48 +62,58 @@ impl<T> Channel<T> {
     #[inline]
     fn step<A>(&self, step: impl FnOnce(&mut Core<T>, &mut Told) -> A) -> A {
         let mut told = Told::default();
-        let answer = step(&mut self.core.lock(), &mut told);
+        let answer = {
+            let mut core = self.core.lock();
+            let answer = step(&mut core, &mut told);
+            let seen = 2 * core.len() + usize::from(core.is_closed());
+            if seen != self.seen.load(Ordering::Relaxed) {
+                self.seen.store(seen, Ordering::Release);
+            }
+            answer
+        };
         told.wake();
-        answer
-    }
-
-    /// Makes a step by the owner of a ticket, whose entry may leave its list untold.
-    #[inline]
-    fn step_of<A>(
-        &self,
-        ticket: &mut Option<Ticket>,
-        step: impl FnOnce(&mut Core<T>, &mut Option<Ticket>, &mut Told) -> A,
-    ) -> A {
-        if ticket.is_none() {
-            return self.step(|core, told| step(core, ticket, told));
-        }
-        let (answer, _left) = self.step(|core, told| catch(|| step(core, ticket, told)));
         answer
     }
 
     /// Makes a poll by the owner of a ticket.
     ///
-    /// One that is ready needs no waker. Where it `waits`, the caller's is copied without the
-    /// lock, and the poll is made anew. One that `was_tried` waits most likely, so the waker is
-    /// copied at once. A copy that isn't needed after all is left here.
+    /// One that is ready needs no waker. A first one was tried before, but for a closed operation's,
+    /// and waits most likely: so the waker is copied at once, and dropped here if it isn't needed
+    /// after all. Any other looks without one. If it can't go on, it keeps the waker that waits for
+    /// it if that wakes the same task. Else the caller's is copied without the lock, and the poll is
+    /// made again.
     #[inline]
     fn poll<A>(
         &self,
+        group: Group,
         ticket: &mut Option<Ticket>,
         context: &Context<'_>,
-        was_tried: bool,
-        waits: impl Fn(&Core<T>) -> bool,
-        mut poll: impl FnMut(&mut Core<T>, &mut Option<Ticket>, Mark, &mut Told) -> A,
-    ) -> A {
-        let mut waker = was_tried.then(|| context.waker().clone());
+        mut poll: impl FnMut(&mut Core<T>, &mut Option<Ticket>, &mut Marks, &mut Told) -> Poll<A>,
+    ) -> Poll<A> {
+        let was_tried = ticket.is_none() && group != Group::Closeds;
+        let mut marks = Marks { own: was_tried.then(|| Mark::of(context)), back: None };
         loop {
-            let answer = self.step_of(ticket, |core, ticket, told| {
-                let mark = if waits(core) { Mark(Some(waker.take()?)) } else { Mark(None) };
-                Some(poll(core, ticket, mark, told))
+            let answer = self.step(|core, told| {
+                let only_looks = marks.own.is_none();
+                let answer = poll(core, ticket, &mut marks, told);
+                if answer.is_ready() || !only_looks {
+                    return Some(answer);
+                }
+                if core.is_told(group, ticket.as_ref()?) != Some(false) {
+                    return None;
+                }
+                // The entry is without its waker for a moment, in which nobody can tell it.
+                marks.own = Some(Mark::default());
+                let _pending = poll(core, ticket, &mut marks, told);
+                let left = marks.back.take();
+                let is_same = left.as_ref().map_or(false, |left| left.will_wake(context));
+                marks.own = left;
+                let answer = poll(core, ticket, &mut marks, told);
+                is_same.then_some(answer)
             });
             match answer {
                 Some(answer) => return answer,
-                None => waker = Some(context.waker().clone()),
+                None => marks.own = Some(Mark::of(context)),
             }
         }
     }
@@ -122,17 +143,16 @@ impl<T> Channel<T> {
         ticket: &mut Option<Ticket>,
         context: &Context<'_>,
     ) -> Poll<Result<(), SendError<T>>> {
-        let is_new = ticket.is_none();
-        if let Some(sent) = is_new.then(|| message.take()).flatten() {
+        if let Some(sent) = ticket.is_none().then(|| message.take()).flatten() {
             match self.try_send(sent) {
                 Ok(()) => return Poll::Ready(Ok(())),
                 Err(TrySendError::Closed(sent)) => return Poll::Ready(Err(SendError(sent))),
                 Err(TrySendError::Full(sent)) => *message = Some(sent),
             }
         }
-        let waits = |core: &Core<T>| core.is_full() && !core.is_closed();
-        self.poll(ticket, context, is_new, waits, |core, ticket, mark, told| {
-            with_memory(core.poll_send(message, ticket, mark, told))
+        self.poll(Group::Sends, ticket, context, |core, ticket, marks, told| {
+            let Marks { own, back } = marks;
+            with_memory(core.poll_send_with(message, ticket, own, told, back))
         })
     }
 
@@ -142,17 +162,16 @@ impl<T> Channel<T> {
         ticket: &mut Option<Ticket>,
         context: &Context<'_>,
     ) -> Poll<Result<T, RecvError>> {
-        let is_new = ticket.is_none();
-        if is_new {
+        if ticket.is_none() {
             match self.try_recv() {
                 Ok(message) => return Poll::Ready(Ok(message)),
                 Err(TryRecvError::Closed) => return Poll::Ready(Err(RecvError)),
                 Err(TryRecvError::Empty) => {}
             }
         }
-        let waits = |core: &Core<T>| core.is_empty() && !core.is_closed();
-        self.poll(ticket, context, is_new, waits, |core, ticket, mark, told| {
-            with_memory(core.poll_recv(ticket, mark, told))
+        self.poll(Group::Receives, ticket, context, |core, ticket, marks, told| {
+            let Marks { own, back } = marks;
+            with_memory(core.poll_recv_with(ticket, own, told, back))
         })
     }
 
@@ -162,17 +181,16 @@ impl<T> Channel<T> {
         ticket: &mut Option<Ticket>,
         context: &Context<'_>,
     ) -> Poll<Option<T>> {
-        let is_new = ticket.is_none();
-        if is_new {
+        if ticket.is_none() {
             match self.try_recv() {
                 Ok(message) => return Poll::Ready(Some(message)),
                 Err(TryRecvError::Closed) => return Poll::Ready(None),
                 Err(TryRecvError::Empty) => {}
             }
         }
-        let waits = |core: &Core<T>| core.is_empty() && !core.is_closed();
-        self.poll(ticket, context, is_new, waits, |core, ticket, mark, told| {
-            with_memory(core.poll_next(ticket, mark, told))
+        self.poll(Group::Streams, ticket, context, |core, ticket, marks, told| {
+            let Marks { own, back } = marks;
+            with_memory(core.poll_next_with(ticket, own, told, back))
         })
     }
 
@@ -181,67 +199,75 @@ impl<T> Channel<T> {
         ticket: &mut Option<Ticket>,
         context: &Context<'_>,
     ) -> Poll<()> {
-        let waits = |core: &Core<T>| core.receiver_count() > 0;
-        self.poll(ticket, context, false, waits, |core, ticket, mark, _told| {
-            with_memory(core.poll_closed(ticket, mark))
+        self.poll(Group::Closeds, ticket, context, |core, ticket, marks, _told| {
+            let Marks { own, back } = marks;
+            with_memory(core.poll_closed_with(ticket, own, back))
         })
     }
 
+    /// Gives the wait of an operation up, if it waits.
     #[inline]
-    pub(crate) fn cancel_send(&self, ticket: &mut Option<Ticket>) {
-        if ticket.is_some() {
-            self.step_of(ticket, |core, ticket, told| core.cancel_send(ticket, told));
+    pub(crate) fn cancel(&self, group: Group, ticket: &mut Option<Ticket>) {
+        if ticket.is_none() {
+            return;
         }
-    }
-
-    #[inline]
-    pub(crate) fn cancel_recv(&self, ticket: &mut Option<Ticket>) {
-        if ticket.is_some() {
-            self.step_of(ticket, |core, ticket, told| core.cancel_recv(ticket, told));
-        }
-    }
-
-    #[inline]
-    pub(crate) fn cancel_closed(&self, ticket: &mut Option<Ticket>) {
-        if ticket.is_some() {
-            self.step_of(ticket, |core, ticket, _told| core.cancel_closed(ticket));
-        }
+        let _left = self.step(|core, told| match group {
+            Group::Sends => core.withdraw_send(ticket, told),
+            Group::Receives => core.withdraw_recv(ticket, told),
+            Group::Streams => core.withdraw_stream(ticket),
+            Group::Closeds => core.withdraw_closed(ticket),
+        });
     }
 
     #[inline]
     pub(crate) fn is_closed(&self) -> bool {
-        self.core.lock().is_closed()
+        self.seen() % 2 == 1
     }
 
     #[inline]
     pub(crate) fn is_empty(&self) -> bool {
-        self.core.lock().is_empty()
+        self.len() == 0
     }
 
     #[inline]
     pub(crate) fn is_full(&self) -> bool {
-        self.core.lock().is_full()
+        self.capacity() == Some(self.len())
     }
 
     pub(crate) fn is_terminated(&self) -> bool {
-        self.core.lock().is_terminated()
+        self.seen() == 1
     }
 
     #[inline]
     pub(crate) fn len(&self) -> usize {
-        self.core.lock().len()
+        self.seen() / 2
+    }
+
+    #[inline]
+    fn seen(&self) -> usize {
+        self.seen.load(Ordering::SeqCst)
+    }
+
+    /// Lets others run for a while, at most until a send can be made.
+    pub(crate) fn await_room(&self) {
+        await_turn(|| !self.is_full() || self.is_closed());
+    }
+
+    /// Lets others run for a while, at most until a receive can be made.
+    pub(crate) fn await_message(&self) {
+        await_turn(|| self.seen() != 0);
     }
 
     #[inline]
     pub(crate) fn capacity(&self) -> Option<usize> {
-        self.capacity
+        self.capacity.map(NonZeroUsize::get)
     }
 
     /// How many senders there are. Whoever sees none sees a closed channel from then on.
     pub(crate) fn sender_count(&self) -> usize {
         let count = self.senders.load(Ordering::SeqCst);
         if count == 0 {
-            self.step(|core, told| core.drop_sender(told));
+            self.end_senders();
         }
         count
     }
@@ -268,9 +294,11 @@ impl<T> Channel<T> {
     /// Counts one more sender where the channel is open, and answers whether it is.
     pub(crate) fn upgrade_sender(&self) -> bool {
         self.step(|core, told| {
-            if core.is_closed() {
+            if !is_raised(core.upgrade_sender()) {
                 return false;
             }
+            // To the core there is one as long as there is any.
+            core.drop_sender(told);
             let raised = add_to_some(&self.senders);
             if !raised {
                 // The last one is on its way out, and hasn't said so under the lock yet.
@@ -283,9 +311,11 @@ impl<T> Channel<T> {
     /// Counts one more receiver where the channel is open, and answers whether it is.
     pub(crate) fn upgrade_receiver(&self) -> bool {
         self.step(|core, told| {
-            if core.is_closed() {
+            if !is_raised(core.upgrade_receiver()) {
                 return false;
             }
+            // To the core there is one as long as there is any.
+            core.drop_receiver(&mut None, told);
             let raised = add_to_some(&self.receivers);
             if !raised {
                 // The last one is on its way out, and hasn't said so under the lock yet.
@@ -295,22 +325,50 @@ impl<T> Channel<T> {
         })
     }
 
+    /// Sets the numbers of handles, which no test can reach by copies.
+    #[cfg(test)]
+    pub(crate) fn set_counts(&self, count: usize) {
+        self.senders.store(count, Ordering::SeqCst);
+        self.receivers.store(count, Ordering::SeqCst);
+    }
+
     /// Gives a sender up. The core is told of the last one.
     #[inline]
     pub(crate) fn drop_sender(&self) {
         if self.senders.fetch_sub(1, Ordering::SeqCst) == 1 {
-            self.step(|core, told| core.drop_sender(told));
+            self.end_senders();
         }
+    }
+
+    /// Tells the core that no sender is left.
+    #[cold]
+    fn end_senders(&self) {
+        self.step(|core, told| core.drop_sender(told));
     }
 
     /// Gives a receiver up, and its stream's wait with it. The core is told of the last one.
     #[inline]
     pub(crate) fn drop_receiver(&self, stream: &mut Option<Ticket>) {
         if self.receivers.fetch_sub(1, Ordering::SeqCst) == 1 {
-            self.step_of(stream, |core, ticket, told| core.drop_receiver(ticket, told));
-        } else if stream.is_some() {
-            self.step_of(stream, |core, ticket, _told| core.cancel_stream(ticket));
+            let _left = self.step(|core, told| {
+                let left = core.withdraw_stream(stream);
+                core.drop_receiver(&mut None, told);
+                left
+            });
+        } else {
+            self.cancel(Group::Streams, stream);
         }
+    }
+}
+
+/// Looks whether a thread may go on, and lets others run in between. That is cheaper than to sleep
+/// where another thread is about to make it so.
+fn await_turn(may_go_on: impl Fn() -> bool) {
+    for _look in 0..LOOKS {
+        if may_go_on() {
+            return;
+        }
+        yield_now();
     }
 }
 
@@ -329,6 +387,15 @@ fn add_to_some(count: &AtomicUsize) -> bool {
         Ok(before) if before > HANDLE_LIMIT => abort(),
         Ok(_) => true,
         Err(_) => false,
+    }
+}
+
+/// Whether the core made an upgrade. It counts one or two handles, so they aren't too many for it.
+fn is_raised(upgrade: Upgrade) -> bool {
+    match upgrade {
+        Upgrade::Raised => true,
+        Upgrade::Closed => false,
+        Upgrade::TooMany => abort(),
     }
 }
 

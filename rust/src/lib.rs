@@ -5,10 +5,10 @@
 //! Once all senders or all receivers are gone, or one of them says [`close`](Sender::close), it is
 //! closed: nothing more goes in, and what is left comes out.
 //!
-//! The names and answers are those of the crate `async-channel` 2.5. Behind them is the proved
-//! source of a channel's state, with its contracts taken out: it decides every answer, and who is
-//! woken. What stands round it in this crate, the lock, the handles and the blocking calls, is
-//! written by hand and tested.
+//! The names and answers are those of the crate `async-channel` 2.5. The state of a channel, which
+//! decides the answers and who is woken, is proved source with its contracts taken out. What stands
+//! round it in this crate is written by hand and tested: the lock, the handles and their numbers, the
+//! futures and the blocking calls.
 //!
 //! ```
 //! # futures_lite::future::block_on(async {
@@ -24,10 +24,16 @@
 //! # }).unwrap();
 //! ```
 //!
-//! Three things are otherwise than in `async-channel` 2.5: [`Sender::closed`] waits until no
-//! receiver is left, as its documentation says, also where the channel was closed by hand; a notice
-//! that a dropped operation had goes to the next one that waits for the same; and the futures and
-//! receivers here needn't be pinned.
+//! # Differs from async-channel
+//!
+//! - [`Sender::closed`] waits until no receiver is left, as async-channel documents it, also if the
+//!   channel was closed by hand. A program may wait for ever that didn't before.
+//! - A notice that a dropped send or receive had goes to the next one that waits for the same. In
+//!   which order others are woken is decided: sends, receives, streams, and then closed operations,
+//!   each in order of arrival.
+//! - Futures and receivers are `Unpin`. The `Debug` of a future writes its name alone.
+//! - What a message type borrows has to live as long as the futures of its channel.
+//! - `std` is needed. The feature `std` is there by name alone, and `portable-atomic` isn't.
 
 #![forbid(unsafe_code)]
 #![warn(missing_docs, missing_debug_implementations, rust_2018_idioms)]
@@ -35,9 +41,17 @@
 #[cfg(not(target_family = "wasm"))]
 mod blocking;
 mod channel;
+// Of the erased source too. It stands here so that the errors have no longer names than these.
+#[path = "proved/channel_model/errors.rs"]
+#[allow(dead_code, missing_docs)]
+#[rustfmt::skip]
+mod errors;
+#[cfg(test)]
+mod explorer;
 mod lock;
 mod marks;
 mod operations;
+mod primitives;
 // Written by tools/erase in the layout of its source. Some of it serves the run or the proofs
 // alone.
 #[allow(dead_code, unused_imports, irrefutable_let_patterns, clippy::all)]
@@ -67,9 +81,9 @@ pub use sender::{Sender, WeakSender};
 /// assert_eq!(error.into_inner(), 7);
 /// ```
 #[doc(inline)]
-pub use proved::channel_model::SendError;
+pub use errors::SendError;
 
-/// The answer to [`Sender::try_send`] where the message doesn't go in. It comes back.
+/// The answer to [`Sender::try_send`] if the message doesn't go in. It comes back.
 ///
 /// ```
 /// use vamorilesh::{bounded, TrySendError};
@@ -87,7 +101,7 @@ pub use proved::channel_model::SendError;
 /// assert_eq!(closed.into_inner(), 3);
 /// ```
 #[doc(inline)]
-pub use proved::channel_model::TrySendError;
+pub use errors::TrySendError;
 
 /// The answer to a receive from a channel that is empty and closed.
 ///
@@ -101,9 +115,9 @@ pub use proved::channel_model::TrySendError;
 /// assert_eq!(RecvError.to_string(), "receiving from an empty and closed channel");
 /// ```
 #[doc(inline)]
-pub use proved::channel_model::RecvError;
+pub use errors::RecvError;
 
-/// The answer to [`Receiver::try_recv`] where there is no message.
+/// The answer to [`Receiver::try_recv`] if there is no message.
 ///
 /// ```
 /// use vamorilesh::{unbounded, TryRecvError};
@@ -117,14 +131,13 @@ pub use proved::channel_model::RecvError;
 /// assert!(error.is_closed());
 /// ```
 #[doc(inline)]
-pub use proved::channel_model::TryRecvError;
+pub use errors::TryRecvError;
 
 use channel::Channel;
 use std::sync::Arc;
 
-/// The erased run, for the script program and the tests of this crate. It is no part of the
-/// interface.
-#[cfg(feature = "run")]
+/// The erased run, for the script program. It is no part of the interface.
+#[cfg(vamorilesh_run)]
 #[doc(hidden)]
 pub mod run {
     pub use crate::proved::channel_model::{Kind, Notice, OutOfMemory, Refusal, Reply};
@@ -139,7 +152,7 @@ pub mod run {
 ///
 /// # Panics
 ///
-/// Where `cap` is zero.
+/// If `cap` is zero, or more than the program could address.
 ///
 /// ```
 /// use vamorilesh::{bounded, TryRecvError, TrySendError};
@@ -157,7 +170,8 @@ pub fn bounded<T>(cap: usize) -> (Sender<T>, Receiver<T>) {
     handles(Channel::new(Some(cap)))
 }
 
-/// Makes a channel that holds any number of messages.
+/// Makes a channel that holds any number of messages. Once it is drained it gives back the memory
+/// that it took for them, but for a few KB.
 ///
 /// ```
 /// let (s, r) = vamorilesh::unbounded();

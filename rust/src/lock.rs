@@ -2,14 +2,15 @@
 
 use std::panic::{RefUnwindSafe, UnwindSafe};
 
-#[cfg(feature = "parking_lot")]
-use parking_lot::{Mutex, MutexGuard};
-#[cfg(not(feature = "parking_lot"))]
-use std::sync::{Mutex, MutexGuard, PoisonError, TryLockError};
+#[cfg(any(not(feature = "parking_lot"), test))]
+use crate::primitives::{turns, yield_now};
+use crate::primitives::{Mutex, MutexGuard};
+#[cfg(any(not(feature = "parking_lot"), test))]
+use std::sync::{PoisonError, TryLockError};
 
 /// How often a thread lets others run before it sleeps until the lock is free.
-#[cfg(not(feature = "parking_lot"))]
-const TURNS: u32 = 8;
+#[cfg(any(not(feature = "parking_lot"), test))]
+const TURNS: u32 = turns(8);
 
 /// A value that one thread at a time can reach.
 ///
@@ -22,19 +23,19 @@ impl<V> Lock<V> {
         Lock(Mutex::new(value))
     }
 
-    #[cfg(feature = "parking_lot")]
+    #[cfg(all(feature = "parking_lot", not(test)))]
     #[inline]
     pub(crate) fn lock(&self) -> MutexGuard<'_, V> {
         self.0.lock()
     }
 
-    #[cfg(not(feature = "parking_lot"))]
+    #[cfg(any(not(feature = "parking_lot"), test))]
     #[inline]
     pub(crate) fn lock(&self) -> MutexGuard<'_, V> {
         self.try_lock().unwrap_or_else(|| self.wait())
     }
 
-    #[cfg(not(feature = "parking_lot"))]
+    #[cfg(any(not(feature = "parking_lot"), test))]
     #[inline]
     fn try_lock(&self) -> Option<MutexGuard<'_, V>> {
         match self.0.try_lock() {
@@ -44,11 +45,11 @@ impl<V> Lock<V> {
         }
     }
 
-    #[cfg(not(feature = "parking_lot"))]
+    #[cfg(any(not(feature = "parking_lot"), test))]
     #[cold]
     fn wait(&self) -> MutexGuard<'_, V> {
         for _turn in 0..TURNS {
-            std::thread::yield_now();
+            yield_now();
             if let Some(guard) = self.try_lock() {
                 return guard;
             }

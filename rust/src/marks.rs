@@ -3,52 +3,39 @@
 //! A waker is the caller's: to copy, to wake or to drop it may run any code, even a call of the
 //! same channel, or panic. So none of it happens under the channel's lock. A poll that has to wait
 //! lets the lock go before it copies its waker. Those that a step tells are gathered by its bell
-//! and woken once the lock is let go. One that leaves its list untold is caught, and dropped then.
+//! and woken once the lock is let go. One that leaves its list
+//! untold comes back from the step, and is dropped then.
 
 use crate::proved::event_list::Bell;
-use std::cell::Cell;
-use std::mem::{self, ManuallyDrop};
+use std::mem;
 use std::panic::{catch_unwind, resume_unwind, AssertUnwindSafe};
-use std::task::Waker;
+use std::task::{Context, Waker};
 
-thread_local! {
-    /// Where a waker is put that leaves its list untold. None: nobody catches one now.
-    ///
-    /// Nothing has to be dropped there, so that it is there also while a thread ends.
-    static CAUGHT: Cell<Option<ManuallyDrop<Option<Waker>>>> = const { Cell::new(None) };
-}
+/// What a waiter leaves in a waiting list: the waker of its task. It has none for a moment, in which
+/// its poll looks at the one that was there.
+#[derive(Default)]
+pub(crate) struct Mark(Option<Waker>);
 
-/// What a waiter leaves in a waiting list: the waker of its task. A poll that is ready has none.
-pub(crate) struct Mark(pub(crate) Option<Waker>);
-
-impl Drop for Mark {
+impl Mark {
+    /// A copy of the caller's waker.
     #[inline]
-    fn drop(&mut self) {
-        if let Some(waker) = self.0.take() {
-            put_aside(waker);
-        }
+    pub(crate) fn of(context: &Context<'_>) -> Self {
+        Mark(Some(context.waker().clone()))
+    }
+
+    /// Whether it wakes the task that polls now.
+    #[inline]
+    pub(crate) fn will_wake(&self, context: &Context<'_>) -> bool {
+        self.0.as_ref().map_or(false, |waker| waker.will_wake(context.waker()))
     }
 }
 
-/// Hands a waker to the step that catches it, if one does, or drops it.
-fn put_aside(waker: Waker) {
-    let mut waker = Some(waker);
-    let _ = CAUGHT.try_with(|caught| {
-        if let Some(earlier) = caught.take() {
-            debug_assert!(earlier.is_none(), "one entry leaves in one step");
-            caught.set(Some(ManuallyDrop::new(waker.take())));
-        }
-    });
-}
-
-/// Makes a step of the core in which an entry may leave its list, and catches the waker of that
-/// entry.
-#[inline]
-pub(crate) fn catch<A>(step: impl FnOnce() -> A) -> (A, Option<Waker>) {
-    let _ = CAUGHT.try_with(|caught| caught.set(Some(ManuallyDrop::new(None))));
-    let answer = step();
-    let caught = CAUGHT.try_with(Cell::take).ok().flatten();
-    (answer, caught.and_then(ManuallyDrop::into_inner))
+/// The marks that a poll leaves to its caller.
+pub(crate) struct Marks {
+    /// The caller's own, as long as it isn't in a list.
+    pub(crate) own: Option<Mark>,
+    /// The one that came back from the caller's entry.
+    pub(crate) back: Option<Mark>,
 }
 
 /// The wakers of those whom a step told, in the order in which it told them.
@@ -96,8 +83,8 @@ fn wake_all(wakers: Vec<Waker>) {
 }
 
 impl Bell<Mark> for Told {
-    fn ring(&mut self, mut mark: Mark) {
-        if let Some(waker) = mark.0.take() {
+    fn ring(&mut self, mark: Mark) {
+        if let Some(waker) = mark.0 {
             self.add(waker);
         }
     }

@@ -1,16 +1,71 @@
-//! The futures of a channel. Each keeps the ticket of its wait, and gives it up where it is
-//! dropped.
+//! The futures of a channel. Each borrows its handle for its polls alone: a handle may go before an
+//! operation of its own that isn't polled any more. So no future here is dropped by code of its
+//! own. What has to be done then is done by its [`Wait`], which borrows nothing.
 
+use crate::channel::Channel;
+use crate::proved::channel_core::Group;
 use crate::proved::event_list::Ticket;
 use crate::{Receiver, RecvError, SendError, Sender};
 use std::fmt;
 use std::future::Future;
 use std::pin::Pin;
+use std::sync::Arc;
 use std::task::{Context, Poll};
+
+/// The place of an operation in a waiting list. It is given up where it is dropped.
+struct Wait<T> {
+    /// Whose list it is.
+    group: Group,
+    /// The place, while the operation waits.
+    ticket: Option<Ticket>,
+    /// The channel, while the operation waits: it may be all that is left of it.
+    channel: Option<Arc<Channel<T>>>,
+}
+
+impl<T> Wait<T> {
+    #[inline]
+    fn new(group: Group) -> Self {
+        Wait { group, ticket: None, channel: None }
+    }
+
+    /// Polls the operation on its channel.
+    #[inline]
+    fn poll<A>(
+        &mut self,
+        channel: &Arc<Channel<T>>,
+        poll: impl FnOnce(&mut Option<Ticket>) -> Poll<A>,
+    ) -> Poll<A> {
+        let answer = poll(&mut self.ticket);
+        if self.ticket.is_some() != self.channel.is_some() {
+            self.channel = self.ticket.is_some().then(|| channel.clone());
+        }
+        answer
+    }
+}
+
+impl<T> Drop for Wait<T> {
+    #[inline]
+    fn drop(&mut self) {
+        if let Some(channel) = &self.channel {
+            channel.cancel(self.group, &mut self.ticket);
+        }
+    }
+}
 
 /// The send that [`Sender::send`] begins. It sends nothing before its first poll.
 ///
-/// A send that has finished must not be polled again: that panics.
+/// A send that waits and is dropped drops its message. If it was told of a free place, the next send
+/// that waits is told of it.
+///
+/// # Panics
+///
+/// A poll of a send that has finished panics.
+///
+/// # Differs from async-channel
+///
+/// It is `Unpin`, so that it needs no pin. Its `Debug` writes the name alone, and asks nothing of the
+/// message. A message that borrows has to live as long as the future; in async-channel the future
+/// may be dropped after what its message type borrows.
 ///
 /// ```
 /// # futures_lite::future::block_on(async {
@@ -28,14 +83,14 @@ pub struct Send<'a, T> {
     sender: &'a Sender<T>,
     /// The message, until it is sent or handed back.
     message: Option<T>,
-    /// The wait, while it waits.
-    ticket: Option<Ticket>,
+    /// Where it waits.
+    wait: Wait<T>,
 }
 
 impl<'a, T> Send<'a, T> {
     #[inline]
     pub(crate) fn new(sender: &'a Sender<T>, message: T) -> Self {
-        Send { sender, message: Some(message), ticket: None }
+        Send { sender, message: Some(message), wait: Wait::new(Group::Sends) }
     }
 }
 
@@ -47,16 +102,10 @@ impl<T> Future for Send<'_, T> {
 
     #[inline]
     fn poll(self: Pin<&mut Self>, cx: &mut Context<'_>) -> Poll<Self::Output> {
-        let send = self.get_mut();
-        assert!(send.message.is_some(), "a send was polled after it had finished");
-        send.sender.channel().poll_send(&mut send.message, &mut send.ticket, cx)
-    }
-}
-
-impl<T> Drop for Send<'_, T> {
-    #[inline]
-    fn drop(&mut self) {
-        self.sender.channel().cancel_send(&mut self.ticket);
+        let Send { sender, message, wait } = self.get_mut();
+        assert!(message.is_some(), "a send was polled after it had finished");
+        let channel = sender.channel();
+        wait.poll(channel, |ticket| channel.poll_send(message, ticket, cx))
     }
 }
 
@@ -68,7 +117,13 @@ impl<T> fmt::Debug for Send<'_, T> {
 
 /// The receive that [`Receiver::recv`] begins.
 ///
-/// One that has finished may be polled again, and is a new receive then.
+/// One that has finished may be polled again, and is a new receive then. One that waits and is
+/// dropped takes no message: if it was told of one, the next receive that waits is told of it.
+///
+/// # Differs from async-channel
+///
+/// It is `Unpin`, so that it needs no pin. Its `Debug` writes the name alone, and asks nothing of the
+/// message. What its message type borrows has to live as long as the future.
 ///
 /// ```
 /// # futures_lite::future::block_on(async {
@@ -83,14 +138,14 @@ impl<T> fmt::Debug for Send<'_, T> {
 pub struct Recv<'a, T> {
     /// Whose receive it is.
     receiver: &'a Receiver<T>,
-    /// The wait, while it waits.
-    ticket: Option<Ticket>,
+    /// Where it waits.
+    wait: Wait<T>,
 }
 
 impl<'a, T> Recv<'a, T> {
     #[inline]
     pub(crate) fn new(receiver: &'a Receiver<T>) -> Self {
-        Recv { receiver, ticket: None }
+        Recv { receiver, wait: Wait::new(Group::Receives) }
     }
 }
 
@@ -99,15 +154,9 @@ impl<T> Future for Recv<'_, T> {
 
     #[inline]
     fn poll(self: Pin<&mut Self>, cx: &mut Context<'_>) -> Poll<Self::Output> {
-        let recv = self.get_mut();
-        recv.receiver.channel().poll_recv(&mut recv.ticket, cx)
-    }
-}
-
-impl<T> Drop for Recv<'_, T> {
-    #[inline]
-    fn drop(&mut self) {
-        self.receiver.channel().cancel_recv(&mut self.ticket);
+        let Recv { receiver, wait } = self.get_mut();
+        let channel = receiver.channel();
+        wait.poll(channel, |ticket| channel.poll_recv(ticket, cx))
     }
 }
 
@@ -118,6 +167,12 @@ impl<T> fmt::Debug for Recv<'_, T> {
 }
 
 /// The wait for the last receiver's end that [`Sender::closed`] begins.
+///
+/// # Differs from async-channel
+///
+/// It waits for the last receiver, also if the channel was closed by hand: see [`Sender::closed`]. It
+/// is `Unpin`, so that it needs no pin, and its `Debug` writes the name alone. What its message type
+/// borrows has to live as long as the future.
 ///
 /// ```
 /// # futures_lite::future::block_on(async {
@@ -132,14 +187,14 @@ impl<T> fmt::Debug for Recv<'_, T> {
 pub struct Closed<'a, T> {
     /// Who waits.
     sender: &'a Sender<T>,
-    /// The wait, while it waits.
-    ticket: Option<Ticket>,
+    /// Where it waits.
+    wait: Wait<T>,
 }
 
 impl<'a, T> Closed<'a, T> {
     #[inline]
     pub(crate) fn new(sender: &'a Sender<T>) -> Self {
-        Closed { sender, ticket: None }
+        Closed { sender, wait: Wait::new(Group::Closeds) }
     }
 }
 
@@ -148,15 +203,9 @@ impl<T> Future for Closed<'_, T> {
 
     #[inline]
     fn poll(self: Pin<&mut Self>, cx: &mut Context<'_>) -> Poll<()> {
-        let closed = self.get_mut();
-        closed.sender.channel().poll_closed(&mut closed.ticket, cx)
-    }
-}
-
-impl<T> Drop for Closed<'_, T> {
-    #[inline]
-    fn drop(&mut self) {
-        self.sender.channel().cancel_closed(&mut self.ticket);
+        let Closed { sender, wait } = self.get_mut();
+        let channel = sender.channel();
+        wait.poll(channel, |ticket| channel.poll_closed(ticket, cx))
     }
 }
 

@@ -15,6 +15,12 @@ use std::task::{Context, Poll};
 /// It can be cloned, and shared among threads. Each message goes to one receiver. Once the last one
 /// is dropped, the channel is closed.
 ///
+/// # Differs from async-channel
+///
+/// A receiver is `Unpin`, so that its stream needs no pin. A stream that waits looks at the queue in
+/// each poll, also if nothing woke it. A stream that was woken and is dropped hands its notice to
+/// nobody: all streams were woken with it.
+///
 /// ```
 /// # futures_lite::future::block_on(async {
 /// use futures_lite::StreamExt;
@@ -43,11 +49,16 @@ impl<T> Receiver<T> {
 
     /// What all handles of the channel share.
     #[inline]
-    pub(crate) fn channel(&self) -> &Channel<T> {
+    pub(crate) fn channel(&self) -> &Arc<Channel<T>> {
         &self.channel
     }
 
     /// Takes the oldest message, if there is one.
+    ///
+    /// # Errors
+    ///
+    /// [`TryRecvError::Empty`] if the channel is empty and open, and [`TryRecvError::Closed`] if it is
+    /// empty and closed.
     ///
     /// ```
     /// use vamorilesh::{unbounded, TryRecvError};
@@ -67,6 +78,10 @@ impl<T> Receiver<T> {
     }
 
     /// Takes the oldest message, and waits while the channel is open and empty.
+    ///
+    /// # Errors
+    ///
+    /// The future answers [`RecvError`] if the channel is empty and closed.
     ///
     /// ```
     /// # futures_lite::future::block_on(async {
@@ -89,6 +104,10 @@ impl<T> Receiver<T> {
     ///
     /// A task that blocks its thread may keep the very task from running that would send.
     ///
+    /// # Errors
+    ///
+    /// [`RecvError`] if the channel is empty and closed.
+    ///
     /// ```
     /// use vamorilesh::{unbounded, RecvError};
     ///
@@ -104,7 +123,10 @@ impl<T> Receiver<T> {
         match self.try_recv() {
             Ok(msg) => Ok(msg),
             Err(TryRecvError::Closed) => Err(RecvError),
-            Err(TryRecvError::Empty) => crate::blocking::block_on(self.recv()),
+            Err(TryRecvError::Empty) => {
+                self.channel.await_message();
+                crate::blocking::block_on(self.recv())
+            }
         }
     }
 
@@ -184,7 +206,7 @@ impl<T> Receiver<T> {
         self.channel.len()
     }
 
-    /// How many messages may be held, where the channel is bounded. It takes no lock.
+    /// How many messages may be held, if the channel is bounded.
     ///
     /// ```
     /// let (s, r) = vamorilesh::bounded::<u64>(5);
@@ -239,7 +261,7 @@ impl<T> Receiver<T> {
         WeakReceiver { channel: self.channel.clone() }
     }
 
-    /// Whether both are receivers of one channel. It takes no lock.
+    /// Whether both are receivers of one channel.
     ///
     /// ```
     /// let (s, r) = vamorilesh::unbounded::<u64>();
@@ -256,7 +278,7 @@ impl<T> Receiver<T> {
 }
 
 impl<T> Clone for Receiver<T> {
-    /// One more receiver. The program ends where there are more than half of what a `usize` counts.
+    /// One more receiver. The program ends if there are more than half of what a `usize` counts.
     #[inline]
     fn clone(&self) -> Receiver<T> {
         self.channel.add_receiver();
@@ -311,7 +333,7 @@ pub struct WeakReceiver<T> {
 }
 
 impl<T> WeakReceiver<T> {
-    /// A receiver, where the channel is open.
+    /// A receiver, if the channel is open and has a receiver still.
     ///
     /// ```
     /// let (s, r) = vamorilesh::unbounded::<u64>();

@@ -32,11 +32,16 @@ impl<T> Sender<T> {
 
     /// What all handles of the channel share.
     #[inline]
-    pub(crate) fn channel(&self) -> &Channel<T> {
+    pub(crate) fn channel(&self) -> &Arc<Channel<T>> {
         &self.channel
     }
 
-    /// Sends a message at once, or hands it back where the channel is full or closed.
+    /// Sends a message at once, or hands it back if the channel is full or closed.
+    ///
+    /// # Errors
+    ///
+    /// [`TrySendError::Full`] if the channel is full, and [`TrySendError::Closed`] if it is closed.
+    /// Both hand the message back.
     ///
     /// ```
     /// use vamorilesh::{bounded, TrySendError};
@@ -53,9 +58,13 @@ impl<T> Sender<T> {
         self.channel.try_send(msg)
     }
 
-    /// Sends a message, and waits while the channel is full. A closed channel hands it back.
+    /// Sends a message, and waits while the channel is full.
     ///
-    /// A wait that is given up takes its message with it, and nothing was sent.
+    /// A send that is dropped while it waits drops its message, and nothing was sent.
+    ///
+    /// # Errors
+    ///
+    /// The future answers [`SendError`] with the message if the channel is closed.
     ///
     /// ```
     /// # futures_lite::future::block_on(async {
@@ -75,7 +84,13 @@ impl<T> Sender<T> {
 
     /// Waits until no receiver is left.
     ///
-    /// A channel that was closed by hand may have receivers still, which may take what is left.
+    /// # Differs from async-channel
+    ///
+    /// A channel that [`close`](Sender::close) closed may have receivers still, which may take what is
+    /// left: this goes on waiting then, for ever if a receiver is never dropped. It keeps to what
+    /// async-channel documents. The code of async-channel 2.5 ends the wait at any closing, so a
+    /// program that relies on that has to drop its receivers, or to look at
+    /// [`is_closed`](Sender::is_closed).
     ///
     /// ```
     /// # futures_lite::future::block_on(async {
@@ -94,6 +109,10 @@ impl<T> Sender<T> {
     ///
     /// A task that blocks its thread may keep the very task from running that would make room.
     ///
+    /// # Errors
+    ///
+    /// [`SendError`] with the message if the channel is closed.
+    ///
     /// ```
     /// use vamorilesh::{unbounded, SendError};
     ///
@@ -108,12 +127,18 @@ impl<T> Sender<T> {
         match self.try_send(msg) {
             Ok(()) => Ok(()),
             Err(TrySendError::Closed(msg)) => Err(SendError(msg)),
-            Err(TrySendError::Full(msg)) => crate::blocking::block_on(self.send(msg)),
+            Err(TrySendError::Full(msg)) => {
+                self.channel.await_room();
+                crate::blocking::block_on(self.send(msg))
+            }
         }
     }
 
-    /// Sends a message at once, also where the channel is full: then the oldest one comes out for
-    /// it.
+    /// Sends a message at once, also if the channel is full: then the oldest one comes out for it.
+    ///
+    /// # Errors
+    ///
+    /// [`SendError`] with the message if the channel is closed.
     ///
     /// ```
     /// use vamorilesh::{bounded, SendError};
@@ -206,7 +231,7 @@ impl<T> Sender<T> {
         self.channel.len()
     }
 
-    /// How many messages may be held, where the channel is bounded. It takes no lock.
+    /// How many messages may be held, if the channel is bounded.
     ///
     /// ```
     /// let (s, r) = vamorilesh::bounded::<u64>(5);
@@ -261,7 +286,7 @@ impl<T> Sender<T> {
         WeakSender { channel: self.channel.clone() }
     }
 
-    /// Whether both are senders of one channel. It takes no lock.
+    /// Whether both are senders of one channel.
     ///
     /// ```
     /// let (s, r) = vamorilesh::unbounded::<u64>();
@@ -278,7 +303,7 @@ impl<T> Sender<T> {
 }
 
 impl<T> Clone for Sender<T> {
-    /// One more sender. The program ends where there are more than half of what a `usize` counts.
+    /// One more sender. The program ends if there are more than half of what a `usize` counts.
     #[inline]
     fn clone(&self) -> Sender<T> {
         self.channel.add_sender();
@@ -316,7 +341,7 @@ pub struct WeakSender<T> {
 }
 
 impl<T> WeakSender<T> {
-    /// A sender, where the channel is open.
+    /// A sender, if the channel is open and has a sender still.
     ///
     /// ```
     /// let (s, r) = vamorilesh::unbounded::<u64>();

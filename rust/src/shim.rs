@@ -2,7 +2,11 @@
 //! say what the proofs rely on.
 //!
 //! Memory isn't refused here. Where there is none the program ends, as with every collection of
-//! `std`, so that an answer which tells of a refusal can't be made.
+//! `std`, so that an answer which tells of a refusal can't be made. A collection that gets empty gives
+//! its memory back but for [`KEPT`] bytes: nothing has to be moved for that, and it takes more anew
+//! only after as many insertions as fit into what it kept.
+
+use std::mem::{size_of, ManuallyDrop};
 
 /// Where memory comes from: the one allocator of a program.
 #[derive(Clone, Copy)]
@@ -32,11 +36,18 @@ impl<L> Book<L> {
     pub fn add(&mut self, _share: &mut Share<L>, _amount: u64) {}
 }
 
+/// How many bytes an empty queue or slab keeps at the most, if one value doesn't take more.
+const KEPT: usize = 4096;
+
+/// How many values an empty collection keeps room for.
+fn kept<V>() -> usize {
+    KEPT.checked_div(size_of::<V>()).map_or(usize::MAX, |count| count.max(1))
+}
+
 /// A collection, and what is kept beside it. It has all calls of the collection; those below are
 /// made or answered otherwise.
 pub struct Over<C, K = Global>(C, K);
 pub type BTreeMap<K, V> = Over<std::collections::BTreeMap<K, V>>;
-pub type Slab<V> = Over<slab::Slab<V>>;
 pub type Vec<T> = Over<std::vec::Vec<T>>;
 pub type VecDeque<T, A> = Over<std::collections::VecDeque<T>, A>;
 /// A queue that never holds more than the number beside it, for which it has room from the start.
@@ -70,13 +81,55 @@ impl<K: Ord, V> BTreeMap<K, V> {
         Ok(self.0.insert(key, value))
     }
 }
+/// Values under keys. It takes no memory before the first one, and the key that was left last is
+/// the next one's.
+pub struct Slab<V>(Option<Box<Places<V>>>);
+/// The places of a slab's values: the first one's key, and what lies there. A place that was left
+/// has nothing to drop, so that all of them can be given back at once.
+struct Places<V>(usize, slab::Slab<ManuallyDrop<V>>);
+
 impl<V> Slab<V> {
+    pub fn new(_: Global) -> Self {
+        Slab(None)
+    }
     /// An insertion takes the room that it needs, so none is made before.
     pub fn reserve(&mut self, _more: usize) -> Result<(), Refused<()>> {
         Ok(())
     }
+    #[inline]
     pub fn insert_reserved(&mut self, value: V) -> usize {
-        self.0.insert(value)
+        let empty = || Box::new(Places(0, slab::Slab::new()));
+        let Places(first, values) = &mut **self.0.get_or_insert_with(empty);
+        first.wrapping_add(values.insert(ManuallyDrop::new(value)))
+    }
+    #[inline]
+    pub fn try_remove(&mut self, key: usize) -> Option<V> {
+        let Places(first, values) = self.0.as_deref_mut()?;
+        let value = values.try_remove(key.wrapping_sub(*first))?;
+        if values.is_empty() && values.capacity() > kept::<V>() {
+            // The next key is this one still.
+            (*first, *values) = (key, slab::Slab::new());
+        }
+        Some(ManuallyDrop::into_inner(value))
+    }
+    #[inline]
+    pub fn get(&self, key: usize) -> Option<&V> {
+        let Places(first, values) = self.0.as_deref()?;
+        values.get(key.wrapping_sub(*first)).map(|value| &**value)
+    }
+    #[inline]
+    pub fn get_mut(&mut self, key: usize) -> Option<&mut V> {
+        let Places(first, values) = self.0.as_deref_mut()?;
+        values.get_mut(key.wrapping_sub(*first)).map(|value| &mut **value)
+    }
+    #[inline]
+    pub fn len(&self) -> usize {
+        self.0.as_deref().map_or(0, |places| places.1.len())
+    }
+}
+impl<V> Drop for Places<V> {
+    fn drop(&mut self) {
+        self.1.drain().map(ManuallyDrop::into_inner).for_each(drop);
     }
 }
 impl<T> Vec<T> {
@@ -92,6 +145,14 @@ impl<T> VecDeque<T, Global> {
     pub fn push_back(&mut self, value: T) -> Result<(), Refused<T>> {
         self.0.push_back(value);
         Ok(())
+    }
+    #[inline]
+    pub fn pop_front(&mut self) -> Option<T> {
+        let value = self.0.pop_front();
+        if self.0.is_empty() && self.0.capacity() > kept::<T>() {
+            self.0.shrink_to(kept::<T>());
+        }
+        value
     }
 }
 impl<T> HeapCircularBuffer<T> {

@@ -14,6 +14,7 @@ use std::task::{Context, Poll, RawWaker, RawWakerVTable, Wake, Waker};
 use std::thread;
 
 use futures_core::Stream;
+use futures_lite::StreamExt;
 use vamorilesh::{bounded, unbounded, Receiver, Sender};
 
 thread_local! {
@@ -53,10 +54,37 @@ fn a_waker_may_call_the_channel_when_it_is_copied() {
     assert_eq!((poll_copied(&mut s.send(1)), poll_copied(&mut receive)), ((true, 0), (true, 0)));
     assert_eq!(s.try_send(2), Ok(()));
     let mut send = s.send(3);
-    assert_eq!((poll_copied(&mut send), poll_copied(&mut send)), ((false, 1), (false, 1)));
+    assert_eq!((poll_copied(&mut send), poll_copied(&mut send)), ((false, 1), (false, 0)));
     assert_eq!((r.try_recv(), poll_copied(&mut send)), (Ok(2), (true, 0)));
     assert_eq!(poll_copied(&mut s.closed()), (false, 1));
     CALLED.with(RefCell::take);
+}
+
+#[test]
+fn a_poll_again_with_the_same_waker_copies_nothing() {
+    let (s, mut r) = bounded(1);
+    let other = r.clone();
+    let (mut receive, mut closed) = (other.recv(), s.closed());
+    for copies in [1, 0, 0] {
+        assert_eq!(poll_copied(&mut receive), (false, copies));
+        assert_eq!(poll_copied(&mut r.next()), (false, copies));
+        assert_eq!(poll_copied(&mut closed), (false, copies));
+    }
+    // Who was told and comes too late waits anew.
+    assert_eq!((s.try_send(1), other.try_recv()), (Ok(()), Ok(1)));
+    for copies in [1, 0] {
+        assert_eq!(poll_copied(&mut receive), (false, copies));
+        assert_eq!(poll_copied(&mut r.next()), (false, copies));
+    }
+    assert_eq!(s.try_send(1), Ok(()));
+    let mut send = s.send(2);
+    for copies in [1, 0, 0] {
+        assert_eq!(poll_copied(&mut send), (false, copies));
+    }
+    drop((r, receive));
+    assert_eq!(poll_copied(&mut closed), (false, 0));
+    drop(other);
+    assert_eq!((poll_copied(&mut closed), poll_copied(&mut s.closed())), ((true, 0), (true, 0)));
 }
 
 /// A waker that panics when it is woken, and when it is dropped if it says so.

@@ -1,5 +1,6 @@
 //! The texts of errors and handles, and what errors tell of themselves.
 
+use std::any::type_name;
 use std::error::Error;
 
 use vamorilesh::{bounded, RecvError, SendError, TryRecvError, TrySendError};
@@ -69,4 +70,15 @@ fn errors_are_equal_by_case_and_message() {
     assert!(TrySendError::Full(1) != TrySendError::Closed(1));
     assert!(TrySendError::Closed(1) != TrySendError::Closed(2));
     assert!(TryRecvError::Empty != TryRecvError::Closed);
+}
+
+#[test]
+fn the_errors_have_short_names() {
+    let names = [
+        type_name::<SendError<u8>>(),
+        type_name::<TrySendError<u8>>(),
+        type_name::<RecvError>(),
+        type_name::<TryRecvError>(),
+    ];
+    assert!(names.iter().all(|name| name.starts_with("vamorilesh::errors::")), "{names:?}");
 }

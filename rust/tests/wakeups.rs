@@ -12,7 +12,7 @@ use std::collections::BTreeMap;
 use std::future::Future;
 use std::pin::Pin;
 use std::rc::Rc;
-use std::task::{Context, Poll};
+use std::task::{Context, Poll, Waker};
 
 use futures_core::stream::Stream;
 use support::judge::{Judge, Waiting};
@@ -70,6 +70,8 @@ struct World {
     receivers: Vec<Rc<Receiver<u64>>>,
     /// The operations that aren't finished, by name.
     operations: BTreeMap<usize, Operation>,
+    /// The waker of each operation's last poll, by name.
+    wakers: BTreeMap<usize, Waker>,
     next_name: usize,
 }
 
@@ -87,6 +89,7 @@ impl World {
             senders: vec![Rc::new(s)],
             receivers: vec![Rc::new(r)],
             operations: BTreeMap::new(),
+            wakers: BTreeMap::new(),
             next_name: 0,
         }
     }
@@ -229,9 +232,12 @@ impl World {
         Some(())
     }
 
-    /// Polls the operation `name` with a new waker, and looks at whom that woke.
+    /// Polls the operation `name` with its last waker or a new one, and looks at whom that woke.
     fn poll(&mut self, name: usize) {
-        let waker = self.log.waker(name);
+        if self.draw.below(2) == 0 {
+            self.wakers.remove(&name);
+        }
+        let waker = self.wakers.entry(name).or_insert_with(|| self.log.waker(name)).clone();
         let mut operation = self.operations.remove(&name).unwrap();
         let came = operation.poll(&mut Context::from_waker(&waker));
         let is_stream = matches!(operation, Operation::Stream(_));

@@ -8,6 +8,9 @@ mod calls;
 mod operations;
 
 #[cfg(test)]
+#[path = "../../tests/borrows/mod.rs"]
+mod borrows;
+#[cfg(test)]
 #[path = "../../tests/traits/mod.rs"]
 mod traits;
 

@@ -4,5 +4,5 @@
 pub(crate) mod event_list;
 pub(crate) mod channel_model;
 pub(crate) mod channel_core;
-#[cfg(feature = "run")]
+#[cfg(vamorilesh_run)]
 pub(crate) mod channel_run;

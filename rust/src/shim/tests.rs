@@ -1,6 +1,7 @@
 //! What the proofs rely on, each rule once.
 
-use super::{BTreeMap, Blank, Brand, Global, HeapCircularBuffer, Slab, Vec, VecDeque};
+use super::{BTreeMap, Blank, Brand, Global, HeapCircularBuffer, Slab, Vec, VecDeque, KEPT};
+use std::mem::size_of;
 
 /// The source never asks for more than it may, and never looks up a key that it wasn't given.
 fn slab_of(values: &[u64]) -> Slab<u64> {
@@ -31,6 +32,77 @@ fn a_slab_keeps_each_value_under_its_key() {
     assert_eq!(slab.get_mut(2), Some(&mut 12));
     assert_eq!(slab.get(0), Some(&10));
     assert_eq!(slab.len(), 2);
+}
+
+#[test]
+fn a_slab_that_was_large_gives_its_room_back_and_the_key_that_was_left_last() {
+    let mut slab = slab_of(&[7; 10_000]);
+    for turn in 0..3 {
+        let last = [9_999, 5_000, 0][turn];
+        let keys: std::vec::Vec<_> = (0..10_000).filter(|key| *key != last).collect();
+        let first = slab.0.as_ref().unwrap().0;
+        for key in keys.into_iter().chain([last]) {
+            assert_eq!(slab.try_remove(first.wrapping_add(key)), Some(7));
+        }
+        assert!(room(&slab) <= KEPT / size_of::<u64>());
+        assert_eq!((slab.len(), slab.get(first)), (0, None));
+        for place in 0..10_000 {
+            let key = slab.insert_reserved(7);
+            assert!(place > 0 || key == first.wrapping_add(last));
+            assert_eq!(slab.get_mut(key), Some(&mut 7));
+        }
+    }
+}
+
+#[test]
+fn a_slab_keeps_a_little_room() {
+    let mut slab = slab_of(&[7; 40]);
+    let before = room(&slab);
+    assert!((0..40).all(|key| slab.try_remove(key) == Some(7)));
+    assert_eq!(room(&slab), before);
+}
+
+/// How many values there is room for.
+fn room(slab: &Slab<u64>) -> usize {
+    slab.0.as_ref().unwrap().1.capacity()
+}
+
+#[test]
+fn a_slab_drops_what_it_holds() {
+    let value = std::rc::Rc::new(());
+    let mut slab = Slab::new(Global);
+    let keys: std::vec::Vec<_> = (0..3).map(|_| slab.insert_reserved(value.clone())).collect();
+    drop(slab.try_remove(keys[1]));
+    assert_eq!(std::rc::Rc::strong_count(&value), 3);
+    drop(slab);
+    assert_eq!(std::rc::Rc::strong_count(&value), 1);
+}
+
+#[test]
+fn an_unbounded_queue_gives_its_room_back_once_it_is_drained() {
+    let mut queue = VecDeque::<u64, Global>::new(Global);
+    for count in [10_000, 600, 513] {
+        for message in 0..count {
+            assert!(queue.push_back(message).is_ok());
+        }
+        assert!((0..count - 1).all(|message| queue.pop_front() == Some(message)));
+        assert!(queue.0.capacity() as u64 >= count);
+        assert_eq!(queue.pop_front(), Some(count - 1));
+        assert!((1..=KEPT / size_of::<u64>()).contains(&queue.0.capacity()));
+    }
+}
+
+#[test]
+fn an_unbounded_queue_keeps_room_for_one_large_message_or_any_number_without_a_size() {
+    let mut queue = VecDeque::<[u8; 2 * KEPT], Global>::new(Global);
+    for _ in 0..3 {
+        assert!(queue.push_back([0; 2 * KEPT]).is_ok());
+    }
+    while queue.pop_front().is_some() {}
+    assert_eq!(queue.0.capacity(), 1);
+    let mut queue = VecDeque::<(), Global>::new(Global);
+    assert!(queue.push_back(()).is_ok());
+    assert_eq!((queue.pop_front(), queue.pop_front()), (Some(()), None));
 }
 
 #[test]

@@ -84,6 +84,11 @@ pub fn poll_with<F: Future>(future: &mut Pin<Box<F>>, waker: &Waker) -> Poll<F::
     future.as_mut().poll(&mut Context::from_waker(waker))
 }
 
+/// One poll of a pinned `future` with `waker`.
+pub fn poll_pinned<F: Future>(future: &mut Pin<&mut F>, waker: &Waker) -> Poll<F::Output> {
+    future.as_mut().poll(&mut Context::from_waker(waker))
+}
+
 /// Drawn numbers: the same for the same seed (SplitMix64).
 pub struct Draw(u64);
 

@@ -1,9 +1,11 @@
-//! Measures channels side by side: prints a table of medians as ratios to `async-channel`.
+//! Measures channels side by side: prints a table of times as ratios to `async-channel`.
 //!
 //!     cargo run --release [ROUNDS] [WORD..]     only works whose name has one of the words
 //!
 //! Each round runs every work on every peer in turn, so that all share the machine's bad moments.
-//! A ratio below 1 is faster than `async-channel`. Works of many threads count on a quiet machine.
+//! A ratio below 1 is faster than `async-channel`. Beside the ratio of the medians stands the one of
+//! the least times, which other work on the machine disturbs less. Works of many threads count on a
+//! quiet machine.
 
 mod peers;
 mod threads;
@@ -35,12 +37,23 @@ fn version(package: &str) -> &'static str {
     version.unwrap_or("unknown")
 }
 
-fn median(mut times: Vec<f64>) -> f64 {
-    times.sort_by(f64::total_cmp);
-    times[times.len() / 2]
+/// Nanoseconds of the rounds of a work on a peer.
+#[derive(Clone, Copy)]
+struct Times {
+    least: f64,
+    median: f64,
 }
 
-fn measure(works: &[Work], rounds: usize) -> BTreeMap<(&'static str, &'static str), f64> {
+impl Times {
+    fn of(mut times: Vec<f64>) -> Times {
+        times.sort_by(f64::total_cmp);
+        Times { least: times[0], median: times[times.len() / 2] }
+    }
+}
+
+type Measured = BTreeMap<(&'static str, &'static str), Times>;
+
+fn measure(works: &[Work], rounds: usize) -> Measured {
     let mut times = BTreeMap::<_, Vec<f64>>::new();
     for _ in 0..rounds {
         for work in works {
@@ -49,25 +62,26 @@ fn measure(works: &[Work], rounds: usize) -> BTreeMap<(&'static str, &'static st
             }
         }
     }
-    times.into_iter().map(|(key, times)| (key, median(times))).collect()
+    times.into_iter().map(|(key, times)| (key, Times::of(times))).collect()
 }
 
-fn print_table(works: &[Work], medians: &BTreeMap<(&str, &str), f64>) {
-    let others = ["flume", "crossbeam-channel", "tokio"];
-    println!("| Work | {BASE} {} | {HERE} | ratio | goal |", version(BASE));
-    println!("|---|---|---|---|---|");
+fn print_table(works: &[Work], measured: &Measured) {
+    println!("| Work | {BASE} {} | {HERE} | ratio | of the least | goal |", version(BASE));
+    println!("|---|---|---|---|---|---|");
     for work in works {
-        let (base, here) = (medians[&(work.name, BASE)], medians[&(work.name, HERE)]);
+        let (base, here) = (measured[&(work.name, BASE)], measured[&(work.name, HERE)]);
         let goal = work.goal.map_or("".to_owned(), |goal| format!("{goal:.2}"));
-        let ratio = here / base;
-        println!("| {} | {base:.0} ns | {here:.0} ns | {ratio:.2} | {goal} |", work.name);
+        let (ratio, least) = (here.median / base.median, here.least / base.least);
+        let times = format!("{:.0} ns | {:.0} ns", base.median, here.median);
+        println!("| {} | {times} | {ratio:.2} | {least:.2} | {goal} |", work.name);
     }
+    let others = ["flume", "crossbeam-channel", "tokio"];
     println!("\n| Work | {} |", others.map(|peer| format!("{peer} {}", version(peer))).join(" | "));
     println!("|---|---|---|---|");
     for work in works {
-        let base = medians[&(work.name, BASE)];
-        let ratio = |peer| match medians.get(&(work.name, peer)) {
-            Some(time) => format!("{:.2}", time / base),
+        let base = measured[&(work.name, BASE)].median;
+        let ratio = |peer| match measured.get(&(work.name, peer)) {
+            Some(times) => format!("{:.2}", times.median / base),
             None => "".to_owned(),
         };
         println!("| {} | {} |", work.name, others.map(ratio).join(" | "));
@@ -85,6 +99,6 @@ fn main() {
         works.retain(|work| words.iter().any(|word| work.name.contains(word.as_str())));
     }
     measure(&works, 1);
-    let medians = measure(&works, rounds.unwrap_or(7));
-    print_table(&works, &medians);
+    let measured = measure(&works, rounds.unwrap_or(7));
+    print_table(&works, &measured);
 }

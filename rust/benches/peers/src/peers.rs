@@ -19,6 +19,12 @@ pub trait Peer: 'static {
 pub trait Many: Peer {
     fn clone_rx(rx: &Self::Rx) -> Self::Rx;
     fn len(rx: &Self::Rx) -> usize;
+    fn is_full(rx: &Self::Rx) -> bool;
+}
+
+/// Receivers tell whether the channel is closed.
+pub trait Closes: Peer {
+    fn is_closed(rx: &Self::Rx) -> bool;
 }
 
 pub trait Async: Peer {
@@ -58,6 +64,14 @@ macro_rules! async_channel_peer {
             }
             fn len(rx: &Self::Rx) -> usize {
                 rx.len()
+            }
+            fn is_full(rx: &Self::Rx) -> bool {
+                rx.is_full()
+            }
+        }
+        impl Closes for $peer {
+            fn is_closed(rx: &Self::Rx) -> bool {
+                rx.is_closed()
             }
         }
         impl Async for $peer {
@@ -106,6 +120,9 @@ macro_rules! blocking_peer {
             }
             fn len(rx: &Self::Rx) -> usize {
                 rx.len()
+            }
+            fn is_full(rx: &Self::Rx) -> bool {
+                rx.is_full()
             }
         }
     };

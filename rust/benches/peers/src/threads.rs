@@ -13,21 +13,21 @@ const SIDE: u64 = 4;
 
 pub fn all() -> Vec<Work> {
     vec![
-        work!("spsc threads, bounded(1)", None, single(Some(1), 20_000):
+        work!("spsc threads, bounded(1)", Some(0.3), single(Some(1), 20_000):
             AsyncChannel Here Flume Crossbeam Tokio),
-        work!("spsc threads, bounded(128)", Some(1.2), single(Some(128), 200_000):
+        work!("spsc threads, bounded(128)", Some(0.7), single(Some(128), 200_000):
             AsyncChannel Here Flume Crossbeam Tokio),
-        work!("spsc threads, unbounded", None, single(None, 200_000):
+        work!("spsc threads, unbounded", Some(0.8), single(None, 200_000):
             AsyncChannel Here Flume Crossbeam Tokio),
         work!("mpmc 4x4 threads, bounded(1)", None, many(Some(1), 20_000):
             AsyncChannel Here Flume Crossbeam),
-        work!("mpmc 4x4 threads, bounded(128)", Some(1.2), many(Some(128), 100_000):
+        work!("mpmc 4x4 threads, bounded(128)", Some(0.8), many(Some(128), 100_000):
             AsyncChannel Here Flume Crossbeam),
-        work!("mpmc 4x4 threads, unbounded", None, many(None, 100_000):
+        work!("mpmc 4x4 threads, unbounded", Some(0.8), many(None, 100_000):
             AsyncChannel Here Flume Crossbeam),
-        work!("spsc tasks on tokio, bounded(128)", None, single_task(Some(128)):
+        work!("spsc tasks on tokio, bounded(128)", Some(0.9), single_task(Some(128)):
             AsyncChannel Here Flume Tokio),
-        work!("mpmc 4x4 tasks on tokio, bounded(128)", None, many_tasks(Some(128)):
+        work!("mpmc 4x4 tasks on tokio, bounded(128)", Some(0.9), many_tasks(Some(128)):
             AsyncChannel Here Flume),
     ]
 }

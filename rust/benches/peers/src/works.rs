@@ -9,7 +9,7 @@ use std::time::Instant;
 
 use futures_lite::future::{block_on, zip};
 
-use crate::peers::{Async, AsyncChannel, Crossbeam, Flume, Here, Many, Peer, Tokio};
+use crate::peers::{Async, AsyncChannel, Closes, Crossbeam, Flume, Here, Many, Peer, Tokio};
 use crate::Work;
 
 /// A work and its run on each of the peers named.
@@ -40,9 +40,13 @@ pub fn all() -> Vec<Work> {
             AsyncChannel Here Flume Tokio),
         work!("a receive that waits", Some(0.7), waiting_receive():
             AsyncChannel Here Flume Tokio),
-        work!("clone and drop a sender", Some(1.2), clone_and_drop():
+        work!("a poll again with the same waker", Some(1.2), polls_again():
+            AsyncChannel Here Flume Tokio),
+        work!("clone and drop a sender", Some(1.1), clone_and_drop():
             AsyncChannel Here Flume Crossbeam Tokio),
-        work!("len", None, len(): AsyncChannel Here Flume Crossbeam),
+        work!("len", Some(1.5), len(): AsyncChannel Here Flume Crossbeam),
+        work!("is_full", Some(1.5), is_full(): AsyncChannel Here Flume Crossbeam),
+        work!("is_closed", Some(1.5), is_closed(): AsyncChannel Here),
         work!("a million through two tasks, bounded(128)", Some(1.0), two_tasks(Some(128)):
             AsyncChannel Here Flume Tokio),
         work!("a million through two tasks, unbounded", Some(1.0), two_tasks(None):
@@ -125,12 +129,38 @@ fn clone_and_drop<P: Peer>() -> f64 {
     each(start, SHORT)
 }
 
-fn len<P: Many>() -> f64 {
+/// A question on a channel of sixteen places that holds one message.
+fn question<P: Peer>(is_right: fn(&P::Rx) -> bool) -> f64 {
     let (tx, rx) = P::make(Some(16));
     assert!(P::try_send(&tx, 1));
     let start = Instant::now();
     for _ in 0..SHORT {
-        assert!(black_box(P::len(black_box(&rx))) == 1);
+        assert!(black_box(is_right(black_box(&rx))));
+    }
+    each(start, SHORT)
+}
+
+fn len<P: Many>() -> f64 {
+    question::<P>(|rx| P::len(rx) == 1)
+}
+
+fn is_full<P: Many>() -> f64 {
+    question::<P>(|rx| !P::is_full(rx))
+}
+
+fn is_closed<P: Closes>() -> f64 {
+    question::<P>(|rx| !P::is_closed(rx))
+}
+
+/// A receive that waits is polled again and again.
+fn polls_again<P: Async>() -> f64 {
+    let (_tx, mut rx) = P::make(Some(16));
+    let waker = Waker::from(Arc::new(Nobody));
+    let mut receive = pin!(P::recv_async(&mut rx));
+    assert!(!poll(receive.as_mut(), &waker));
+    let start = Instant::now();
+    for _ in 0..SHORT {
+        assert!(!poll(black_box(receive.as_mut()), &waker));
     }
     each(start, SHORT)
 }

@@ -15,29 +15,12 @@ enum Store<T> {
 ///
 /// A bounded queue has all its memory from the start, so that a push into it never asks for any. An
 /// unbounded one grows as messages come.
-///
-/// # Examples
-///
-/// ```text
-/// let mut queue = Queue::bounded(rt.alloc(), 1)?;
-/// assert_eq!(rt; queue.push(1)?, Ok(()));
-/// assert_eq!(rt; queue.push(2)?, Err(2));
-/// assert_eq!(rt; queue.pop(), Some(1));
-/// ```
 pub struct Queue<T> {
     store: Store<T>,
 }
 
 impl<T> Queue<T> {
     /// An empty queue that holds at most `cap` messages.
-    ///
-    /// # Examples
-    ///
-    /// ```text
-    /// let queue: Queue<u64> = Queue::bounded(rt.alloc(), 5)?;
-    /// assert_eq!(rt; queue.capacity(), Some(5));
-    /// assert_eq!(rt; queue.len(), 0);
-    /// ```
     #[inline]
     pub fn bounded(alloc: Global, cap: usize) -> Result<Queue<T>, OutOfMemory> {
         match HeapCircularBuffer::with_capacity(alloc, cap) {
@@ -49,14 +32,6 @@ impl<T> Queue<T> {
     }
 
     /// An empty queue without a bound. It takes no memory yet.
-    ///
-    /// # Examples
-    ///
-    /// ```text
-    /// let mut queue = Queue::unbounded(rt.alloc());
-    /// assert_eq!(rt; queue.push(1)?, Ok(()));
-    /// assert_eq!(rt; queue.capacity(), None);
-    /// ```
     #[inline]
     pub fn unbounded(alloc: Global) -> Queue<T> {
         Queue {
@@ -68,14 +43,6 @@ impl<T> Queue<T> {
     ///
     /// The outer error, with the message, says that memory was refused. It comes of an unbounded
     /// queue alone.
-    ///
-    /// # Examples
-    ///
-    /// ```text
-    /// let mut queue = Queue::bounded(rt.alloc(), 1)?;
-    /// assert_eq!(rt; queue.push(1)?, Ok(()));
-    /// assert_eq!(rt; queue.push(2)?, Err(2));
-    /// ```
     #[inline(always)]
     pub fn push(&mut self, message: T) -> Result<Result<(), T>, NoMemory<T>> {
         match &mut self.store {
@@ -91,15 +58,6 @@ impl<T> Queue<T> {
     ///
     /// The error, with the message, says that memory was refused. It comes of an unbounded queue
     /// alone.
-    ///
-    /// # Examples
-    ///
-    /// ```text
-    /// let mut queue = Queue::bounded(rt.alloc(), 1)?;
-    /// assert_eq!(rt; queue.force_push(1)?, None);
-    /// assert_eq!(rt; queue.force_push(2)?, Some(1));
-    /// assert_eq!(rt; queue.len(), 1);
-    /// ```
     #[inline]
     pub fn force_push(&mut self, message: T) -> Result<Option<T>, NoMemory<T>> {
         match &mut self.store {
@@ -112,15 +70,6 @@ impl<T> Queue<T> {
     }
 
     /// Takes the oldest message.
-    ///
-    /// # Examples
-    ///
-    /// ```text
-    /// let mut queue = Queue::unbounded(rt.alloc());
-    /// assert_eq!(rt; queue.push(1)?, Ok(()));
-    /// assert_eq!(rt; queue.pop(), Some(1));
-    /// assert_eq!(rt; queue.pop(), None);
-    /// ```
     #[inline(always)]
     pub fn pop(&mut self) -> Option<T> {
         match &mut self.store {

@@ -13,7 +13,7 @@
 //! many receives are told as messages are held, and beside such a send as many sends as places are
 //! free. An accepted message tells one more. A message that anybody takes lowers the number that is
 //! owed. Who was told and polls takes what it was told of, or finds it taken by somebody else and
-//! goes last, unnotified. Who was told and is given up hands its notice to the next one. So the
+//! goes last, untold. Who was told and is given up hands its notice to the next one. So the
 //! numbers stay right, and nobody waits for what is there. Streams are told together, since a
 //! receiver that never polls its stream again would keep a notice to itself; so a stream that
 //! leaves has none to hand on.
@@ -32,16 +32,6 @@ mod handles;
 mod polls;
 
 /// Who waits for the same.
-///
-/// # Examples
-///
-/// ```text
-/// let mut core: Core<u64, ()> = Core::unbounded(rt.alloc());
-/// let mut ticket = None;
-/// assert!(rt; core.poll_recv(&mut ticket, (), &mut Quiet)?.is_pending());
-/// assert_eq!(rt; core.waiting(Group::Receives), 1);
-/// assert_eq!(rt; core.waiting(Group::Streams), 0);
-/// ```
 #[derive(Clone, Copy, Debug, PartialEq, Eq)]
 pub enum Group {
     /// Sends wait for a free place, or the close.
@@ -55,15 +45,6 @@ pub enum Group {
 }
 
 /// What became of a wish for one more strong handle.
-///
-/// # Examples
-///
-/// ```text
-/// let mut core: Core<u64, ()> = Core::unbounded(rt.alloc());
-/// assert_eq!(rt; core.upgrade_sender(), Upgrade::Raised);
-/// core.close(&mut Quiet);
-/// assert_eq!(rt; core.upgrade_sender(), Upgrade::Closed);
-/// ```
 #[derive(Clone, Copy, Debug, PartialEq, Eq)]
 pub enum Upgrade {
     /// The count was raised by 1.
@@ -78,20 +59,7 @@ pub enum Upgrade {
 ///
 /// A payload `W` is what a waiter leaves to be told by, as a waker of its task: a call that tells
 /// somebody rings its [`Bell`] with it. The law of notices is the invariant of the type: whoever
-/// waits unnotified could not go on, or enough others were told.
-///
-/// # Examples
-///
-/// ```text
-/// let mut core: Core<u64, ()> = Core::bounded(rt.alloc(), 1)?;
-/// assert_eq!(rt; core.try_send(1, &mut Quiet)?, Ok(()));
-/// assert_eq!(rt; core.try_send(2, &mut Quiet)?, Err(TrySendError::Full(2)));
-/// assert!(rt; core.close(&mut Quiet));
-///
-/// // Nothing more goes in, and what is left comes out.
-/// assert_eq!(rt; core.try_recv(&mut Quiet), Ok(1));
-/// assert_eq!(rt; core.try_recv(&mut Quiet), Err(TryRecvError::Closed));
-/// ```
+/// waits untold could not go on, or enough others were told.
 pub struct Core<T, W> {
     // The messages that were accepted and not taken yet.
     queue: Queue<T>,
@@ -107,13 +75,6 @@ pub struct Core<T, W> {
 
 /// Half of what a `usize` can count. Where there are more handles of a kind, no further one is
 /// made.
-///
-/// # Examples
-///
-/// ```text
-/// let core: Core<u64, ()> = Core::unbounded(rt.alloc());
-/// assert!(rt; core.sender_count() <= HANDLE_LIMIT);
-/// ```
 pub const HANDLE_LIMIT: usize = usize::MAX / 2;
 
 // Closes a channel by its flag and its lists, and answers whether it was open.
@@ -132,15 +93,6 @@ impl<T, W> Core<T, W> {
     /// receiver.
     ///
     /// The capacity has to be positive. All memory for messages is taken here, or refused.
-    ///
-    /// # Examples
-    ///
-    /// ```text
-    /// let core: Core<u64, ()> = Core::bounded(rt.alloc(), 5)?;
-    /// assert_eq!(rt; core.capacity(), Some(5));
-    /// assert_eq!(rt; core.sender_count(), 1);
-    /// assert_eq!(rt; core.receiver_count(), 1);
-    /// ```
     #[inline]
     pub fn bounded(alloc: Global, cap: usize) -> Result<Core<T, W>, OutOfMemory> {
         let queue = Queue::bounded(alloc, cap)?;
@@ -148,15 +100,6 @@ impl<T, W> Core<T, W> {
     }
 
     /// An open and empty channel without a capacity, with one sender and one receiver.
-    ///
-    /// # Examples
-    ///
-    /// ```text
-    /// let core: Core<u64, ()> = Core::unbounded(rt.alloc());
-    /// assert_eq!(rt; core.capacity(), None);
-    /// assert!(rt; core.is_empty());
-    /// assert!(rt; !core.is_full());
-    /// ```
     #[inline]
     pub fn unbounded(alloc: Global) -> Core<T, W> {
         Core::over(alloc, Queue::unbounded(alloc))
@@ -195,15 +138,6 @@ impl<T, W> Core<T, W> {
     }
 
     /// Whether the channel is closed and no message is held, so that none will come.
-    ///
-    /// # Examples
-    ///
-    /// ```text
-    /// let mut core: Core<u64, ()> = Core::unbounded(rt.alloc());
-    /// assert!(rt; !core.is_terminated());
-    /// core.close(&mut Quiet);
-    /// assert!(rt; core.is_terminated());
-    /// ```
     #[inline]
     pub fn is_terminated(&self) -> bool {
         self.closed && self.is_empty()
@@ -252,21 +186,6 @@ impl<T, W> Core<T, W> {
     }
 
     /// Whether the ticket's entry is told, or nothing where it isn't in the group's list.
-    ///
-    /// # Examples
-    ///
-    /// ```text
-    /// let mut core: Core<u64, ()> = Core::unbounded(rt.alloc());
-    /// let mut ticket = None;
-    /// assert!(rt; core.poll_recv(&mut ticket, (), &mut Quiet)?.is_pending());
-    /// let ticket = ticket.ok_or("a ticket")?;
-    /// assert_eq!(rt; core.is_told(Group::Receives, &ticket), Some(false));
-    ///
-    /// assert_eq!(rt; core.try_send(1, &mut Quiet)?, Ok(()));
-    /// assert_eq!(rt; core.is_told(Group::Receives, &ticket), Some(true));
-    /// assert_eq!(rt; core.told(Group::Receives), 1);
-    /// assert_eq!(rt; core.first_told(Group::Receives), Some(ticket.key()));
-    /// ```
     #[inline]
     pub fn is_told(&self, g: Group, t: &Ticket) -> Option<bool> {
         self.lists.of(g).is_told(t)

@@ -57,44 +57,48 @@ impl<W> WaitLists<W> {
     }
 }
 
-/// The ticket's entry leaves the list, with its notice.
+/// The ticket's entry leaves the list, with its notice. The answer is the payload that it held.
 #[inline]
-pub(crate) fn leave<W>(list: &mut WaitList<W>, ticket: &mut Option<Ticket>) {
-    if let Some(ticket) = ticket.take() {
-        list.remove(ticket);
-    }
+pub(crate) fn leave<W>(list: &mut WaitList<W>, ticket: &mut Option<Ticket>) -> Option<W> {
+    list.unregister(ticket.take()?)?.into_payload()
 }
 
-/// The ticket's entry leaves the list, and a notice that it had is handed on.
+/// The ticket's entry leaves the list, and a notice that it had is handed on. The answer is the
+/// payload that it held.
 #[inline]
 pub(crate) fn hand_on<W, B: Bell<W>>(
     list: &mut WaitList<W>,
     ticket: &mut Option<Ticket>,
     bell: &mut B,
-) {
-    if let Some(ticket) = ticket.take() {
-        list.cancel(ticket, bell);
-    }
+) -> Option<W> {
+    list.withdraw(ticket.take()?, bell)
 }
 
-/// Who can't go on waits: its entry waits again, or it begins to wait.
+/// Who can't go on waits with the payload: its entry waits again, or it begins to wait. The answer
+/// is the payload that its entry held. Without a payload nothing changes.
 #[inline]
 pub(crate) fn wait<W>(
     list: &mut WaitList<W>,
     ticket: &mut Option<Ticket>,
-    w: W,
-) -> Result<(), OutOfMemory> {
+    w: &mut Option<W>,
+) -> Result<Option<W>, OutOfMemory> {
+    let Some(mut payload) = w.take() else {
+        return Ok(None);
+    };
     if let Some(ticket) = ticket {
-        if list.contains(ticket) {
-            list.again(ticket, w);
-            return Ok(());
+        match list.renew(ticket, payload) {
+            Ok(replaced) => return Ok(replaced),
+            Err(back) => payload = back,
         }
     }
-    match list.listen(w) {
+    match list.listen(payload) {
         Ok(new) => {
             *ticket = Some(new);
-            Ok(())
+            Ok(None)
         }
-        Err(NoRoom(_payload)) => Err(OutOfMemory),
+        Err(NoRoom(payload)) => {
+            *w = Some(payload);
+            Err(OutOfMemory)
+        }
     }
 }

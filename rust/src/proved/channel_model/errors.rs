@@ -8,28 +8,10 @@ use std::error::Error;
 use std::fmt;
 
 /// The channel is closed. The message comes back.
-///
-/// # Examples
-///
-/// ```text
-/// let error = SendError(7);
-/// let text = format!(in rt.alloc(); "{error}")?;
-/// assert_eq!(rt; text.as_str(), "sending into a closed channel");
-/// assert_eq!(rt; error.into_inner(), 7);
-/// ```
 #[derive(Clone, Copy, PartialEq, Eq)]
 pub struct SendError<T>(pub T);
 
 /// The message can't be sent now. It comes back.
-///
-/// # Examples
-///
-/// ```text
-/// let error = TrySendError::Full(7);
-/// assert!(rt; error.is_full());
-/// assert!(rt; !error.is_closed());
-/// assert_eq!(rt; error.into_inner(), 7);
-/// ```
 #[derive(Clone, Copy, PartialEq, Eq)]
 pub enum TrySendError<T> {
     /// The channel is full, and open.
@@ -39,24 +21,10 @@ pub enum TrySendError<T> {
 }
 
 /// The channel is empty and closed, so that no message will come.
-///
-/// # Examples
-///
-/// ```text
-/// let text = format!(in rt.alloc(); "{RecvError}")?;
-/// assert_eq!(rt; text.as_str(), "receiving from an empty and closed channel");
-/// ```
 #[derive(Clone, Copy, PartialEq, Eq)]
 pub struct RecvError;
 
 /// No message can be received now.
-///
-/// # Examples
-///
-/// ```text
-/// assert!(rt; TryRecvError::Empty.is_empty());
-/// assert!(rt; TryRecvError::Closed.is_closed());
-/// ```
 #[derive(Clone, Copy, PartialEq, Eq)]
 pub enum TryRecvError {
     /// The channel is empty, and open.
@@ -66,36 +34,14 @@ pub enum TryRecvError {
 }
 
 /// Memory was refused.
-///
-/// # Examples
-///
-/// ```text
-/// let text = format!(in rt.alloc(); "{OutOfMemory}")?;
-/// assert_eq!(rt; text.as_str(), "out of memory");
-/// ```
 #[derive(Clone, Copy, PartialEq, Eq)]
 pub struct OutOfMemory;
 
 /// Memory was refused. The message comes back.
-///
-/// # Examples
-///
-/// ```text
-/// let NoMemory(message) = NoMemory(7);
-/// assert_eq!(rt; message, 7);
-/// ```
 #[derive(Clone, Copy, PartialEq, Eq)]
 pub struct NoMemory<T>(pub T);
 
 /// A channel was not made.
-///
-/// # Examples
-///
-/// ```text
-/// let error = MakeError::NoStamps;
-/// let text = format!(in rt.alloc(); "{error}")?;
-/// assert_eq!(rt; text.as_str(), "no stamp is left");
-/// ```
 #[derive(Clone, Copy, PartialEq, Eq)]
 pub enum MakeError {
     /// Memory was refused.
@@ -105,14 +51,6 @@ pub enum MakeError {
 }
 
 /// A handle was not copied or upgraded.
-///
-/// # Examples
-///
-/// ```text
-/// let error = CloneError::TooMany;
-/// let text = format!(in rt.alloc(); "{error}")?;
-/// assert_eq!(rt; text.as_str(), "too many handles");
-/// ```
 #[derive(Clone, Copy, PartialEq, Eq)]
 pub enum CloneError {
     /// There are more handles of its kind than half of what a `usize` can count.

@@ -1,6 +1,5 @@
 // Taken out of crates/channel_model/src/lib.rt by tools/erase. Change that file, not this one.
-//! What the past of a channel decides: its steps and replies, and the laws that hold after every
-//! past.
+//! What a channel's past decides: replies, what is shown, and laws that hold after every past.
 //!
 //! A past is the list of the steps that were made on a channel, each with its reply. The
 //! definitions say what it decides: the reply that is due to a step, what is held, who is live, who
@@ -8,10 +7,9 @@
 //! to agree with them in the crates above. [`laws`] has what holds after every past that can come
 //! about.
 
-mod errors;
 mod step;
 
-pub use errors::{
+pub use crate::errors::{
     CloneError, MakeError, NoMemory, OutOfMemory, RecvError, SendError, TryRecvError, TrySendError,
 };
 pub use step::{Kind, Notice, Refusal, Reply, Side, Step, Who};

@@ -4,18 +4,10 @@
 //! One step is one call on the channel's whole state, made while nobody else makes one. So a list
 //! of steps is any way in which the calls of any number of parties follow one another.
 
-use crate::proved::channel_model::errors::{RecvError, SendError, TryRecvError, TrySendError};
+use crate::errors::{RecvError, SendError, TryRecvError, TrySendError};
 use std::task::Poll;
 
 /// How many messages a channel may hold.
-///
-/// # Examples
-///
-/// ```text
-/// let mut run: Run<u64> = Run::new(rt.alloc(), Kind::Bounded(5))?;
-/// let capacity = run.step(Step::Capacity(Side::Sender(0)));
-/// assert_eq!(rt; capacity, Reply::Capacity(Some(5)));
-/// ```
 #[derive(Clone, Copy, Debug, PartialEq, Eq)]
 pub enum Kind {
     /// This many at the most. The number is positive.
@@ -25,15 +17,6 @@ pub enum Kind {
 }
 
 /// The handle by which a channel is closed, or a question is put to it.
-///
-/// # Examples
-///
-/// ```text
-/// let mut run: Run<u64> = Run::new(rt.alloc(), Kind::Unbounded)?;
-/// assert_eq!(rt; run.step(Step::Close(Side::Receiver(0))), Reply::Flag(true));
-/// let reply = run.step(Step::IsClosed(Side::Sender(0)));
-/// assert_eq!(rt; reply, Reply::Flag(true));
-/// ```
 #[derive(Clone, Copy, Debug, PartialEq, Eq)]
 pub enum Side {
     /// The sender of this name.
@@ -43,15 +26,6 @@ pub enum Side {
 }
 
 /// Who may wait on a channel.
-///
-/// # Examples
-///
-/// ```text
-/// let mut run: Run<u64> = Run::new(rt.alloc(), Kind::Unbounded)?;
-/// run.step(Step::PollNext(0));
-/// assert_eq!(rt; run.notice_of(Who::Receiver(0)), Notice::Untold);
-/// assert_eq!(rt; run.notice_of(Who::Op(0)), Notice::Absent);
-/// ```
 #[derive(Clone, Copy, Debug, PartialEq, Eq)]
 pub enum Who {
     /// The operation of this name: a send, a receive or a closed operation.
@@ -60,19 +34,18 @@ pub enum Who {
     Receiver(u64),
 }
 
+impl Who {
+    /// The poll of who waits.
+    #[inline]
+    pub fn poll<T>(self) -> Step<T> {
+        match self {
+            Who::Op(op) => Step::Poll(op),
+            Who::Receiver(receiver) => Step::PollNext(receiver),
+        }
+    }
+}
+
 /// Whether somebody waits, and was told to try again.
-///
-/// # Examples
-///
-/// ```text
-/// let mut run: Run<u64> = Run::new(rt.alloc(), Kind::Unbounded)?;
-/// run.step(Step::StartRecv { op: 0, receiver: 0 });
-/// assert_eq!(rt; run.notice_of(Who::Op(0)), Notice::Absent);
-/// run.step(Step::Poll(0));
-/// assert_eq!(rt; run.notice_of(Who::Op(0)), Notice::Untold);
-/// run.step(Step::TrySend(0, 1));
-/// assert_eq!(rt; run.notice_of(Who::Op(0)), Notice::Told);
-/// ```
 #[derive(Clone, Copy, Debug, PartialEq, Eq)]
 pub enum Notice {
     /// Nobody of this name waits.
@@ -84,14 +57,6 @@ pub enum Notice {
 }
 
 /// Why a step wasn't made. Where several apply, the first of them is answered.
-///
-/// # Examples
-///
-/// ```text
-/// let mut run: Run<u64> = Run::new(rt.alloc(), Kind::Unbounded)?;
-/// let reply = run.step(Step::TrySend(1, 7));
-/// assert_eq!(rt; reply, Reply::Refused(Refusal::Unknown, Some(7)));
-/// ```
 #[derive(Clone, Copy, Debug, PartialEq, Eq)]
 pub enum Refusal {
     /// No handle or operation of this name is live.
@@ -110,16 +75,7 @@ pub enum Refusal {
 /// One step by any party. Names lie in five spaces: senders, receivers, weak senders, weak
 /// receivers, operations. A new channel has sender 0 and receiver 0. The name of what was given up
 /// may be used again.
-///
-/// # Examples
-///
-/// ```text
-/// let mut run: Run<u64> = Run::new(rt.alloc(), Kind::Bounded(1))?;
-/// assert_eq!(rt; run.step(Step::TrySend(0, 7)), Reply::TrySent(Ok(())));
-/// assert_eq!(rt; run.step(Step::Len(Side::Sender(0))), Reply::Count(1));
-/// assert_eq!(rt; run.step(Step::TryRecv(0)), Reply::Received(Ok(7)));
-/// ```
-#[derive(Debug, PartialEq, Eq)]
+#[derive(Clone, Copy, Debug, PartialEq, Eq)]
 pub enum Step<T> {
     /// A sender sends a message, if the channel is open and not full.
     TrySend(u64, T),
@@ -186,14 +142,6 @@ pub enum Step<T> {
 }
 
 /// What a step answers.
-///
-/// # Examples
-///
-/// ```text
-/// let mut run: Run<u64> = Run::new(rt.alloc(), Kind::Bounded(1))?;
-/// assert_eq!(rt; run.step(Step::ForceSend(0, 7)), Reply::Forced(Ok(None)));
-/// assert_eq!(rt; run.step(Step::ForceSend(0, 8)), Reply::Forced(Ok(Some(7))));
-/// ```
 #[derive(Debug, PartialEq, Eq)]
 pub enum Reply<T> {
     /// To `TrySend`: the message went in, or comes back.
@@ -227,17 +175,32 @@ pub enum Reply<T> {
 
 impl<T> Reply<T> {
     /// Whether memory was refused. Nothing has changed then, and the same step may be made again.
-    ///
-    /// # Examples
-    ///
-    /// ```text
-    /// let mut run: Run<u64> = Run::new(rt.alloc(), Kind::Bounded(1))?;
-    /// assert!(rt; !run.step(Step::TrySend(1, 7)).wants_memory());
-    /// let refused: Reply<u64> = Reply::Refused(Refusal::OutOfMemory, Some(7));
-    /// assert!(rt; refused.wants_memory());
-    /// ```
     #[inline]
     pub fn wants_memory(&self) -> bool {
         matches!(self, Reply::Refused(Refusal::OutOfMemory, _))
+    }
+
+    /// Whether this answers a poll that was ready.
+    #[inline]
+    pub fn is_ready(&self) -> bool {
+        match self {
+            Reply::SendPolled(poll) => poll.is_ready(),
+            Reply::RecvPolled(poll) => poll.is_ready(),
+            Reply::ClosedPolled(poll) => poll.is_ready(),
+            Reply::NextPolled(poll) => poll.is_ready(),
+            _ => false,
+        }
+    }
+
+    /// Whether this answers a poll that was pending.
+    #[inline]
+    pub fn is_pending(&self) -> bool {
+        match self {
+            Reply::SendPolled(poll) => poll.is_pending(),
+            Reply::RecvPolled(poll) => poll.is_pending(),
+            Reply::ClosedPolled(poll) => poll.is_pending(),
+            Reply::NextPolled(poll) => poll.is_pending(),
+            _ => false,
+        }
     }
 }

@@ -60,7 +60,7 @@ pub(crate) fn put<V>(entries: &mut BTreeMap<u64, V>, name: u64, value: V) -> Res
 /// Takes out what stands under a name.
 #[inline]
 pub(crate) fn take<V>(entries: &mut BTreeMap<u64, V>, name: u64) -> Option<V> {
-    // its contract says that the names are different
+    // proof: the call promises that the names are different
     let _count = entries.len();
     entries.remove(&name)
 }

@@ -122,7 +122,7 @@ impl<T> Operations<T> {
     /// Takes out the operation of a name.
     #[inline]
     pub(crate) fn take(&mut self, op: u64) -> Option<Operation<T>> {
-        // its contract says that the names are different
+        // proof: the call promises that the names are different
         let _count = self.by_name.len();
         let operation = self.by_name.remove(&op)?;
         self.discount(&operation);
@@ -132,7 +132,7 @@ impl<T> Operations<T> {
     // Counts what one more operation borrows.
     #[inline]
     fn count(&mut self, operation: &Operation<T>) -> Result<(), OutOfMemory> {
-        // no count is above the number of operations, so it can be raised
+        // proof: no count is above the number of operations, so that it can be raised
         let _count = self.by_name.len();
         match operation {
             Operation::Send { sender, .. } => self.by_sender.raise(*sender),

@@ -39,17 +39,6 @@ use crate::shim::BTreeMap;
 /// A step by any party is made whole, while nobody else makes one. So what a list of steps does to
 /// a run is what the parties' calls do to a channel, in any way in which they may follow one
 /// another.
-///
-/// # Examples
-///
-/// ```text
-/// let mut run = Run::new(rt.alloc(), Kind::Unbounded)?;
-/// run.step(Step::StartRecv { op: 0, receiver: 0 });
-/// assert_eq!(rt; run.step(Step::Poll(0)), Reply::RecvPolled(Poll::Pending));
-/// assert_eq!(rt; run.step(Step::TrySend(0, 7)), Reply::TrySent(Ok(())));
-/// let reply = run.step(Step::Poll(0));
-/// assert_eq!(rt; reply, Reply::RecvPolled(Poll::Ready(Ok(7))));
-/// ```
 pub struct Run<T> {
     // where the memory of names and operations comes from
     alloc: Global,
@@ -69,14 +58,6 @@ impl<T> Run<T> {
     /// A run of a new channel.
     ///
     /// A bounded channel's capacity has to be positive. Where memory is refused there is no run.
-    ///
-    /// # Examples
-    ///
-    /// ```text
-    /// let mut run: Run<u64> = Run::new(rt.alloc(), Kind::Bounded(1))?;
-    /// let senders = run.step(Step::SenderCount(Side::Receiver(0)));
-    /// assert_eq!(rt; senders, Reply::Count(1));
-    /// ```
     #[inline]
     pub fn new(alloc: Global, kind: Kind) -> Result<Run<T>, OutOfMemory> {
         let core = match kind {
@@ -103,30 +84,12 @@ impl<T> Run<T> {
     /// Makes a step, or refuses it.
     ///
     /// A refused step changes nothing, and hands the message back that it brought.
-    ///
-    /// # Examples
-    ///
-    /// ```text
-    /// let mut run = Run::new(rt.alloc(), Kind::Unbounded)?;
-    /// assert_eq!(rt; run.step(Step::TrySend(0, 7)), Reply::TrySent(Ok(())));
-    /// let reply = run.step(Step::TrySend(1, 8));
-    /// assert_eq!(rt; reply, Reply::Refused(Refusal::Unknown, Some(8)));
-    /// ```
     #[inline]
     pub fn step(&mut self, step: Step<T>) -> Reply<T> {
         self.make(step)
     }
 
     /// Whether somebody waits, and was told. Who has no live name doesn't wait.
-    ///
-    /// # Examples
-    ///
-    /// ```text
-    /// let mut run: Run<u64> = Run::new(rt.alloc(), Kind::Unbounded)?;
-    /// run.step(Step::PollNext(0));
-    /// assert_eq!(rt; run.notice_of(Who::Receiver(0)), Notice::Untold);
-    /// assert_eq!(rt; run.notice_of(Who::Op(0)), Notice::Absent);
-    /// ```
     #[inline]
     pub fn notice_of(&self, who: Who) -> Notice {
         match who {
@@ -216,15 +179,6 @@ fn notice<T>(core: &Core<T, ()>, group: Group, ticket: &Option<Ticket>) -> Notic
 }
 
 /// What a list of steps came to.
-///
-/// # Examples
-///
-/// ```text
-/// let steps = vec![in rt.alloc(); Step::TrySend(0, 7)]?;
-/// let mut end = run_all(rt.alloc(), Kind::Unbounded, steps).map_err(|_| "no room")?;
-/// assert_eq!(rt; end.replies.as_slice(), [Reply::TrySent(Ok(()))].as_slice());
-/// assert_eq!(rt; end.run.step(Step::TryRecv(0)), Reply::Received(Ok(7)));
-/// ```
 pub struct End<T> {
     /// One reply a step, in order.
     pub replies: Vec<Reply<T>>,
@@ -233,29 +187,11 @@ pub struct End<T> {
 }
 
 /// Memory was refused before the first step. The steps come back.
-///
-/// # Examples
-///
-/// ```text
-/// let steps = vec![in rt.alloc(); Step::TrySend(0, 7)]?;
-/// let RunError(steps) = RunError(steps);
-/// assert_eq!(rt; steps.len(), 1);
-/// ```
 pub struct RunError<T>(pub Vec<Step<T>>);
 
 /// Makes the steps in turn, in a run of a new channel.
 ///
 /// A bounded channel's capacity has to be positive. Room for the replies is taken first.
-///
-/// # Examples
-///
-/// ```text
-/// let steps = vec![in rt.alloc(); Step::TrySend(0, 7), Step::TrySend(0, 8)]?;
-/// let end = run_all(rt.alloc(), Kind::Bounded(1), steps).map_err(|_| "no room")?;
-/// let full = Err(TrySendError::Full(8));
-/// let replies = [Reply::TrySent(Ok(())), Reply::TrySent(full)];
-/// assert_eq!(rt; end.replies.as_slice(), replies.as_slice());
-/// ```
 #[inline]
 pub fn run_all<T>(
     alloc: Global,

@@ -7,15 +7,6 @@ use crate::proved::channel_run::run::Run;
 use crate::proved::channel_model::{OutOfMemory, Reply, Who};
 
 /// What settling a run came to.
-///
-/// # Examples
-///
-/// ```text
-/// let mut run: Run<u64> = Run::new(rt.alloc(), Kind::Unbounded)?;
-/// let settled = run.settle()?;
-/// assert_eq!(rt; settled.polls, 0);
-/// assert!(rt; settled.finished.is_empty());
-/// ```
 pub struct Settled<T> {
     /// How many polls were made.
     pub polls: u128,
@@ -34,20 +25,6 @@ impl<T> Run<T> {
     /// Memory has to be had before the first poll alone, for as many replies as there are waiting
     /// entries. A settling of several polls asks for more later on, which only speeds it up and may
     /// be refused without a trace.
-    ///
-    /// # Examples
-    ///
-    /// ```text
-    /// let mut run = Run::new(rt.alloc(), Kind::Unbounded)?;
-    /// run.step(Step::StartRecv { op: 0, receiver: 0 });
-    /// run.step(Step::Poll(0));
-    /// run.step(Step::TrySend(0, 7));
-    ///
-    /// let settled = run.settle()?;
-    /// let received = (Who::Op(0), Reply::RecvPolled(Poll::Ready(Ok(7))));
-    /// assert_eq!(rt; settled.polls, 1);
-    /// assert_eq!(rt; settled.finished.as_slice(), [received].as_slice());
-    /// ```
     #[inline]
     pub fn settle(&mut self) -> Result<Settled<T>, OutOfMemory> {
         let mut finished = self.room_for_replies()?;
@@ -74,22 +51,10 @@ impl<T> Run<T> {
 // Keeps the reply to a poll, if it was ready.
 #[inline]
 fn keep_ready<T>(finished: &mut Vec<(Who, Reply<T>)>, who: Who, reply: Reply<T>) {
-    if is_ready(&reply) {
+    if reply.is_ready() {
         match finished.push((who, reply)) {
             Ok(()) => {}
             Err(_) => unreachable!(),
         }
-    }
-}
-
-// Whether a poll was answered ready.
-#[inline]
-fn is_ready<T>(reply: &Reply<T>) -> bool {
-    match reply {
-        Reply::SendPolled(poll) => poll.is_ready(),
-        Reply::RecvPolled(poll) => poll.is_ready(),
-        Reply::ClosedPolled(poll) => poll.is_ready(),
-        Reply::NextPolled(poll) => poll.is_ready(),
-        _ => false,
     }
 }

@@ -5,7 +5,7 @@ use crate::proved::event_list::entries::{Entries, Entry, EntryState};
 use crate::proved::event_list::list::steps::Lookups;
 use crate::shim::Ledger;
 
-/// The keys of the first entry, of the last, and of the first unnotified one.
+/// The keys of the first entry, of the last, and of the first untold one.
 #[derive(Clone, Copy)]
 pub struct Ends {
     /// The key of the entry that has waited longest.
@@ -31,7 +31,7 @@ impl Ends {
         }
     }
 
-    /// The ends, once a new unnotified entry has come last.
+    /// The ends, once a new untold entry has come last.
     #[inline]
     fn with(self, key: usize) -> Ends {
         Ends {
@@ -42,22 +42,22 @@ impl Ends {
     }
 
     /// Takes an entry out, and lets its neighbours name one another. The answer is whether it was
-    /// told, if it was there.
+    /// told, or its payload, if it was there.
     #[inline]
     pub fn take_out<W, L: Ledger>(
         &mut self,
         entries: &mut Entries<W>,
         key: usize,
         lookups: &mut Lookups<L>,
-    ) -> Option<bool> {
+    ) -> Option<EntryState<W>> {
         let entry = entries.remove(key, lookups)?;
         entries.set_behind(entry.before, entry.behind, lookups);
         entries.set_before(entry.behind, entry.before, lookups);
         *self = self.without(key, entry.before, entry.behind);
-        Some(entry.notice.is_told())
+        Some(entry.notice)
     }
 
-    /// Puts a new unnotified entry behind the last one. The answer is its key.
+    /// Puts a new untold entry behind the last one. The answer is its key.
     #[inline]
     pub fn put_last<W, L: Ledger>(
         &mut self,

@@ -8,16 +8,28 @@ use crate::shim::Ledger;
 
 /// Whether an entry is told, and its payload where it isn't.
 pub enum EntryState<W> {
+    /// The bell was rung with the payload.
     Told,
+    /// The payload is there still.
     Untold(W),
 }
 
 impl<W> EntryState<W> {
+    /// Whether the entry is told.
     #[inline]
     pub fn is_told(&self) -> bool {
         match self {
             EntryState::Told => true,
             EntryState::Untold(_) => false,
+        }
+    }
+
+    /// The payload of an untold entry.
+    #[inline]
+    pub fn into_payload(self) -> Option<W> {
+        match self {
+            EntryState::Told => None,
+            EntryState::Untold(payload) => Some(payload),
         }
     }
 }
@@ -57,7 +69,7 @@ impl<W> Entries<W> {
     pub fn insert<L: Ledger>(&mut self, entry: Entry<W>, lookups: &mut Lookups<L>) -> usize {
         lookups.raise();
         let key = self.slab.insert_reserved(entry);
-        // The slab's number of entries is a `usize`, which the clause `fits` hands on.
+        // proof: the slab's number of entries is a `usize`, which the clause `fits` hands on
         let _len = self.slab.len();
         key
     }
@@ -103,16 +115,20 @@ impl<W> Entries<W> {
         }
     }
 
-    /// Makes an entry an unnotified one with this payload.
+    /// Makes an entry an untold one with this payload. The answer is the payload that it had.
     #[inline]
-    pub fn set_payload<L: Ledger>(&mut self, key: usize, payload: W, lookups: &mut Lookups<L>) {
+    pub fn set_payload<L: Ledger>(
+        &mut self,
+        key: usize,
+        payload: W,
+        lookups: &mut Lookups<L>,
+    ) -> Option<W> {
         lookups.raise();
-        if let Some(entry) = self.slab.get_mut(key) {
-            entry.notice = EntryState::Untold(payload);
-        }
+        let entry = self.slab.get_mut(key)?;
+        std::mem::replace(&mut entry.notice, EntryState::Untold(payload)).into_payload()
     }
 
-    /// Tells an entry. The answer is its payload, where it was unnotified, and its neighbour
+    /// Tells an entry. The answer is its payload, where it was untold, and its neighbour
     /// behind.
     #[inline]
     pub fn tell<L: Ledger>(

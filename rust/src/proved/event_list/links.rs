@@ -1,7 +1,7 @@
 // Taken out of crates/event_list/src/links.rt by tools/erase. Change that file, not this one.
 //! The entries of a waiting list with what is kept beside them, and all work on them.
 //!
-//! A new entry goes behind the last one, unnotified. Those told are the front of the list, and
+//! A new entry goes behind the last one, untold. Those told are the front of the list, and
 //! `cursor` is the first behind them: to tell one is to tell the entry at the cursor and to move
 //! the cursor to its neighbour behind. An entry leaves by letting its neighbours name one another,
 //! and an end or the cursor that named it names its neighbour. Who waits again leaves and comes
@@ -12,7 +12,7 @@
 
 use crate::proved::event_list::bell::Bell;
 use crate::proved::event_list::ends::Ends;
-use crate::proved::event_list::entries::Entries;
+use crate::proved::event_list::entries::{Entries, EntryState};
 use crate::proved::event_list::list::NoRoom;
 use crate::proved::event_list::list::steps::Lookups;
 use crate::proved::event_list::ticket::Ticket;
@@ -23,7 +23,7 @@ use crate::shim::Ledger;
 pub(crate) struct Links<W> {
     // Each with the keys of its neighbours.
     entries: Entries<W>,
-    // The keys of the first one, of the last, and of the first unnotified one.
+    // The keys of the first one, of the last, and of the first untold one.
     ends: Ends,
     // How many entries there are.
     len: usize,
@@ -47,7 +47,7 @@ impl<W> Links<W> {
         }
     }
 
-    /// A new entry goes last, unnotified, under a key that isn't in the list. At most 6 look-ups.
+    /// A new entry goes last, untold, under a key that isn't in the list. At most 6 look-ups.
     #[inline]
     pub(crate) fn listen<L: Ledger>(
         &mut self,
@@ -62,23 +62,27 @@ impl<W> Links<W> {
         Ok(Ticket { key })
     }
 
-    /// The entry waits again with this payload. At most 6 look-ups.
+    /// The entry waits again with this payload, and gives the one that it had. At most 6 look-ups.
     #[inline]
-    pub(crate) fn again<L: Ledger>(&mut self, t: &Ticket, w: W, lookups: &mut Lookups<L>) -> bool {
+    pub(crate) fn renew<L: Ledger>(
+        &mut self,
+        t: &Ticket,
+        w: W,
+        lookups: &mut Lookups<L>,
+    ) -> Result<Option<W>, W> {
         let Some(was_told) = self.entries.is_told(t.key, lookups) else {
-            return false;
+            return Err(w);
         };
         if !was_told {
-            self.entries.set_payload(t.key, w, lookups);
-            return true;
+            return Ok(self.entries.set_payload(t.key, w, lookups));
         }
         self.ends.take_out(&mut self.entries, t.key, lookups);
         self.ends.put_last(&mut self.entries, w, lookups);
         self.told -= 1;
-        true
+        Ok(None)
     }
 
-    /// Tells the longest waiting unnotified entry. At most one look-up.
+    /// Tells the longest waiting untold entry. At most one look-up.
     #[inline]
     pub(crate) fn tell_one<B: Bell<W>, L: Ledger>(
         &mut self,
@@ -97,7 +101,7 @@ impl<W> Links<W> {
         true
     }
 
-    /// Tells every unnotified entry. At most one look-up for each.
+    /// Tells every untold entry. At most one look-up for each.
     #[inline]
     pub(crate) fn tell_all<B: Bell<W>, L: Ledger>(
         &mut self,
@@ -111,28 +115,35 @@ impl<W> Links<W> {
         untold
     }
 
-    /// The entry leaves. At most 6 look-ups.
+    /// The entry leaves, and is the answer. At most 6 look-ups.
     #[inline]
-    pub(crate) fn remove<L: Ledger>(&mut self, t: Ticket, lookups: &mut Lookups<L>) -> Option<bool> {
-        let was_told = self.ends.take_out(&mut self.entries, t.key, lookups)?;
+    pub(crate) fn unregister<L: Ledger>(
+        &mut self,
+        t: Ticket,
+        lookups: &mut Lookups<L>,
+    ) -> Option<EntryState<W>> {
+        let entry = self.ends.take_out(&mut self.entries, t.key, lookups)?;
         self.len -= 1;
-        if was_told {
+        if entry.is_told() {
             self.told -= 1;
         }
-        Some(was_told)
+        Some(entry)
     }
 
-    /// The entry leaves, and where it was told, one is told in its place. At most 12 look-ups.
+    /// The entry leaves, and where it was told, one is told in its place. The answer is the payload
+    /// of one that was untold. At most 12 look-ups.
     #[inline]
-    pub(crate) fn cancel<B: Bell<W>, L: Ledger>(
+    pub(crate) fn withdraw<B: Bell<W>, L: Ledger>(
         &mut self,
         t: Ticket,
         bell: &mut B,
         lookups: &mut Lookups<L>,
-    ) {
-        if self.remove(t, lookups) == Some(true) {
+    ) -> Option<W> {
+        let entry = self.unregister(t, lookups)?;
+        if entry.is_told() {
             self.tell_one(bell, lookups);
         }
+        entry.into_payload()
     }
 
     /// Whether the ticket's entry is told, or nothing where it isn't in the list. One look-up.
@@ -141,7 +152,7 @@ impl<W> Links<W> {
         self.entries.is_told(t.key, lookups)
     }
 
-    /// Whether somebody is unnotified.
+    /// Whether somebody is untold.
     #[inline(always)]
     pub(crate) fn has_untold(&self) -> bool {
         self.ends.cursor.is_some()

@@ -6,7 +6,7 @@
 //! of the first entry that isn't told.
 //!
 //! ```text
-//! told  <->  told  <->  unnotified  <->  unnotified
+//! told  <->  told  <->  untold  <->  untold
 //! first                 cursor           last
 //! ```
 //!
@@ -14,7 +14,7 @@
 //! to its neighbour behind; to tell all is to do this until the cursor is past the last one. Who is
 //! new goes behind the last one. Who leaves lets its neighbours name one another, and a key that
 //! named it names a neighbour. Who waits again after a notice leaves and goes last, under its old
-//! key; who waits again unnotified keeps its place, with a new payload. So no call walks along the
+//! key; who waits again untold keeps its place, with a new payload. So no call walks along the
 //! list, and the told front stays in one piece.
 //!
 //! A counted call hands the ledger that it is given to the call of the same name of `links`, where
@@ -23,6 +23,7 @@
 pub(crate) mod steps;
 
 use crate::proved::event_list::bell::Bell;
+use crate::proved::event_list::entries::EntryState;
 use crate::proved::event_list::links::Links;
 use crate::proved::event_list::ticket::Ticket;
 use crate::shim::Global;
@@ -31,13 +32,6 @@ use crate::shim::{Blank, Ledger};
 use steps::Steps;
 
 /// There was no memory for another entry. It hands the payload back.
-///
-/// # Examples
-///
-/// ```text
-/// let NoRoom(payload) = NoRoom(10);
-/// assert_eq!(rt; payload, 10);
-/// ```
 pub struct NoRoom<W>(pub W);
 
 /// Those who wait, in order of arrival; the first of them are told.
@@ -48,21 +42,8 @@ pub struct NoRoom<W>(pub W);
 /// names, which run them on a ledger of their own. Each counts on the ledger that it is handed, at
 /// most that number and at least one where it reaches an entry.
 ///
-/// # Examples
-///
-/// ```text
-/// let mut list = WaitList::new(rt.alloc());
-/// let mut bell = Last(None);
-/// let first = list.listen(10).map_err(|_| "no room")?;
-/// let second = list.listen(11).map_err(|_| "no room")?;
-/// list.tell_one(&mut bell);
-/// assert_eq!(rt; bell.0, Some(10));
-///
-/// // The notice goes on.
-/// list.cancel(first, &mut bell);
-/// assert_eq!(rt; bell.0, Some(11));
-/// assert_eq!(rt; list.is_told(&second), Some(true));
-/// ```
+/// `renew`, `unregister` and `withdraw` are `again`, `remove` and `cancel` that give back the payload
+/// which these drop: for payloads whose drop runs a caller's code, as that of a waker does.
 pub struct WaitList<W> {
     // The entries, and all work on them.
     links: Links<W>,
@@ -70,14 +51,6 @@ pub struct WaitList<W> {
 
 impl<W> WaitList<W> {
     /// A list where nobody waits. It takes no memory.
-    ///
-    /// # Examples
-    ///
-    /// ```text
-    /// let list: WaitList<u64> = WaitList::new(rt.alloc());
-    /// assert_eq!(rt; list.len(), 0);
-    /// assert_eq!(rt; list.told(), 0);
-    /// ```
     #[inline]
     pub fn new(alloc: Global) -> Self {
         WaitList {
@@ -85,57 +58,19 @@ impl<W> WaitList<W> {
         }
     }
 
-    /// A new entry goes last, unnotified, under a key that isn't in the list.
-    ///
-    /// # Examples
-    ///
-    /// ```text
-    /// let mut list = WaitList::new(rt.alloc());
-    /// let ticket = list.listen(10).map_err(|_| "no room")?;
-    /// assert!(rt; list.contains(&ticket));
-    /// assert_eq!(rt; list.is_told(&ticket), Some(false));
-    /// ```
+    /// A new entry goes last, untold, under a key that isn't in the list.
     #[inline]
     pub fn listen(&mut self, w: W) -> Result<Ticket, NoRoom<W>> {
         self.listen_from::<Brand>(w, Blank::new(1))
     }
 
     /// The entry waits again with this payload. The answer is whether it is in the list.
-    ///
-    /// # Examples
-    ///
-    /// ```text
-    /// let mut list = WaitList::new(rt.alloc());
-    /// let mut bell = Last(None);
-    /// let first = list.listen(10).map_err(|_| "no room")?;
-    /// let second = list.listen(11).map_err(|_| "no room")?;
-    /// list.tell_one(&mut bell);
-    ///
-    /// // It was told, so it goes behind the second one.
-    /// assert!(rt; list.again(&first, 12));
-    /// list.tell_one(&mut bell);
-    /// assert_eq!(rt; bell.0, Some(11));
-    /// assert_eq!(rt; list.is_told(&second), Some(true));
-    /// ```
     #[inline]
     pub fn again(&mut self, t: &Ticket, w: W) -> bool {
         self.again_from::<Brand>(t, w, Blank::new(1))
     }
 
-    /// Tells the longest waiting unnotified entry. The answer is whether there was one.
-    ///
-    /// # Examples
-    ///
-    /// ```text
-    /// let mut list = WaitList::new(rt.alloc());
-    /// let mut bell = Last(None);
-    /// assert!(rt; !list.tell_one(&mut bell));
-    ///
-    /// let first = list.listen(10).map_err(|_| "no room")?;
-    /// assert!(rt; list.tell_one(&mut bell));
-    /// assert_eq!(rt; bell.0, Some(10));
-    /// assert_eq!(rt; list.first_told(), Some(first.key()));
-    /// ```
+    /// Tells the longest waiting untold entry. The answer is whether there was one.
     #[inline(always)]
     pub fn tell_one<B: Bell<W>>(&mut self, bell: &mut B) -> bool {
         if !self.links.has_untold() {
@@ -144,20 +79,7 @@ impl<W> WaitList<W> {
         self.tell_one_from::<B, Brand>(bell, Blank::new(1))
     }
 
-    /// Tells every unnotified entry, and answers how many there were.
-    ///
-    /// # Examples
-    ///
-    /// ```text
-    /// let mut list = WaitList::new(rt.alloc());
-    /// let mut bell = Last(None);
-    /// for payload in [10, 11] {
-    ///     list.listen(payload).map_err(|_| "no room")?;
-    /// }
-    /// assert_eq!(rt; list.tell_all(&mut bell), 2);
-    /// assert_eq!(rt; bell.0, Some(11));
-    /// assert_eq!(rt; list.told(), 2);
-    /// ```
+    /// Tells every untold entry, and answers how many there were.
     #[inline(always)]
     pub fn tell_all<B: Bell<W>>(&mut self, bell: &mut B) -> usize {
         if !self.links.has_untold() {
@@ -167,55 +89,37 @@ impl<W> WaitList<W> {
     }
 
     /// The entry leaves. The answer is whether it was told, or nothing where it isn't in the list.
-    ///
-    /// # Examples
-    ///
-    /// ```text
-    /// let mut list = WaitList::new(rt.alloc());
-    /// let ticket = list.listen(10).map_err(|_| "no room")?;
-    /// list.tell_one(&mut Quiet);
-    /// assert_eq!(rt; list.remove(ticket), Some(true));
-    /// assert_eq!(rt; list.len(), 0);
-    /// ```
     #[inline]
     pub fn remove(&mut self, t: Ticket) -> Option<bool> {
         self.remove_from::<Brand>(t, Blank::new(1))
     }
 
     /// The entry leaves, and where it was told, one is told in its place.
-    ///
-    /// # Examples
-    ///
-    /// ```text
-    /// let mut list = WaitList::new(rt.alloc());
-    /// let mut bell = Last(None);
-    /// let first = list.listen(10).map_err(|_| "no room")?;
-    /// list.listen(11).map_err(|_| "no room")?;
-    /// list.tell_one(&mut bell);
-    /// list.cancel(first, &mut bell);
-    /// assert_eq!(rt; bell.0, Some(11));
-    /// ```
     #[inline]
     pub fn cancel<B: Bell<W>>(&mut self, t: Ticket, bell: &mut B) {
         self.cancel_from::<B, Brand>(t, bell, Blank::new(1));
     }
 
+    /// `again`, which gives the payload that an untold entry had. Where the entry isn't in the list,
+    /// `w` comes back.
+    #[inline]
+    pub fn renew(&mut self, t: &Ticket, w: W) -> Result<Option<W>, W> {
+        self.renew_from::<Brand>(t, w, Blank::new(1))
+    }
+
+    /// `remove`, which gives the entry: told, or untold with its payload.
+    #[inline]
+    pub fn unregister(&mut self, t: Ticket) -> Option<EntryState<W>> {
+        self.unregister_from::<Brand>(t, Blank::new(1))
+    }
+
+    /// `cancel`, which gives the payload of an untold entry.
+    #[inline]
+    pub fn withdraw<B: Bell<W>>(&mut self, t: Ticket, bell: &mut B) -> Option<W> {
+        self.withdraw_from::<B, Brand>(t, bell, Blank::new(1))
+    }
+
     /// `listen`, which counts its look-ups: at most 6.
-    ///
-    /// # Examples
-    ///
-    /// ```text
-    /// fn is_told_at_last<L: Ledger>(alloc: Global, steps: &mut Steps<L>) -> Option<bool> {
-    ///     let mut list = WaitList::new(alloc);
-    ///     let first = list.listen_counted(10, steps).ok()?;
-    ///     let second = list.listen_counted(11, steps).ok()?;
-    ///     list.tell_one_counted(&mut Quiet, steps);
-    ///     list.again_counted(&first, 12, steps);
-    ///     list.tell_all_counted(&mut Quiet, steps);
-    ///     list.cancel_counted(second, &mut Quiet, steps);
-    ///     list.remove_counted(first, steps)
-    /// }
-    /// ```
     #[inline]
     pub fn listen_counted<L: Ledger>(
         &mut self,
@@ -228,7 +132,7 @@ impl<W> WaitList<W> {
     /// `again`, which counts its look-ups: at most 6.
     #[inline]
     pub fn again_counted<L: Ledger>(&mut self, t: &Ticket, w: W, steps: &mut Steps<L>) -> bool {
-        self.links.again(t, w, &mut steps.lookups)
+        self.links.renew(t, w, &mut steps.lookups).is_ok()
     }
 
     /// `tell_one`, which counts its look-ups: one where one is told, and else none.
@@ -241,7 +145,7 @@ impl<W> WaitList<W> {
         self.links.tell_one(bell, &mut steps.lookups)
     }
 
-    /// `tell_all`, which counts its look-ups: one for each unnotified entry.
+    /// `tell_all`, which counts its look-ups: one for each untold entry.
     #[inline]
     pub fn tell_all_counted<B: Bell<W>, L: Ledger>(
         &mut self,
@@ -254,7 +158,7 @@ impl<W> WaitList<W> {
     /// `remove`, which counts its look-ups: at most 6.
     #[inline]
     pub fn remove_counted<L: Ledger>(&mut self, t: Ticket, steps: &mut Steps<L>) -> Option<bool> {
-        self.links.remove(t, &mut steps.lookups)
+        Some(self.links.unregister(t, &mut steps.lookups)?.is_told())
     }
 
     /// `cancel`, which counts its look-ups: at most 12.
@@ -265,7 +169,7 @@ impl<W> WaitList<W> {
         bell: &mut B,
         steps: &mut Steps<L>,
     ) {
-        self.links.cancel(t, bell, &mut steps.lookups);
+        self.links.withdraw(t, bell, &mut steps.lookups);
     }
 
     /// How many wait.
@@ -299,8 +203,8 @@ impl<W> WaitList<W> {
     }
 }
 
-// What the calls of the plain names run: the counted ones, on the ledger of a blank. They stand
-// apart since a ledger gets its name where a call passes a blank on.
+// What the calls of the plain names run, on the ledger of a blank: the counted ones, where there are
+// any. They stand apart since a ledger gets its name where a call passes a blank on.
 impl<W> WaitList<W> {
     #[inline]
     fn listen_from<L: Ledger>(&mut self, w: W, blank: Blank) -> Result<Ticket, NoRoom<W>> {
@@ -330,6 +234,29 @@ impl<W> WaitList<W> {
     #[inline]
     fn cancel_from<B: Bell<W>, L: Ledger>(&mut self, t: Ticket, bell: &mut B, blank: Blank) {
         self.cancel_counted(t, bell, &mut Steps::<L>::of(blank));
+    }
+
+    #[inline]
+    fn renew_from<L: Ledger>(&mut self, t: &Ticket, w: W, blank: Blank) -> Result<Option<W>, W> {
+        let mut steps = Steps::<L>::of(blank);
+        self.links.renew(t, w, &mut steps.lookups)
+    }
+
+    #[inline]
+    fn unregister_from<L: Ledger>(&mut self, t: Ticket, blank: Blank) -> Option<EntryState<W>> {
+        let mut steps = Steps::<L>::of(blank);
+        self.links.unregister(t, &mut steps.lookups)
+    }
+
+    #[inline]
+    fn withdraw_from<B: Bell<W>, L: Ledger>(
+        &mut self,
+        t: Ticket,
+        bell: &mut B,
+        blank: Blank,
+    ) -> Option<W> {
+        let mut steps = Steps::<L>::of(blank);
+        self.links.withdraw(t, bell, &mut steps.lookups)
     }
 
     #[inline]

@@ -5,15 +5,6 @@
 ///
 /// A ticket is neither `Copy` nor `Clone`, so an entry has one owner. To another list it means
 /// nothing, or whichever entry has the same key there.
-///
-/// # Examples
-///
-/// ```text
-/// let mut list = WaitList::new(rt.alloc());
-/// let ticket = list.listen(10).map_err(|_| "no room")?;
-/// list.tell_one(&mut Quiet);
-/// assert_eq!(rt; list.first_told(), Some(ticket.key()));
-/// ```
 pub struct Ticket {
     pub(crate) key: usize,
 }

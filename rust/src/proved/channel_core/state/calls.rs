@@ -10,15 +10,6 @@ impl<T, W> Core<T, W> {
     ///
     /// A full or closed channel hands the message back. The outer error, with the message, says
     /// that memory was refused, which an unbounded channel alone may be; nothing has changed then.
-    ///
-    /// # Examples
-    ///
-    /// ```text
-    /// let mut core: Core<u64, ()> = Core::bounded(rt.alloc(), 1)?;
-    /// assert_eq!(rt; core.try_send(1, &mut Quiet)?, Ok(()));
-    /// assert_eq!(rt; core.try_send(2, &mut Quiet)?, Err(TrySendError::Full(2)));
-    /// assert!(rt; core.is_full());
-    /// ```
     #[inline(always)]
     pub fn try_send<B: Bell<W>>(
         &mut self,
@@ -42,14 +33,6 @@ impl<T, W> Core<T, W> {
     ///
     /// A closed channel hands the message back. The outer error, with the message, says that memory
     /// was refused, which an unbounded channel alone may be; nothing has changed then.
-    ///
-    /// # Examples
-    ///
-    /// ```text
-    /// let mut core: Core<u64, ()> = Core::bounded(rt.alloc(), 1)?;
-    /// assert_eq!(rt; core.force_send(1, &mut Quiet)?, Ok(None));
-    /// assert_eq!(rt; core.force_send(2, &mut Quiet)?, Ok(Some(1)));
-    /// ```
     #[inline]
     pub fn force_send<B: Bell<W>>(
         &mut self,
@@ -67,15 +50,6 @@ impl<T, W> Core<T, W> {
     /// Takes the oldest message, and tells a send that there is a place.
     ///
     /// Where no message is held nothing changes, and the error says whether the channel is closed.
-    ///
-    /// # Examples
-    ///
-    /// ```text
-    /// let mut core: Core<u64, ()> = Core::unbounded(rt.alloc());
-    /// assert_eq!(rt; core.try_send(1, &mut Quiet)?, Ok(()));
-    /// assert_eq!(rt; core.try_recv(&mut Quiet), Ok(1));
-    /// assert_eq!(rt; core.try_recv(&mut Quiet), Err(TryRecvError::Empty));
-    /// ```
     #[inline(always)]
     pub fn try_recv<B: Bell<W>>(&mut self, bell: &mut B) -> Result<T, TryRecvError> {
         match self.queue.pop() {
@@ -91,17 +65,6 @@ impl<T, W> Core<T, W> {
     /// Closes the channel, and answers whether it was open. The messages stay.
     ///
     /// Closed operations aren't told: they wait until no receiver is left.
-    ///
-    /// # Examples
-    ///
-    /// ```text
-    /// let mut core: Core<u64, ()> = Core::unbounded(rt.alloc());
-    /// assert_eq!(rt; core.try_send(1, &mut Quiet)?, Ok(()));
-    /// assert!(rt; core.close(&mut Quiet));
-    /// assert!(rt; core.is_closed());
-    /// assert!(rt; !core.close(&mut Quiet));
-    /// assert_eq!(rt; core.len(), 1);
-    /// ```
     #[inline]
     pub fn close<B: Bell<W>>(&mut self, bell: &mut B) -> bool {
         shut(&mut self.closed, &mut self.lists, bell)

@@ -31,14 +31,6 @@ fn upgrade_handle(closed: bool, count: &mut usize) -> Upgrade {
 impl<T, W> Core<T, W> {
     /// Counts one more sender, a copy of one that there is. The answer is whether there may be one
     /// more.
-    ///
-    /// # Examples
-    ///
-    /// ```text
-    /// let mut core: Core<u64, ()> = Core::unbounded(rt.alloc());
-    /// assert!(rt; core.add_sender());
-    /// assert_eq!(rt; core.sender_count(), 2);
-    /// ```
     #[inline]
     pub fn add_sender(&mut self) -> bool {
         add_handle(&mut self.senders)
@@ -46,43 +38,18 @@ impl<T, W> Core<T, W> {
 
     /// Counts one more receiver, a copy of one that there is. The answer is whether there may be
     /// one more.
-    ///
-    /// # Examples
-    ///
-    /// ```text
-    /// let mut core: Core<u64, ()> = Core::unbounded(rt.alloc());
-    /// assert!(rt; core.add_receiver());
-    /// assert_eq!(rt; core.receiver_count(), 2);
-    /// ```
     #[inline]
     pub fn add_receiver(&mut self) -> bool {
         add_handle(&mut self.receivers)
     }
 
     /// Counts one more sender, made of a weak one, where the channel is open.
-    ///
-    /// # Examples
-    ///
-    /// ```text
-    /// let mut core: Core<u64, ()> = Core::unbounded(rt.alloc());
-    /// assert_eq!(rt; core.upgrade_sender(), Upgrade::Raised);
-    /// assert_eq!(rt; core.sender_count(), 2);
-    /// ```
     #[inline]
     pub fn upgrade_sender(&mut self) -> Upgrade {
         upgrade_handle(self.closed, &mut self.senders)
     }
 
     /// Counts one more receiver, made of a weak one, where the channel is open.
-    ///
-    /// # Examples
-    ///
-    /// ```text
-    /// let mut core: Core<u64, ()> = Core::unbounded(rt.alloc());
-    /// core.close(&mut Quiet);
-    /// assert_eq!(rt; core.upgrade_receiver(), Upgrade::Closed);
-    /// assert_eq!(rt; core.receiver_count(), 1);
-    /// ```
     #[inline]
     pub fn upgrade_receiver(&mut self) -> Upgrade {
         upgrade_handle(self.closed, &mut self.receivers)
@@ -90,14 +57,6 @@ impl<T, W> Core<T, W> {
 
     /// Gives a sender up. The last one closes the channel; the answer is whether that happened.
     /// An open channel has somebody on the other side still.
-    ///
-    /// # Examples
-    ///
-    /// ```text
-    /// let mut core: Core<u64, ()> = Core::unbounded(rt.alloc());
-    /// assert!(rt; core.drop_sender(&mut Quiet));
-    /// assert!(rt; core.is_closed());
-    /// ```
     #[inline]
     pub fn drop_sender<B: Bell<W>>(&mut self, bell: &mut B) -> bool {
         match self.senders {
@@ -116,16 +75,6 @@ impl<T, W> Core<T, W> {
     /// Gives a receiver up, and its stream's wait with it. The last one closes the channel; the
     /// answer is whether that happened. It also tells closed operations, on a channel that was
     /// closed before too.
-    ///
-    /// # Examples
-    ///
-    /// ```text
-    /// let mut core: Core<u64, ()> = Core::unbounded(rt.alloc());
-    /// assert!(rt; core.add_receiver());
-    /// assert!(rt; !core.drop_receiver(&mut None, &mut Quiet));
-    /// assert!(rt; core.drop_receiver(&mut None, &mut Quiet));
-    /// assert!(rt; core.is_closed());
-    /// ```
     #[inline]
     pub fn drop_receiver<B: Bell<W>>(&mut self, stream: &mut Option<Ticket>, bell: &mut B) -> bool {
         leave(&mut self.lists.streams, stream);

@@ -59,7 +59,7 @@ impl<T> Run<T> {
     // How many entries the waiting lists have.
     #[inline]
     fn waiting(&self) -> usize {
-        // no more wait than have names, so the sum fits
+        // proof: no more wait than have names, so that the sum fits
         let _operations = self.operations.by_name.len();
         let _receivers = self.receivers.len();
         self.core.waiting(Group::Sends)

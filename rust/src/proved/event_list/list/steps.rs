@@ -11,18 +11,6 @@ use crate::shim::{Blank, Book, Ledger, Share};
 /// How many entries were looked up. A contract sees it as that number.
 ///
 /// It is the book of a ledger and takes no bytes, so counting costs nothing when a program runs.
-///
-/// # Examples
-///
-/// ```text
-/// fn counts<L: Ledger>(alloc: Global, blank: Blank) -> Option<bool>
-///     requires { Opens blank.name blank.parts L.name L.parts }
-/// {
-///     is_told_at_last(alloc, &mut Steps::<L>::of(blank))
-/// }
-///
-/// assert_eq!(rt; counts::<Brand>(rt.alloc(), Blank::new(1)), Some(true));
-/// ```
 pub struct Steps<L: Ledger> {
     // What the calls on the entries raise.
     pub(super) lookups: Lookups<L>,

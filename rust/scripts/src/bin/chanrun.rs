@@ -5,7 +5,7 @@
 //! replies.
 //!
 //! ```text
-//! printf 'bounded 1\ntry_send s0 1\ntry_send s0 2\n' | cargo run --features run --example chanrun
+//! printf 'bounded 1\ntry_send s0 1\ntry_send s0 2\n' | cargo run
 //! ```
 
 use std::fmt;

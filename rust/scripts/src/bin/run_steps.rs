@@ -4,7 +4,7 @@
 //! may grow with the depth of a map, and never with the number of names.
 //!
 //! ```text
-//! cargo run --release --features run --example run_steps
+//! cargo run --release --bin run_steps
 //! ```
 
 use std::time::Instant;

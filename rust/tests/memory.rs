@@ -1,0 +1,116 @@
+//! Memory is given back: a queue that was drained and a list in which nobody waits keep a few KB.
+
+mod support;
+
+use std::alloc::{GlobalAlloc, Layout, System};
+use std::cell::Cell;
+use std::pin::{pin, Pin};
+use std::task::{Context, Waker};
+
+use futures_core::Stream;
+use support::{poll_pinned, poll_with, Count};
+use vamorilesh::{bounded, unbounded};
+
+/// What a drained queue or an empty list may keep.
+const FEW_KB: isize = 8 << 10;
+
+thread_local! {
+    /// How many bytes this thread took and hasn't given back, and how often it took some.
+    static TAKEN: Cell<(isize, usize)> = const { Cell::new((0, 0)) };
+}
+
+struct Counting;
+
+fn count(bytes: isize) {
+    let _ = TAKEN.try_with(|taken| {
+        let (sum, times) = taken.get();
+        taken.set((sum + bytes, times + usize::from(bytes > 0)));
+    });
+}
+
+// SAFETY: each call is the system's own.
+unsafe impl GlobalAlloc for Counting {
+    unsafe fn alloc(&self, layout: Layout) -> *mut u8 {
+        count(layout.size() as isize);
+        System.alloc(layout)
+    }
+    unsafe fn dealloc(&self, place: *mut u8, layout: Layout) {
+        count(-(layout.size() as isize));
+        System.dealloc(place, layout)
+    }
+}
+
+#[global_allocator]
+static ALLOCATOR: Counting = Counting;
+
+/// How many bytes this thread holds, and how often it took some.
+fn taken() -> (isize, usize) {
+    TAKEN.with(Cell::get)
+}
+
+#[test]
+fn a_drained_queue_keeps_a_few_kilobytes() {
+    const MESSAGES: u64 = 1_000_000;
+    let (s, r) = unbounded();
+    let before = taken().0;
+    (0..MESSAGES).for_each(|message| s.try_send(message).unwrap());
+    assert!(taken().0 - before >= 8 * MESSAGES as isize);
+    assert!((0..MESSAGES).all(|message| r.try_recv() == Ok(message)));
+    assert!(taken().0 - before <= FEW_KB);
+}
+
+#[test]
+fn a_queue_that_fills_and_drains_a_little_asks_for_no_memory() {
+    let (s, r) = unbounded();
+    let round = || {
+        (0..500).for_each(|message: u64| s.try_send(message).unwrap());
+        assert!((0..500).all(|message| r.try_recv() == Ok(message)));
+    };
+    (0..100_000).for_each(|message| s.try_send(message).unwrap());
+    (0..100_000).for_each(|_| assert!(r.try_recv().is_ok()));
+    round();
+    let before = taken();
+    (0..100).for_each(|_| round());
+    assert_eq!(taken(), before);
+}
+
+/// Each of `waits` is polled once and waits, and then all are given up.
+fn waited<W>(waits: impl Fn() -> W, poll: impl Fn(&mut W, &Waker)) {
+    const WAITS: usize = 20_000;
+    let waker = Waker::from(Count::new());
+    let before = taken().0;
+    let mut waiting: Vec<W> = (0..WAITS).map(|_| waits()).collect();
+    waiting.iter_mut().for_each(|wait| poll(wait, &waker));
+    assert!(taken().0 - before >= 16 * WAITS as isize);
+    drop(waiting);
+    assert!(taken().0 - before <= FEW_KB);
+}
+
+#[test]
+fn a_list_in_which_nobody_waits_any_more_keeps_a_few_kilobytes() {
+    let (s, r) = bounded(1);
+    waited(|| Box::pin(r.recv()), |wait, waker| assert!(poll_with(wait, waker).is_pending()));
+    waited(|| Box::pin(s.closed()), |wait, waker| assert!(poll_with(wait, waker).is_pending()));
+    let next = |wait: &mut vamorilesh::Receiver<u64>, waker: &Waker| {
+        assert!(Pin::new(wait).poll_next(&mut Context::from_waker(waker)).is_pending());
+    };
+    waited(|| r.clone(), next);
+    s.try_send(1).unwrap();
+    waited(|| Box::pin(s.send(2)), |wait, waker| assert!(poll_with(wait, waker).is_pending()));
+}
+
+#[test]
+fn one_who_waits_again_and_again_asks_for_no_memory() {
+    let (s, r) = unbounded();
+    let waker = Waker::from(Count::new());
+    let wait = |message: u64| {
+        let mut receive = pin!(r.recv());
+        assert!(poll_pinned(&mut receive, &waker).is_pending());
+        s.try_send(message).unwrap();
+        assert!(poll_pinned(&mut receive, &waker).is_ready());
+    };
+    wait(0);
+    let before = taken();
+    (0..1_000).for_each(wait);
+    assert_eq!(taken(), before);
+}
