@@ -1,0 +1,140 @@
+//! What no clause says: that locks are taken, refused and given back, and that whoever sleeps is
+//! woken.
+ghost use Rattle.ruled_mutex.specs.Passes.{IsPassOf};
+
+use crate::tally::{Counter, add_apart, add_in_pair, count};
+use ruled_mutex::{Pass, RuledMutex, Unruled};
+use std::alloc::AllocError;
+use std::sync::Wait;
+use std::sync::atomic::{AtomicU64, Ordering};
+use std::test::*;
+use std::thread::join;
+use std::{mem, thread};
+
+const EACH: u64 = 20_000;
+
+type Mutex = RuledMutex<u64, (), Unruled>;
+
+// Whether the lock could not be taken at once. It is given back where it could.
+fn misses(mutex: &Mutex, pass: &mut Pass<u64, ()>) -> bool
+    requires { IsPassOf mutex.now pass.old }
+    ensures { IsPassOf mutex.now pass.new }
+{
+    match mutex.try_lock(pass) {
+        Some(held) => {
+            mutex.unlock_as::<Unruled>(pass, held);
+            false
+        }
+        None => true,
+    }
+}
+
+#[test]
+fn two_threads_count_together(rt: HostRuntime) -> Result<(), Fail> {
+    let Ok((counter, pass)) = Counter::new(rt.alloc(), 0) else {
+        return Err(AllocError.into());
+    };
+    let Some(mut pass) = add_in_pair(&rt, &counter, pass, EACH) else {
+        panic!(&rt; "the count is too large");
+    };
+    assert_eq!(rt; count(&rt, &counter, &mut pass), 2 * EACH);
+    Ok(())
+}
+
+#[test]
+fn four_threads_count_together(rt: HostRuntime) -> Result<(), Fail> {
+    let Ok((counter, mut pass)) = Counter::new(rt.alloc(), 0) else {
+        return Err(AllocError.into());
+    };
+    let added = thread::map_indices(
+        &rt,
+        rt.alloc(),
+        4,
+        &|_: usize| add_apart(&rt, &counter, EACH),
+    )?;
+    assert!(rt; added.iter().all(|&all| all));
+    assert_eq!(rt; count(&rt, &counter, &mut pass), 4 * EACH);
+    Ok(())
+}
+
+#[test]
+fn a_held_lock_is_refused(rt: HostRuntime) -> Result<(), Fail> {
+    let Ok((mutex, mut pass)) = Mutex::new(rt.alloc(), 4) else {
+        return Err(AllocError.into());
+    };
+    let mut other = mutex.pass();
+    let held = mutex.lock(&rt, &mut pass);
+    let missed = misses(&mutex, &mut other);
+    *pass.value_mut(&mutex, &held) = 5;
+    mutex.unlock_as::<Unruled>(&mut pass, held);
+    assert!(rt; missed);
+    assert!(rt; !misses(&mutex, &mut other));
+    let before = mutex.with_as::<Unruled, _, _, _>(&rt, &mut pass, |value| mem::replace(value, 6));
+    assert_eq!(rt; before, 5);
+    assert_eq!(rt;
+        mutex.with_as::<Unruled, _, _, _>(&rt, &mut other, |value| *value),
+        6
+    );
+    Ok(())
+}
+
+const ROUNDS: u64 = 200;
+
+// How often a thread lets others run before it gives the lock back, so that who waits for it mostly
+// sleeps by then.
+const PAUSES: u32 = 50;
+
+// Takes the lock while the other thread holds it, says before each time that it will, and adds one.
+fn follow<R: Wait>(rt: &R, mutex: &Mutex, coming: &AtomicU64) {
+    for round in 0..ROUNDS {
+        let mut pass = mutex.pass();
+        while_below(rt, coming, 3 * round + 1);
+        coming.fetch_add(1, Ordering::SeqCst);
+        mutex.with_as::<Unruled, _, _, _>(rt, &mut pass, |value| *value = value.wrapping_add(1));
+        coming.fetch_add(1, Ordering::SeqCst);
+    }
+}
+
+// Holds the lock until the other thread has come to it.
+fn lead<R: Wait>(rt: &R, mutex: &Mutex, coming: &AtomicU64) {
+    for round in 0..ROUNDS {
+        let mut pass = mutex.pass();
+        let held = mutex.lock(rt, &mut pass);
+        coming.fetch_add(1, Ordering::SeqCst);
+        while_below(rt, coming, 3 * round + 2);
+        for _ in 0..PAUSES {
+            thread::yield_now();
+        }
+        mutex.unlock_as::<Unruled>(&mut pass, held);
+        while_below(rt, coming, 3 * round + 3);
+    }
+}
+
+// Waits until the number is no less.
+fn while_below<R: Wait>(rt: &R, number: &AtomicU64, least: u64) {
+    for _ in rt.forever() {
+        if number.load(Ordering::SeqCst) >= least {
+            break;
+        }
+        thread::yield_now();
+    }
+}
+
+// A lock that wakes nobody leaves the second thread asleep, and the test does not end.
+#[test]
+fn whoever_sleeps_is_woken(rt: HostRuntime) -> Result<(), Fail> {
+    let Ok((mutex, mut pass)) = Mutex::new(rt.alloc(), 0) else {
+        return Err(AllocError.into());
+    };
+    let coming = AtomicU64::new(0);
+    join(
+        &rt,
+        || lead(&rt, &mutex, &coming),
+        || follow(&rt, &mutex, &coming),
+    );
+    assert_eq!(rt;
+        mutex.with_as::<Unruled, _, _, _>(&rt, &mut pass, |value| *value),
+        ROUNDS
+    );
+    Ok(())
+}
