@@ -12,8 +12,8 @@ import subprocess
 import sys
 
 TOOLS = pathlib.Path(__file__).resolve().parent
-CRATE = TOOLS.parent / "crates" / "chanrun_program"
-PROGRAM = CRATE / "out" / "chanrun_program"
+CRATE = TOOLS.parent / "crates" / "program_chanrun"
+PROGRAM = CRATE / "out" / "program_chanrun"
 SECONDS = 60
 
 

@@ -49,8 +49,8 @@ def rows():
 
 
 def main():
-    chanrun = program("chanrun_program")
-    explore = program("chanexplore_program")
+    chanrun = program("program_chanrun")
+    explore = program("program_chanexplore")
     many = LINES * 15_000
     idle = seconds([chanrun], script(LINES[:1]))
     plain = (seconds([chanrun], script(many)) - idle) / len(many)

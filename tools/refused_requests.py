@@ -1,22 +1,22 @@
 #!/usr/bin/env python3
 """Makes each worked row with its requests for memory refused one by one.
 
-Two built programs make the rows: chanrun those that are scripts, and refused_rows those of every
+Two built programs make the rows: chanrun those that are scripts, and test_memory those of every
 layer below (the waiting list, the queue and the core, runs, handles, operations, the recorder). An
 allocator laid in front of a program counts its requests, and refuses the one that it is told to.
 
 Each row is made once with all memory, and must print what it is to print. Then it is made again for
 each request, and that one request is refused. chanrun may end as before, or with a beginning of its
-replies, status 1 and the line `out of memory`. refused_rows must print the same replies as before;
+replies, status 1 and the line `out of memory`. test_memory must print the same replies as before;
 on standard error stands at most that the call which made this request was refused, and the program
 makes that call again by itself, once it has seen that nothing else changed. Where a recorder's
 `finish` is refused the row begins anew, behind the line `row again`. Anything else is a difference.
-So is a request by a call of which refused_rows says that it makes none.
+So is a request by a call of which test_memory says that it makes none.
 
 A line is printed for each row: how many requests it made, how many of them were answered as
 refused, how many changed nothing, and how many came to something else. Of the longest scripts the
 first and the last requests are refused. The status is 0 where nothing differed, every row asked for
-memory, and every call of refused_rows that asked was refused once.
+memory, and every call of test_memory that asked was refused once.
 """
 
 import os
@@ -29,7 +29,7 @@ from concurrent.futures import ThreadPoolExecutor
 
 TOOLS = pathlib.Path(__file__).resolve().parent
 CRATES = TOOLS.parent / "crates"
-ROWS = CRATES / "worked_rows" / "src"
+ROWS = CRATES / "test_rows" / "src" / "rows"
 CASES = TOOLS / "chanrun_runs"
 # How many requests of a long script are refused, from either end.
 ENDS = 50
@@ -55,7 +55,7 @@ class Sweep:
     def __init__(self, folder):
         self.folder = folder
         self.allocator = folder / "refuse.so"
-        self.programs = {name: built(name) for name in ("chanrun_program", "refused_rows")}
+        self.programs = {name: built(name) for name in ("program_chanrun", "test_memory")}
         source = TOOLS / "refused_requests" / "refuse.c"
         command = ["cc", "-O2", "-shared", "-fPIC", "-o", self.allocator, source, "-ldl"]
         subprocess.run(command, check=True)
@@ -86,7 +86,7 @@ class Sweep:
 class Script:
     """A script for chanrun, and what it writes and ends with where memory is there."""
 
-    program = "chanrun_program"
+    program = "program_chanrun"
     arguments = ()
 
     def __init__(self, name, script, output, status=0, error=b"", is_long=False):
@@ -119,9 +119,9 @@ class Script:
 
 
 class Calls:
-    """A row of refused_rows: a line for each call, with its reply behind ` => `."""
+    """A row of test_memory: a line for each call, with its reply behind ` => `."""
 
-    program = "refused_rows"
+    program = "test_memory"
     ending = (0, b"")
 
     def __init__(self, name, arguments, output, script=b"", is_marked=True):
@@ -236,8 +236,8 @@ def run_rows():
 
 
 def own_rows():
-    """The rows that refused_rows makes by itself, as its stored run has them."""
-    text = (CRATES / "refused_rows" / "stdout").read_text(encoding="utf-8")
+    """The rows that test_memory makes by itself, as its stored run has them."""
+    text = (CRATES / "test_memory" / "stdout").read_text(encoding="utf-8")
     for row in re.split(r"^(?=row )", text, flags=re.MULTILINE)[1:]:
         name = row.splitlines()[0].removeprefix("row ")
         yield Calls(name, [name], row)

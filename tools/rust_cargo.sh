@@ -43,7 +43,7 @@ offline = true
 END
     export CARGO_HOME="$target/debian"
     # A lock that the registry made has other versions.
-    rm -f rust/Cargo.lock rust/drop_in/Cargo.lock
+    rm -f rust/Cargo.lock rust/*/Cargo.lock
 }
 
 # rustup lays cargo where a shell that nobody logged in to doesn't look.

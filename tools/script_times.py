@@ -13,7 +13,7 @@ import subprocess
 import sys
 import time
 
-CRATE = pathlib.Path(__file__).resolve().parent.parent / "crates" / "chanrun_program"
+CRATE = pathlib.Path(__file__).resolve().parent.parent / "crates" / "program_chanrun"
 ROUNDS = 5
 SENDERS = 60_000
 WEAK = 50_000
@@ -65,7 +65,7 @@ def seconds(program, lines):
 
 
 def main():
-    program = sys.argv[1] if len(sys.argv) > 1 else CRATE / "out" / "chanrun_program"
+    program = sys.argv[1] if len(sys.argv) > 1 else CRATE / "out" / "program_chanrun"
     print("| Script | lines | ms | a line, to the cheap one |")
     print("|---|---|---|---|")
     works = [

@@ -2,8 +2,8 @@
 import re
 
 from eraser.known import (
-    BOUNDS, CLAUSES, CRATES, DERIVES, EVERYWHERE, FORMATTER, GHOST_WORDS, LEFT_OUT, MACROS, PATHS,
-    TEXT_TRAITS, WRITER,
+    BOUNDS, CLAUSES, CRATES, DERIVES, EVERYWHERE, FORMATTER, GHOST_WORDS, LEFT_OUT, MACROS, NAMED,
+    PATHS, TEXT_TRAITS, WRITER,
 )
 from eraser.source import CLOSING
 
@@ -160,11 +160,14 @@ class Eraser:
         """What a path is called in Rust, or None where only the prover reads it."""
         first, _, others = path.partition('::')
         if first == 'crate':
-            return f'crate::proved::{self.source.crate}::{others}'
+            module, _, rest = others.partition('::')
+            named = NAMED.get(f'{self.source.crate}::{module}')
+            return f'{named}::{rest}' if named else f'crate::proved::{self.source.crate}::{others}'
         if first == 'super':
             return path
         if path in LEFT_OUT or first in self.modules:
-            return path if first in self.modules else None
+            named = NAMED.get(self.path_of(first), first)
+            return named + path[len(first):] if first in self.modules else None
         if first in CRATES:
             return f'crate::proved::{path}'
         if path not in PATHS:
@@ -174,10 +177,13 @@ class Eraser:
     def module(self, is_test):
         name = self.source.take_word()
         self.source.take(';')
-        if is_test or '::'.join([self.source.crate, *self.source.module, name]) in LEFT_OUT:
+        if is_test or self.path_of(name) in LEFT_OUT:
             return None
         self.modules.append(name)
-        return f'mod {name};'
+        return None if self.path_of(name) in NAMED else f'mod {name};'
+
+    def path_of(self, module):
+        return '::'.join([self.source.crate, *self.source.module, module])
 
     def constant(self):
         text = self.copy({';'})
@@ -320,18 +326,24 @@ class Eraser:
         return self.target(text, token.start)
 
     def comments(self, text, at):
-        """Comments. An example in them isn't Rust, so it is marked as a text."""
-        lines, is_open = text.split('\n'), False
-        for place, line in enumerate(lines):
+        """Comments, without the examples in them, which aren't Rust. A picture stays."""
+        kept, is_example, is_open = [], False, False
+        for line in text.split('\n'):
             mark, _, rest = line.lstrip().partition(' ')
-            if mark not in {'///', '//!'} or not rest.startswith('```'):
-                continue
-            if rest not in {'```', '```text'}:
-                self.source.refuse(f'unknown kind of example `{rest}`', at)
-            if not is_open and rest == '```':
-                lines[place] = f'{line}text'
-            is_open = not is_open
-        return '\n'.join(lines)
+            is_doc = mark in {'///', '//!'}
+            if is_doc and rest.startswith('```'):
+                if rest not in {'```', '```text'} or not (is_example or is_open or rest != '```'):
+                    self.source.refuse(f'unknown kind of example `{rest}`', at)
+                is_open = not is_open
+            elif is_doc and rest == '# Examples':
+                is_example = True
+                while kept and kept[-1].strip() == mark:
+                    kept.pop()
+            elif not is_doc or (rest.startswith('# ') and not is_open):
+                is_example = False
+            if not is_example:
+                kept.append(line)
+        return '\n'.join(kept)
 
 
 def use_line(prefix, names):

@@ -64,7 +64,7 @@ def as_polled(line):
 def wrong_with(example, programs, write):
     """What is wrong with the report on an example."""
     given = example.read_text()
-    ran = run(programs["chanexplore_program"], given.encode())
+    ran = run(programs["program_chanexplore"], given.encode())
     text = ran.stdout.decode()
     stored = example.with_suffix(".outcomes")
     if write:
@@ -83,7 +83,7 @@ def wrong_with(example, programs, write):
     before = given.split("\nparty ")[0].count("\n")
     for _count, _stuck, lines, script in outcomes_in(text):
         reached = {as_polled(line) for line in lines if not line.endswith(" not reached")}
-        if not reached <= replayed(programs["chanrun_program"], script, before):
+        if not reached <= replayed(programs["program_chanrun"], script, before):
             wrong.append("chanrun replies otherwise to a script")
     return wrong
 
@@ -134,7 +134,7 @@ def hostile():
 
 def main():
     write = sys.argv[1:] == ["--write"]
-    names = ("chanexplore_program", "chanrun_program")
+    names = ("program_chanexplore", "program_chanrun")
     programs = {name: built(name, b"unbounded\n") for name in names}
     failed = cases = 0
     for example in sorted(EXAMPLES.glob("*.explore")):
@@ -142,7 +142,7 @@ def main():
         cases, failed = cases + 1, failed + bool(wrong)
         print(f"chanexplore: {example.name}: {'; '.join(wrong) or 'ok'}")
     for name, (given, arguments, status, first, fault) in hostile().items():
-        ran = run(programs["chanexplore_program"], given, arguments)
+        ran = run(programs["program_chanexplore"], given, arguments)
         got = (ran.returncode, ran.stdout.split(b"\n")[0], ran.stderr)
         right = got == (status, first, fault)
         cases, failed = cases + 1, failed + (not right)

@@ -28,7 +28,7 @@ import xml.etree.ElementTree as ElementTree
 TOP = pathlib.Path(__file__).resolve().parent.parent.parent
 sys.path.insert(0, str(TOP / "tools"))
 
-from drawn_scripts import LARGEST, drawn  # noqa: E402
+from random_scripts import LARGEST, drawn  # noqa: E402
 
 PICTURES = ("handed_on", "forced", "closes")
 DRAWN = 300
@@ -329,8 +329,8 @@ def main():
     write = "--write" in arguments
     given = [argument for argument in arguments if argument != "--write"]
     programs = {
-        "chanrun": built("chanrun_program"),
-        "chandraw": pathlib.Path(given[0]) if given else built("chandraw_program"),
+        "chanrun": built("program_chanrun"),
+        "chandraw": pathlib.Path(given[0]) if given else built("program_chandraw"),
     }
     passed = failed = 0
     for name, wrong in cases(programs, write):

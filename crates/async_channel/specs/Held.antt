@@ -1,5 +1,5 @@
 -- What contracts see of a channel while its lock is held.
-use Rattle.std.specs.Prelude.{◌≡◌, ◌==◌, ℕ, Bool, true, false, List, ◌++◌, Option, Result}
+use Rattle.std.specs.Prelude.{◌==◌, ℕ, Bool, true, false, List, ◌++◌, Option, Result}
 use Rattle.futures.specs.declared.task.Poll.{Poll}
 use Rattle.futures.specs.declared.task.Poll.TheVariants.{Ready, Pending}
 use Rattle.channel_model.specs.declared.errors.SendError.{SendError}
@@ -33,10 +33,10 @@ abbrev pub is_pending : {A : Type 0} → Poll A → Bool
 is_pending (Ready answer) = false
 is_pending Pending = true
 
--- There is a mark of the kind that makes the fact true.
-pub record WithMark (kind : Mark → Bool) (Fact : Mark → Type 0) : Type 0 where
+-- There is a mark by which somebody waits, and which makes the fact true.
+pub record WithMark (WaitsBy Fact : Mark → Type 0) : Type 0 where
   pub mark : Mark
-  pub is_of : kind mark ≡ true
+  pub waits : WaitsBy mark
   pub holds : Fact mark
 
 module _ {T : Type 0} where

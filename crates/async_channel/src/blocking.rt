@@ -64,7 +64,7 @@ impl<T: Drop, R: Wait + Clone + Drop> Sender<T, R> {
         for _ in link.rt.forever() {
             let polled = link
                 .lock()
-                .poll_blocked_send(&mut message, &mut ticket, &mut sleeper);
+                .poll_send(&mut message, &mut ticket, &mut sleeper, &mut ());
             match polled {
                 Ok(Poll::Ready(answer)) => return Ok(answer),
                 Ok(Poll::Pending) => sleeper.sleep(&link.rt),
@@ -116,7 +116,7 @@ impl<T: Drop, R: Wait + Clone + Drop> Receiver<T, R> {
         let mut ticket = None;
         let mut sleeper = Sleeper::new();
         for _ in link.rt.forever() {
-            let polled = link.lock().poll_blocked_recv(&mut ticket, &mut sleeper);
+            let polled = link.lock().poll_recv(&mut ticket, &mut sleeper, &mut ());
             match polled {
                 Ok(Poll::Ready(answer)) => return Ok(answer),
                 Ok(Poll::Pending) => sleeper.sleep(&link.rt),

@@ -2,7 +2,7 @@
 ghost use Rattle.std.specs.Prelude.{◌≡◌, ◌<◌, ◌↔◌, ◌≢◌, IsTrue, IsSome, IfOk, IfErr, OnErr, Err, Some, None, codes};
 ghost use Rattle.std.specs.Arc.{arc_value};
 ghost use Rattle.channel_model.specs.Errors.{message_of};
-ghost use Rattle.channel_stamps.specs.Stamps.{next_stamp};
+ghost use Rattle.identity.specs.Stamps.{next_stamp};
 ghost use Rattle.async_channel.specs.Operations.{AreEndsOf, handle_of};
 
 use crate::mark::{Mark, Marker};
@@ -13,7 +13,7 @@ use channel_core::{
     CloneError, Core, MakeError, NoMemory, OutOfMemory, SendError, Ticket, TryRecvError,
     TrySendError,
 };
-use channel_stamps::StampMaker;
+use identity::StampMaker;
 use std::alloc::Global;
 use std::fmt;
 use std::marker::Model;

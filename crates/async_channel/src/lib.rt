@@ -1,5 +1,4 @@
-//! An async multi-producer multi-consumer channel, where each message can be received by only one
-//! of all existing consumers.
+//! An async multi-producer multi-consumer channel: each message is received by one consumer.
 //!
 //! There are two kinds of channels:
 //!
@@ -45,8 +44,8 @@ pub use channel_core::{
     Bell, CloneError, Core, Group, MakeError, NoMemory, OutOfMemory, Queue, Quiet, RecvError,
     SendError, Ticket, TryRecvError, TrySendError, Upgrade,
 };
-pub use channel_stamps::{Stamp, StampMaker};
 pub use handles::{Receiver, Sender, bounded, unbounded};
+pub use identity::{Stamp, StampMaker};
 pub use ops::{Closed, Recv, Send};
 pub use tag::Tag;
 pub use weak::{WeakReceiver, WeakSender};

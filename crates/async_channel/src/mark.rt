@@ -17,9 +17,9 @@
 //! before its mark lies in a list, so that whoever tells the entry finds it.
 //!
 //! A blocked thread has no waker. It sleeps at a cell of its own, its mark is that cell, and so
-//! just the one that was notified wakes. A slot, like a cell, takes memory only where its owner
+//! just the one that was told wakes. A slot, like a cell, takes memory only where its owner
 //! begins to wait.
-ghost use Rattle.std.specs.Prelude.{◌≡◌, true, IfOk, OnOk};
+ghost use Rattle.std.specs.Prelude.{◌≡◌, ℕ, ⊤, true, IfOk};
 ghost use Rattle.futures.specs.Task.{Covers, Keeps};
 ghost use Rattle.async_channel.specs.Held.{is_of_task, is_of_thread};
 
@@ -61,6 +61,32 @@ impl Mark {
     }
 }
 
+/// Who waits: the task of an operation, whose context is `C`, or a blocked thread, which has none.
+pub(crate) trait Waiter<C> {
+    ghost use Rattle.async_channel.specs.declared.mark.Mark.{Mark};
+
+    /// What holds of its context and of the mark by which it waits for a source.
+    ghost waits_by: { C → ℕ → Mark → Type 0 };
+
+    /// How its context may change where a mark is made.
+    ghost keeps: { C → C → Type 0 };
+
+    /// The mark of one poll that can't go on. It is refused where no waker could be made, or no
+    /// memory was left for it.
+    fn mark<R: Wait>(
+        &mut self,
+        rt: &R,
+        alloc: Global,
+        source: &Source,
+        cx: &mut C,
+    ) -> Result<Mark, OutOfMemory>
+        ensures made { IfOk result (waits_by cx.new source.now.id) }
+        ensures kept { keeps cx.old cx.new };
+
+    // proof: a context may stay as it is
+    ghost keeps_itself: { (cx : C) → keeps cx cx };
+}
+
 /// An operation's own end of its mark. It takes memory at the first poll that isn't ready.
 #[derive(Drop)]
 pub(crate) struct Marker {
@@ -70,31 +96,6 @@ pub(crate) struct Marker {
 impl Marker {
     pub(crate) fn new() -> Marker {
         Marker { slot: None }
-    }
-
-    /// The mark of one poll. It is refused where no waker could be made, or no memory was left
-    /// for it.
-    pub(crate) fn mark<R: Wait>(
-        &mut self,
-        rt: &R,
-        alloc: Global,
-        source: &Source,
-        cx: &mut Context<'_>,
-    ) -> Result<Mark, OutOfMemory>
-        ensures kind { IfOk result (λ mark. is_of_task mark ≡ true) }
-        ensures heard { OnOk result (Covers cx.new (λ s. s ≡ source.now.id)) }
-        ensures kept { Keeps cx.old cx.new }
-    {
-        let slot = self.slot(alloc)?;
-        let mut waker = slot.waker.lock(rt);
-        let _pending: Poll<()> = cx.register(source, &mut *waker);
-        let is_made = waker.is_some();
-        drop(waker);
-        if is_made {
-            Ok(Mark::Task(slot))
-        } else {
-            Err(OutOfMemory)
-        }
     }
 
     // The slot, which is made where there is none yet.
@@ -114,6 +115,34 @@ impl Marker {
     }
 }
 
+/// A task waits by its slot, and is registered with the source.
+impl Waiter<Context<'_>> for Marker {
+    ghost waits_by = { λ cx source mark. (is_of_task mark ≡ true) × Covers cx (λ s. s ≡ source) };
+
+    ghost keeps = { Keeps };
+
+    ghost keeps_itself = { λ cx fact holds. holds };
+
+    fn mark<R: Wait>(
+        &mut self,
+        rt: &R,
+        alloc: Global,
+        source: &Source,
+        cx: &mut Context<'_>,
+    ) -> Result<Mark, OutOfMemory> {
+        let slot = self.slot(alloc)?;
+        let mut waker = slot.waker.lock(rt);
+        let _pending: Poll<()> = cx.register(source, &mut *waker);
+        let is_made = waker.is_some();
+        drop(waker);
+        if is_made {
+            Ok(Mark::Task(slot))
+        } else {
+            Err(OutOfMemory)
+        }
+    }
+}
+
 /// A blocked call's own end of its mark: the cell where its thread is parked. It takes memory
 /// where the call begins to wait.
 #[derive(Drop)]
@@ -126,10 +155,29 @@ impl Sleeper {
         Sleeper { cell: None }
     }
 
-    /// The mark of one poll. It is refused where no memory was left for it.
-    pub(crate) fn mark(&mut self, alloc: Global) -> Result<Mark, OutOfMemory>
-        ensures kind { IfOk result (λ mark. is_of_thread mark ≡ true) }
-    {
+    /// Sleeps until its mark is rung.
+    pub(crate) fn sleep<R: Wait>(&self, rt: &R) {
+        if let Some(cell) = &self.cell {
+            cell.park(rt);
+        }
+    }
+}
+
+/// A thread waits by its cell alone.
+impl Waiter<()> for Sleeper {
+    ghost waits_by = { λ _ _ mark. is_of_thread mark ≡ true };
+
+    ghost keeps = { λ _ _. ⊤ };
+
+    ghost keeps_itself = { λ _. tt };
+
+    fn mark<R: Wait>(
+        &mut self,
+        _rt: &R,
+        alloc: Global,
+        _source: &Source,
+        _cx: &mut (),
+    ) -> Result<Mark, OutOfMemory> {
         let cell = match self.cell.take() {
             Some(cell) => cell,
             None => Arc::new(alloc, Parker::new()).map_err(|_| OutOfMemory)?,
@@ -139,13 +187,6 @@ impl Sleeper {
         match other {
             Ok(cell) => Ok(Mark::Thread(cell)),
             Err(_) => Err(OutOfMemory),
-        }
-    }
-
-    /// Sleeps until its mark is rung.
-    pub(crate) fn sleep<R: Wait>(&self, rt: &R) {
-        if let Some(cell) = &self.cell {
-            cell.park(rt);
         }
     }
 }

@@ -1,17 +1,12 @@
 -- What a picture is, and that it shows the replies of a script.
-use Rattle.std.specs.Prelude.{◌≡◌, ℕ, ◌++◌, Bool, List, Option, None, Some, Ok, Err}
+use Rattle.std.specs.Prelude.{◌≡◌, ℕ, ◌++◌, Bool, List, Option}
 use Rattle.std.specs.List.{flat_map}
 use Rattle.std.specs.Io.KnownBytes.{Appends}
-use Rattle.channel_model.specs.declared.step.Kind.{Kind}
-use Rattle.channel_model.specs.Past.{Past}
-use Rattle.channel_model.specs.View.{View}
-use Rattle.channel_run.specs.StandsFor.{StandsFor}
-use Rattle.chanrun.specs.Grammar.{command_of}
 use Rattle.chanrun.specs.Outcome.{HasRead}
-use Rattle.chanrun.specs.Script.{command_text, past_after_command, script_fault, script_text}
-use Rattle.chanrun.specs.declared.grammar.command.Command.{Command}
+use Rattle.chanrun.specs.Replayed.{text_line}
+use Rattle.chanrun.specs.Script.{script_fault, script_text}
 use Rattle.chanrun.specs.declared.grammar.fault.Fault.{Fault}
-use Rattle.chandraw.specs.Pieces.{pieces_bytes, row_bytes, text_line}
+use Rattle.chandraw.specs.Pieces.{pieces_bytes, row_bytes}
 use Rattle.chandraw_layout.specs.declared.piece.Form.{Form}
 use Rattle.chandraw_layout.specs.declared.piece.Piece.{Piece}
 use Rattle.chandraw.specs.declared.piece.Row.{Row}
@@ -43,17 +38,6 @@ HasRows form text written written' =
 abbrev pub HasPicture : Form → (text : List ℕ) → (written written' : Option (List ℕ)) → Type 0
 HasPicture form text written written' =
     (bytes : List ℕ) × IsPicture form text bytes × Appends written written' bytes
-
--- A line was drawn after a past that stood for the run: rows of what answers its command were
--- written. Or it is faulty, and nothing was written.
-abbrev pub IsLineDrawn : Form → Kind → Past ℕ → (line : List ℕ) → Option Fault → (run : View ℕ)
-    → (written written' : Option (List ℕ)) → Type 0
-IsLineDrawn form kind past line None run written written' =
-    (command : Command) × (command_of line ≡ Ok command)
-    × StandsFor kind (past_after_command kind past command) run
-    × HasRows form (command_text kind past command) written written'
-IsLineDrawn form kind past line (Some fault) run written written' =
-    (command_of line ≡ Err fault) × (written' ≡ written)
 
 -- A script was read whole, and a picture of its text was written: of the replies to its lines up to
 -- the first faulty one, if there is one.

@@ -2,7 +2,6 @@
 use Rattle.std.specs.Prelude.{ℕ, ◌==◌, ◌&&◌, ◌++◌, ◌∷◌, [], List, codes, if◌then◌else◌, nat_le, String, string_bytes}
 use Rattle.std.specs.List.{flat_map}
 use Rattle.std.specs.Fmt.{decimal}
-use Rattle.chanrun.specs.Script.{as_line}
 use Rattle.chandraw_layout.specs.Marks.{mark_bytes}
 use Rattle.chandraw_layout.specs.declared.piece.Form.{Form}
 use Rattle.chandraw_layout.specs.declared.piece.Form.TheVariants.{Svg, Terminal}
@@ -47,7 +46,3 @@ abbrev pub row_bytes : Form → Row → List ℕ
 row_bytes form row =
     pieces_bytes form row.head.items
     ++ (escaped form (string_bytes row.reply) ++ pieces_bytes form row.tail.items)
-
--- a reply's text as a line
-abbrev pub text_line : {A : Type 0} → String A → List ℕ
-text_line text = as_line (string_bytes text)

@@ -8,31 +8,10 @@ ghost use Rattle.chandraw_layout.specs.declared.piece.Form.{Form};
 use crate::draw::draw_script;
 use chandraw_layout::Form;
 use chanrun::device::{Sink, Source};
-use chanrun::script::{ScriptError, write_text};
+use chanrun::script::ScriptError;
+use chanrun::standard::Program;
+use chanrun::tell::tell;
 use std::alloc::Global;
-use std::fmt;
-use std::fmt::Write;
-
-// A sink to which text is written.
-struct Lines<'a, S> {
-    sink: &'a mut S,
-}
-
-impl<S: Sink> fmt::Write for Lines<'_, S> {
-    fn write_str(&mut self, text: &str) -> fmt::Result {
-        match write_text(&mut *self.sink, text.as_bytes()) {
-            Ok(()) => Ok(()),
-            Err(_) => Err(fmt::Error),
-        }
-    }
-}
-
-// Writes a line, as far as the sink takes it.
-fn tell<S: Sink, D: fmt::Display + Drop>(sink: &mut S, text: D) {
-    let mut lines = Lines { sink };
-    let _ = writeln!(lines, "{text}");
-    let Lines { sink: _ } = lines;
-}
 
 /// What the arguments ask for; none where they are neither nothing nor `--text`.
 ///
@@ -114,5 +93,31 @@ pub fn program<R: Source, W: Sink, E: Sink>(
             tell(errors, error);
             1
         }
+    }
+}
+
+/// Draws a script that is read from standard input.
+///
+/// # Examples
+///
+/// ```
+/// let (written, said) = (Vec::new(rt.alloc()), Vec::new(rt.alloc()));
+/// let script = b"unbounded\nlen t0\n".as_slice();
+/// let ended = run_buffered(rt.alloc(), Chandraw, Some(&[]), script, written, said);
+/// assert_eq!(rt; ended, Ok(2));
+/// ```
+#[derive(Clone, Copy)]
+pub struct Chandraw;
+
+impl Program for Chandraw {
+    fn run<R: Source, W: Sink, E: Sink>(
+        self,
+        alloc: Global,
+        arguments: Option<&[String]>,
+        reader: &mut R,
+        writer: &mut W,
+        errors: &mut E,
+    ) -> u8 {
+        program(alloc, arguments, reader, writer, errors)
     }
 }

@@ -1,6 +1,7 @@
 //! What a step does to names, messages and lists, and what of it a reply tells.
-use crate::lane::{Lane, WaitingList, handle, operation};
+use crate::lane::{Lane, handle, operation};
 use crate::name::{Name, NameKind, name_of, named};
+use channel_core::Group;
 use channel_model::{Reply, Step, Who};
 use futures::task::Poll;
 
@@ -48,17 +49,17 @@ fn started_by(step: &Step<u64>, row: u64) -> Option<Lane> {
     match step {
         Step::StartSend { op, sender, msg } => {
             let sender = named(NameKind::Sender, *sender);
-            let mut lane = operation(*op, WaitingList::Sends, sender, row);
+            let mut lane = operation(*op, Group::Sends, sender, row);
             lane.message = *msg;
             Some(lane)
         }
         Step::StartRecv { op, receiver } => {
             let receiver = named(NameKind::Receiver, *receiver);
-            Some(operation(*op, WaitingList::Receives, receiver, row))
+            Some(operation(*op, Group::Receives, receiver, row))
         }
         Step::StartClosed { op, sender } => {
             let sender = named(NameKind::Sender, *sender);
-            Some(operation(*op, WaitingList::Closeds, sender, row))
+            Some(operation(*op, Group::Closeds, sender, row))
         }
         _ => None,
     }
@@ -108,15 +109,4 @@ pub(crate) fn has_taken(reply: &Reply<u64>) -> bool {
             | Reply::RecvPolled(Poll::Ready(Ok(_)))
             | Reply::NextPolled(Poll::Ready(Some(_)))
     )
-}
-
-/// Whether a poll was ready.
-pub(crate) fn is_ready(reply: &Reply<u64>) -> bool {
-    match reply {
-        Reply::SendPolled(poll) => poll.is_ready(),
-        Reply::RecvPolled(poll) => poll.is_ready(),
-        Reply::ClosedPolled(poll) => poll.is_ready(),
-        Reply::NextPolled(poll) => poll.is_ready(),
-        _ => false,
-    }
 }

@@ -1,25 +1,17 @@
 //! Lanes, and the lines that are drawn along them and between them.
 use crate::name::{Name, NameKind, named};
+use channel_core::Group;
 use channel_model::Notice;
 
 /// How many names have a lane.
 pub(crate) const LANES: usize = 24;
-
-/// In which list somebody waits.
-#[derive(Clone, Copy)]
-pub(crate) enum WaitingList {
-    Sends,
-    Receives,
-    Streams,
-    Closeds,
-}
 
 /// A live name.
 #[derive(Clone, Copy)]
 pub(crate) struct Lane {
     pub name: Name,
     /// Where its waits stand, if it can wait.
-    pub list: Option<WaitingList>,
+    pub list: Option<Group>,
     /// What it borrows.
     pub borrows: Option<Name>,
     /// What a send brings.
@@ -67,7 +59,7 @@ pub(crate) struct Stroke {
 /// A handle's lane, which begins in this row.
 pub(crate) fn handle(name: Name, row: u64) -> Lane {
     let list = match name.kind {
-        NameKind::Receiver => Some(WaitingList::Streams),
+        NameKind::Receiver => Some(Group::Streams),
         _ => None,
     };
     Lane {
@@ -82,7 +74,7 @@ pub(crate) fn handle(name: Name, row: u64) -> Lane {
 }
 
 /// An operation's lane, which begins in this row.
-pub(crate) fn operation(number: u64, list: WaitingList, borrows: Name, row: u64) -> Lane {
+pub(crate) fn operation(number: u64, list: Group, borrows: Name, row: u64) -> Lane {
     Lane {
         name: named(NameKind::Operation, number),
         list: Some(list),

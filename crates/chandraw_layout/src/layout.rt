@@ -9,17 +9,19 @@ use crate::piece::{Form, Piece, Pieces};
 use crate::size::{Size, size_of};
 use crate::table::Table;
 use crate::{svg, terminal};
-use channel_model::Kind;
-use chanrun::grammar::{Command, command_of};
+use channel_model::{Kind, OutOfMemory};
+use chanrun::grammar::Command;
+use chanrun::parse::Line;
+use chanrun::replay::Answered;
 use chanrun::script::ScriptError;
 use std::alloc::{AllocError, Global};
 
 /// What stands in a row as it was given.
 #[derive(Clone, Copy)]
 pub struct RowTexts<'a> {
-    /// The line's number, and none for a further reply to it.
-    pub number: Option<u64>,
-    pub line: &'a [u8],
+    pub line: Line<'a>,
+    /// Whether it is the line's first reply.
+    pub is_first: bool,
     pub reply: &'a str,
 }
 
@@ -28,12 +30,17 @@ pub struct RowTexts<'a> {
 /// # Examples
 ///
 /// ```
-/// let mut layout = Layout::new(rt.alloc(), Form::Svg, Kind::Unbounded, b"settle\n")?;
+/// let Ok(script) = script_of(rt.alloc(), b"unbounded\nsettle\n".as_slice())? else {
+///     return Err("no channel".into());
+/// };
+/// let line = script.lines[0];
+/// let lines = replay(rt.alloc(), script.kind, script.lines.as_slice())?;
+/// let mut layout = Layout::new(rt.alloc(), Form::Svg, script.kind, lines.as_slice())?;
 /// let before = layout.opening(b"unbounded")?;
 /// assert!(rt; matches!(before.first(), Some(Piece::Mark(Mark::SvgStart))));
 /// let texts = RowTexts {
-///     number: Some(2),
-///     line: b"settle",
+///     line,
+///     is_first: true,
 ///     reply: "settled 0 0",
 /// };
 /// let (head, tail) = layout.around(texts)?;
@@ -53,11 +60,16 @@ pub struct Layout {
 }
 
 impl Layout {
-    /// A picture of a channel without a line yet.
-    pub fn new(alloc: Global, form: Form, kind: Kind, lines: &[u8]) -> Result<Layout, ScriptError>
+    /// A picture of these lines, without a row yet.
+    pub fn new(
+        alloc: Global,
+        form: Form,
+        kind: Kind,
+        lines: &[Answered],
+    ) -> Result<Layout, ScriptError>
         requires { HasPositiveCapacity kind }
     {
-        let size = size_of(alloc, kind, lines)?;
+        let size = size_of(lines);
         let table = Table::new(alloc, kind)?;
         Ok(Layout {
             alloc,
@@ -79,28 +91,24 @@ impl Layout {
         Ok(pieces?)
     }
 
-    // Makes the command of a line, or of its further rows the next poll that is ready.
-    fn follow(&mut self, number: Option<u64>, line: &[u8]) -> Result<(), ScriptError> {
-        if number.is_none() {
-            return Ok(self.table.poll_row()?);
+    // Makes a command.
+    fn follow(&mut self, command: Command) -> Result<(), OutOfMemory> {
+        match command {
+            Command::Make(step) => return self.table.make_row(step),
+            Command::Notice(_) => {}
+            Command::Settle => self.settles = true,
         }
-        match command_of(self.alloc, line)? {
-            Ok(Command::Make(step)) => Ok(self.table.make_row(step)?),
-            Ok(Command::Settle) => {
-                self.settles = true;
-                self.table.begin_row();
-                Ok(())
-            }
-            _ => {
-                self.table.begin_row();
-                Ok(())
-            }
-        }
+        self.table.begin_row();
+        Ok(())
     }
 
     /// Makes the row of these texts, and answers what stands before its reply, and what behind it.
     pub fn around(&mut self, texts: RowTexts<'_>) -> Result<(Vec<Piece>, Vec<Piece>), ScriptError> {
-        self.follow(texts.number, texts.line)?;
+        if texts.is_first {
+            self.follow(texts.line.command)?;
+        } else {
+            self.table.poll_row()?;
+        }
         let row = match self.form {
             Form::Svg => svg::row(self.alloc, &self.table, self.size, texts),
             Form::Terminal => terminal::row(self.alloc, &self.table, self.size, texts),

@@ -1,4 +1,4 @@
-//! What a picture of a script shows beside the replies, and where it stands.
+//! What a picture shows beside the replies, and where: apart from `chandraw` for the cost of proofs.
 //!
 //! A picture has a row for each reply. A [`Layout`] follows the lines of the script, and says what
 //! stands before the first row, around the reply of each, and behind the last one. All of it is

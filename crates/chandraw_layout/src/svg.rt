@@ -242,8 +242,8 @@ fn add_changes(
 
 // Adds the line, or that it is a poll of settling.
 fn add_line_or_poll(pieces: &mut Pieces, row: u64, texts: RowTexts<'_>) -> Result<(), AllocError> {
-    if let Some(number) = texts.number {
-        return add_line(pieces, row, number, texts.line);
+    if texts.is_first {
+        return add_line(pieces, row, texts.line.number, texts.line.text);
     }
     pieces.mark(Mark::PollText)?;
     pieces.number(text_y(row))?;

@@ -14,7 +14,7 @@
 //! the polls of settling.
 ghost use Rattle.channel_model.specs.Capacity.{HasPositiveCapacity};
 
-use crate::act::{Act, act_of, is_ready, subject_of};
+use crate::act::{Act, act_of, subject_of};
 use crate::lane::{Held, LANES, Lane, Place, Stroke, Trace, handle};
 use crate::name::{Name, NameKind, named};
 use channel_model::{Kind, Notice, OutOfMemory, Refusal, Reply, Step, Who};
@@ -137,7 +137,7 @@ impl Table {
         };
         let reply = self.run.step(step);
         self.note_reply(act, lane, before, &reply)?;
-        Ok(is_ready(&reply))
+        Ok(reply.is_ready())
     }
 
     // Notes the reply to a step. Of who was polled or given up this was known before it.

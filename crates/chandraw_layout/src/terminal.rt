@@ -293,9 +293,17 @@ fn add_cells(
 // What stands before a reply.
 fn head(alloc: Global, table: &Table, texts: RowTexts<'_>) -> Result<Vec<Piece>, AllocError> {
     let mut pieces = Pieces::new(alloc);
-    match texts.number {
-        Some(number) => add_line(&mut pieces, alloc, table, number, texts.line, REPLY)?,
-        None => pieces.mark(Mark::TerminalPoll)?,
+    if texts.is_first {
+        add_line(
+            &mut pieces,
+            alloc,
+            table,
+            texts.line.number,
+            texts.line.text,
+            REPLY,
+        )?;
+    } else {
+        pieces.mark(Mark::TerminalPoll)?;
     }
     Ok(pieces.list)
 }

@@ -1,2 +1,5 @@
+pub mod Scenes
+pub mod Trails
+pub mod HandedOver
 pub mod Preparing
 pub mod Counting

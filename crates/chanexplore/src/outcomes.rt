@@ -2,10 +2,10 @@
 ghost use Rattle.std.specs.Prelude.{◌≡◌, ◌+◌, ◌-◌, ◌<◌, ◌^◌, [], IfOk, OnErr, OnOk};
 ghost use Rattle.chanexplore.specs.Counts.{orders_in};
 
+use crate::party::{Answer, Turn};
 use crate::plan::Plan;
+use crate::search::Visitor;
 use channel_model::OutOfMemory;
-use channel_orders::party::{Answer, Turn};
-use channel_orders::search::Visitor;
 use chanrun::reply_text::{NoticeText, ReplyText};
 use std::alloc::{AllocError, Global};
 use std::collections::BTreeMap;

@@ -1,15 +1,15 @@
 //! What the input says: the channel, the lines before the parties, and the parties' lines.
-ghost use Rattle.std.specs.Prelude.{ℕ, [], IfOk, OnOk};
-ghost use Rattle.channel_model.specs.declared.step.Kind.{Kind};
+ghost use Rattle.std.specs.Prelude.{[], IfOk};
 ghost use Rattle.channel_model.specs.Capacity.{HasPositiveCapacity};
-ghost use Rattle.channel_model.specs.Past.{Past};
 ghost use Rattle.channel_run.specs.StandsFor.{StandsFor};
-ghost use Rattle.chanrun.specs.Script.{past_after_all, past_after_command};
+ghost use Rattle.chanrun.specs.Script.{past_after_all};
 
+use crate::party::{Act, Opening};
 use channel_model::{Kind, OutOfMemory, Who};
-use channel_orders::party::{Act, Opening, make, step_again};
 use channel_run::Run;
-use chanrun::grammar::{Command, Fault, LINE_LIMIT, command_of, kind_of, split_line, who_of};
+use chanrun::grammar::{Command, Fault, LINE_LIMIT, command_of, who_of};
+use chanrun::parse::cut_lines;
+use chanrun::replay::answer_to;
 use chanrun::script::ScriptError;
 use std::alloc::{AllocError, Global};
 
@@ -119,24 +119,6 @@ pub fn act_of(alloc: Global, line: &[u8]) -> Result<Result<Act, Fault>, AllocErr
     })
 }
 
-// Does a line that stands before the parties.
-fn prepare(run: &mut Run<u64>, command: &Command) -> Result<(), OutOfMemory>
-    ensures { (kind : Kind) (past : Past ℕ) → StandsFor kind past run.old
-        → OnOk result (StandsFor kind (past_after_command kind past command.now) run.new) }
-{
-    match command {
-        Command::Make(step) => {
-            let _reply = make(run, step_again(step))?;
-            Ok(())
-        }
-        Command::Notice(_) => Ok(()),
-        Command::Settle => {
-            let _settled = run.settle()?;
-            Ok(())
-        }
-    }
-}
-
 // Does the lines that stand before the parties, in order.
 fn prepare_all(alloc: Global, kind: Kind, before: &[Command]) -> Result<Run<u64>, OutOfMemory>
     requires { HasPositiveCapacity kind }
@@ -144,7 +126,7 @@ fn prepare_all(alloc: Global, kind: Kind, before: &[Command]) -> Result<Run<u64>
 {
     let mut run = Run::new(alloc, kind)?;
     for command in before {
-        prepare(&mut run, command)?;
+        let _answer = answer_to(&mut run, *command)?;
     }
     Ok(run)
 }
@@ -247,21 +229,13 @@ impl Plan {
 /// assert!(rt; matches!(twice, Err(found) if found == error));
 /// ```
 pub fn plan_of(alloc: Global, input: &[u8]) -> Result<Plan, ScriptError> {
-    if input.is_empty() {
-        return Err(ScriptError::Fault {
-            line: 1,
-            fault: Fault::ChannelMissing,
-        });
-    }
-    let (first, others) = split_line(input);
-    let mut plan = match kind_of(alloc, first)? {
-        Ok(kind) => Plan::new(alloc, kind, first)?,
+    let lines = match cut_lines(alloc, input)? {
+        Ok(lines) => lines,
         Err(fault) => return Err(ScriptError::Fault { line: 1, fault }),
     };
-    let mut rest = others;
+    let mut plan = Plan::new(alloc, lines.kind, lines.first)?;
     let mut number: u64 = 1;
-    while !rest.is_empty() {
-        let (line, others) = split_line(rest);
+    for line in lines.others {
         number = number.saturating_add(1);
         if let Err(fault) = plan.add(alloc, line)? {
             return Err(ScriptError::Fault {
@@ -269,7 +243,6 @@ pub fn plan_of(alloc: Global, input: &[u8]) -> Result<Plan, ScriptError> {
                 fault,
             });
         }
-        rest = others;
     }
     Ok(plan)
 }

@@ -1,16 +1,17 @@
 //! The whole program over its devices.
 
 use crate::outcomes::Outcomes;
+use crate::party::Turn;
 use crate::plan::{Plan, plan_of};
 use crate::report::write_report;
+use crate::search::{Visitor, search};
 use channel_model::OutOfMemory;
-use channel_orders::party::Turn;
-use channel_orders::search::{Visitor, search};
 use chanrun::device::{Sink, Source};
-use chanrun::script::{ScriptError, read_script, write_text};
+use chanrun::program::status_of;
+use chanrun::script::{ScriptError, read_script};
+use chanrun::standard::Program;
+use chanrun::tell::tell;
 use std::alloc::Global;
-use std::fmt;
-use std::fmt::Write;
 
 /// How many orders are made where no argument says it.
 ///
@@ -163,35 +164,6 @@ pub fn explore<R: Source, W: Sink, P: Watch>(
     explore_plan(alloc, limit, &plan, writer, watch)
 }
 
-// A sink to which text is written.
-struct Lines<'a, S> {
-    sink: &'a mut S,
-}
-
-impl<S: Sink> fmt::Write for Lines<'_, S> {
-    fn write_str(&mut self, text: &str) -> fmt::Result {
-        match write_text(&mut *self.sink, text.as_bytes()) {
-            Ok(()) => Ok(()),
-            Err(_) => Err(fmt::Error),
-        }
-    }
-}
-
-// Writes a line, as far as the sink takes it.
-fn tell<S: Sink, D: fmt::Display + Drop>(sink: &mut S, text: D) {
-    let mut lines = Lines { sink };
-    let _ = writeln!(lines, "{text}");
-    let Lines { sink: _ } = lines;
-}
-
-// The status for an end without a report.
-fn status_of(error: &ScriptError) -> u8 {
-    match error {
-        ScriptError::Fault { .. } => 2,
-        _ => 1,
-    }
-}
-
 /// The program over its devices. It answers the exit status: 0 where every order was made, 3 where
 /// the limit was met before, 2 for a faulty line or for other arguments than `--orders N`, 1
 /// otherwise. A line that says why it is 1 or 2 goes to `errors`; a failure there changes nothing.
@@ -238,5 +210,36 @@ pub fn program<R: Source, W: Sink, E: Sink, P: Watch>(
             tell(errors, error);
             status
         }
+    }
+}
+
+/// Explores what is read from standard input, and prints the outcomes.
+///
+/// # Examples
+///
+/// ```
+/// let (written, said) = (Vec::new(rt.alloc()), Vec::new(rt.alloc()));
+/// let input = b"unbounded\nparty one\nlen t0\n".as_slice();
+/// let explorer = Chanexplore { watch: Last(0) };
+/// let ended = run_buffered(rt.alloc(), explorer, Some(&[]), input, written, said);
+/// assert_eq!(rt; ended, Ok(2));
+/// ```
+#[derive(Drop)]
+pub struct Chanexplore<P> {
+    /// Who is shown how far the search is.
+    pub watch: P,
+}
+
+impl<P: Watch + Drop> Program for Chanexplore<P> {
+    fn run<R: Source, W: Sink, E: Sink>(
+        self,
+        alloc: Global,
+        arguments: Option<&[String]>,
+        reader: &mut R,
+        writer: &mut W,
+        errors: &mut E,
+    ) -> u8 {
+        let Chanexplore { mut watch } = self;
+        program(alloc, arguments, reader, writer, errors, &mut watch)
     }
 }

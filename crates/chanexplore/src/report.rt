@@ -17,10 +17,10 @@
 //!
 //! The script goes to the next empty line, or to the end.
 use crate::outcomes::Tally;
+use crate::party::Act;
 use crate::plan::Plan;
+use crate::search::Searched;
 use channel_model::Who;
-use channel_orders::party::Act;
-use channel_orders::search::Searched;
 use chanrun::device::Sink;
 use chanrun::script::{ScriptError, write_text};
 use std::alloc::{AllocError, Global};

@@ -1,2 +1,3 @@
 pub mod Rings
 mod Forced
+mod Replaced

@@ -1,14 +1,24 @@
 -- What a ticket that may be there does to a waiting list. A ticket whose key isn't in the list
 -- counts as none: its entry neither leaves nor waits.
 use Rattle.std.specs.Prelude.{◌≡◌, ℕ, Bool, true, false, List, [], take, Option, Some, None, IsSomeAnd, if◌then◌else◌}
-use Rattle.event_list.specs.Keys.{is_among}
-use Rattle.event_list.specs.Waiting.{Waiting, IsWaiting, LosesOne, keys, payloads, joined, without, renewed, cancelled}
+use Rattle.identity.specs.Keys.{is_among}
+use Rattle.event_list.specs.Waiting.{Waiting, IsWaiting, LosesOne, keys, payloads, payload_in, joined, without, renewed, cancelled}
 
 module _ {W : Type 0} where
   -- whether the ticket's entry is in the list
   abbrev pub waits : Option ℕ → Waiting W → Bool
   waits None list = false
   waits (Some key) list = is_among key (keys list)
+
+  -- the payload of the ticket's entry, where it is untold
+  abbrev pub payload_held : Option ℕ → Waiting W → Option W
+  payload_held None list = None
+  payload_held (Some key) list = payload_in key list.untold
+
+  -- what comes back of it where the entry waits again with a payload; without one nothing does
+  abbrev pub payload_replaced : Option W → Option ℕ → Waiting W → Option W
+  payload_replaced None ticket list = None
+  payload_replaced (Some payload) ticket list = payload_held ticket list
 
   -- the ticket's entry leaves
   abbrev pub left : Option ℕ → Waiting W → Waiting W

@@ -12,7 +12,7 @@
 //! many receives are told as messages are held, and beside such a send as many sends as places are
 //! free. An accepted message tells one more. A message that anybody takes lowers the number that is
 //! owed. Who was told and polls takes what it was told of, or finds it taken by somebody else and
-//! goes last, unnotified. Who was told and is given up hands its notice to the next one. So the
+//! goes last, untold. Who was told and is given up hands its notice to the next one. So the
 //! numbers stay right, and nobody waits for what is there. Streams are told together, since a
 //! receiver that never polls its stream again would keep a notice to itself; so a stream that
 //! leaves has none to hand on.
@@ -21,7 +21,7 @@
 //! told, so that it never tells itself.
 ghost use Rattle.std.specs.Prelude.{◌≡◌, ◌<◌, ◌==◌, ◌&&◌, ◌++◌, not, length, Some, None, IfOk, true, slice_get, []};
 ghost use Rattle.std.specs.Bool.{OnTrue, OnFalse};
-ghost use Rattle.event_list.specs.Keys.{AreDifferent};
+ghost use Rattle.identity.specs.Keys.{AreDifferent};
 ghost use Rattle.event_list.specs.Waiting.{RingsEach, keys, payloads, told_count, told_all, told_flag};
 ghost use Rattle.channel_core.specs.Channel.{new_channel, is_channel_full, list_of};
 
@@ -83,7 +83,7 @@ pub enum Upgrade {
 ///
 /// A payload `W` is what a waiter leaves to be told by, as a waker of its task: a call that tells
 /// somebody rings its [`Bell`] with it. The law of notices is the invariant of the type: whoever
-/// waits unnotified could not go on, or enough others were told.
+/// waits untold could not go on, or enough others were told.
 ///
 /// # Examples
 ///

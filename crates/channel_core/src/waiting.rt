@@ -1,7 +1,7 @@
 //! The waiting lists of a channel, and what a ticket that may be there does to one.
-ghost use Rattle.std.specs.Prelude.{◌≡◌, ◌++◌, None, OnErr, OnOk, false, take};
+ghost use Rattle.std.specs.Prelude.{◌≡◌, ◌++◌, None, IfOk, MatchOption, OnErr, OnOk, false, take};
 ghost use Rattle.event_list.specs.Waiting.{RingsEach, nobody, payloads, told_one, told_all};
-ghost use Rattle.channel_core.specs.Tickets.{Waits, waits, left, handed_on, rung_by_handing_on, LosesAtMostOne};
+ghost use Rattle.channel_core.specs.Tickets.{Waits, waits, payload_held, payload_replaced, left, handed_on, rung_by_handing_on, LosesAtMostOne};
 
 use crate::state::Group;
 use channel_model::OutOfMemory;
@@ -86,55 +86,66 @@ impl<W: Drop> WaitLists<W> {
     }
 }
 
-/// The ticket's entry leaves the list, with its notice.
-pub(crate) fn leave<W: Drop>(list: &mut WaitList<W>, ticket: &mut Option<Ticket>)
+/// The ticket's entry leaves the list, with its notice. The answer is the payload that it held.
+pub(crate) fn leave<W: Drop>(list: &mut WaitList<W>, ticket: &mut Option<Ticket>) -> Option<W>
+    ensures payload { result ≡ payload_held ticket.old list.old }
     ensures after { list.new ≡ left ticket.old list.old }
     ensures sizes { LosesAtMostOne ticket.old list.old }
     ensures ticket { ticket.new ≡ None }
 {
-    if let Some(ticket) = ticket.take() {
-        list.remove(ticket);
-    }
+    list.unregister(ticket.take()?)?.into_payload()
 }
 
-/// The ticket's entry leaves the list, and a notice that it had is handed on.
+/// The ticket's entry leaves the list, and a notice that it had is handed on. The answer is the
+/// payload that it held.
 pub(crate) fn hand_on<W: Drop, B: Bell<W>>(
     list: &mut WaitList<W>,
     ticket: &mut Option<Ticket>,
     bell: &mut B,
-)
+) -> Option<W>
+    ensures payload { result ≡ payload_held ticket.old list.old }
     ensures after { list.new ≡ handed_on ticket.old list.old }
     ensures rung { RingsEach B.rings bell.old (rung_by_handing_on ticket.old list.old) bell.new }
     ensures sizes { LosesAtMostOne ticket.old list.old }
     ensures ticket { ticket.new ≡ None }
 {
-    if let Some(ticket) = ticket.take() {
-        list.cancel(ticket, bell);
-    }
+    list.withdraw(ticket.take()?, bell)
 }
 
-/// Who can't go on waits: its entry waits again, or it begins to wait.
+/// Who can't go on waits with the payload: its entry waits again, or it begins to wait. The answer
+/// is the payload that its entry held. Without a payload nothing changes.
 pub(crate) fn wait<W: Drop>(
     list: &mut WaitList<W>,
     ticket: &mut Option<Ticket>,
-    w: W,
-) -> Result<(), OutOfMemory>
-    ensures ok { OnOk result (Waits ticket.old list.old w ticket.new list.new) }
+    w: &mut Option<W>,
+) -> Result<Option<W>, OutOfMemory>
+    ensures ok { OnOk result (MatchOption w.old
+        ((list.new ≡ list.old) × (ticket.new ≡ ticket.old))
+        (λ payload. Waits ticket.old list.old payload ticket.new list.new)) }
+    ensures replaced { IfOk result
+        (λ payload. payload ≡ payload_replaced w.old ticket.old list.old) }
+    ensures used { OnOk result (w.new ≡ None) }
     ensures unchanged { OnErr result (list.new ≡ list.old) }
-    ensures kept { OnErr result (ticket.new ≡ ticket.old) }
+    ensures kept { OnErr result ((ticket.new ≡ ticket.old) × (w.new ≡ w.old)) }
     ensures wanted { OnErr result (waits ticket.old list.old ≡ false) }
 {
+    let Some(mut payload) = w.take() else {
+        return Ok(None);
+    };
     if let Some(ticket) = ticket {
-        if list.contains(ticket) {
-            list.again(ticket, w);
-            return Ok(());
+        match list.renew(ticket, payload) {
+            Ok(replaced) => return Ok(replaced),
+            Err(back) => payload = back,
         }
     }
-    match list.listen(w) {
+    match list.listen(payload) {
         Ok(new) => {
             *ticket = Some(new);
-            Ok(())
+            Ok(None)
         }
-        Err(NoRoom(_payload)) => Err(OutOfMemory),
+        Err(NoRoom(payload)) => {
+            *w = Some(payload);
+            Err(OutOfMemory)
+        }
     }
 }

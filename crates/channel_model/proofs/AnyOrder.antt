@@ -6,9 +6,9 @@ use Rattle.channel_model.specs.declared.step.Refusal.TheVariants.{Unknown, Borro
 use Rattle.channel_model.specs.declared.step.Step.{Step}
 use Rattle.channel_model.specs.declared.step.Step.TheVariants.{Poll, PollNext}
 use Rattle.channel_model.specs.declared.step.Reply.{Reply}
-use Rattle.event_list.specs.Keys.{is_among}
+use Rattle.identity.specs.Keys.{is_among}
 use Rattle.channel_model.specs.Past.{Past}
-use Rattle.channel_model.specs.Handles.{live_receivers}
+use Rattle.channel_model.specs.Handles.{live_names, Receivers}
 use Rattle.channel_model.specs.Operations.{Operation, is_awaiting, is_receive, is_unsent, operation_of}
 use Rattle.channel_model.specs.Refusals.{is_borrowed, refusal_of}
 use Rattle.channel_model.specs.Notices.{rosters}
@@ -35,9 +35,9 @@ pub poll-allowed : {T : Type 0} (kind : Kind) (past : Past T) (op : ℕ) → is_
     → IsAllowed {T = T} (Poll op) (refusal_of kind past (Poll op))
 poll-allowed kind past op known = ap (λ known. cond (not known) (Some Unknown) None) known
 
-pub poll_next-allowed : {T : Type 0} (kind : Kind) (past : Past T) (receiver : ℕ) → is_among receiver (live_receivers past) ≡ true
+pub poll_next-allowed : {T : Type 0} (kind : Kind) (past : Past T) (receiver : ℕ) → is_among receiver (live_names Receivers past) ≡ true
     → IsAllowed {T = T} (PollNext receiver) (refusal_of kind past (PollNext receiver))
-poll_next-allowed kind past receiver known = go (is_among receiver (live_receivers past)) known
+poll_next-allowed kind past receiver known = go (is_among receiver (live_names Receivers past)) known
     (is_borrowed (view_of kind past) (PollNext receiver))
   where
     go : (known : Bool) → known ≡ true → (borrowed : Bool)

@@ -14,13 +14,12 @@ use Rattle.channel_model.specs.declared.step.Reply.TheVariants.{Received, RecvPo
 use Rattle.channel_model.specs.Past.{Past}
 use Rattle.channel_model.specs.Operations.{Operation, sending, receiving, awaiting_close, operation_of, message_of, unsent_message, live_operations}
 use Rattle.channel_model.specs.Messages.{with_last, accepted_by, taken_by, accepted_messages, taken_messages, held_messages, oldest_message}
-use Rattle.channel_model.specs.Capacity.{is_full}
-use Rattle.channel_model.specs.Handles.{live_receivers}
+use Rattle.channel_model.specs.Handles.{live_names, Receivers}
 use Rattle.channel_model.specs.Closing.{is_closed, has_none}
 use Rattle.channel_model.specs.Replies.{due_reply, poll_reply}
 use Rattle.channel_model.specs.Legal.{IsLegal}
 use Rattle.channel_model.specs.Laws.{StaysClosed, taken_since, GivesWhatIsLeft, ComesBack, sent_by, given_back}
-use Rattle.channel_model.proofs.ReplyForms.{try_send_reply, force_send_reply, try_recv_reply, poll_send_reply, poll_recv_reply, poll_next_reply, poll_closed_reply}
+use Rattle.channel_model.proofs.ReplyForms.{try_send_reply, force_send_reply, try_recv_reply, poll_send_reply, poll_recv_reply, poll_next_reply, poll_closed_reply, is_full}
 use Rattle.channel_model.proofs.Conserved.{accepted_messages-IsLegal}
 
 -- ---- nothing is accepted any more
@@ -54,7 +53,7 @@ poll_closed-none past op false = refl
 
 poll-none : {T : Type 0} (past : Past T) (op : ℕ) (operation : Option (Operation T)) (closed no_receiver full : Bool)
     (oldest : Option T) → closed ≡ true → accepted_by (live_operations past) (Poll op)
-    (poll_reply operation closed no_receiver full oldest) ≡ None
+    (poll_reply closed no_receiver full oldest operation) ≡ None
 poll-none past op (Some (sending sender message)) closed no_receiver full oldest c =
     poll_send-none past op message closed full c
 poll-none past op (Some (receiving receiver)) closed no_receiver full oldest c = poll_recv-none past op oldest closed
@@ -70,7 +69,7 @@ accepted_by-closed {T} kind past (ForceSend sender message) c =
     ap (λ (closed : Bool). accepted_by (live_operations past) (ForceSend sender message)
     (force_send_reply closed (is_full kind past) (oldest_message past) message)) c
 accepted_by-closed kind past (Poll op) c =
-    poll-none past op (operation_of past op) (is_closed past) (has_none (live_receivers past)) (is_full kind past)
+    poll-none past op (operation_of past op) (is_closed past) (has_none (live_names Receivers past)) (is_full kind past)
     (oldest_message past) c
 accepted_by-closed kind past step c = refl
 
@@ -156,8 +155,8 @@ GivesWhatIsLeft-closed {T} kind past closed = record {
   at_once = λ receiver. ap (λ (c : Bool). try_recv_reply (oldest_message past) c) closed
       ∙ try_recv-left (oldest_message past);
   polled = λ op receiver found.
-      ap (λ (operation : Option (Operation T)). poll_reply operation (is_closed past) (has_none (live_receivers past))
-      (is_full kind past) (oldest_message past)) found
+      ap (λ (operation : Option (Operation T)). poll_reply (is_closed past) (has_none (live_names Receivers past))
+      (is_full kind past) (oldest_message past) operation) found
       ∙ ap (λ (c : Bool). poll_recv_reply (oldest_message past) c) closed
       ∙ poll_recv-left (oldest_message past);
   streamed = λ receiver. ap (λ (c : Bool). poll_next_reply (oldest_message past) c) closed
@@ -221,8 +220,8 @@ poll_send-refuses past op (Some sent) false false message m back = cc
 
 poll-refuses : {T : Type 0} (past : Past T) (op : ℕ) (operation : Option (Operation T)) (closed no_receiver full : Bool)
     (oldest : Option T) (message : T) → operation_of past op ≡ operation
-    → given_back (poll_reply operation closed no_receiver full oldest) ≡ Some message
-    → Refuses past (Poll op) (poll_reply operation closed no_receiver full oldest) message
+    → given_back (poll_reply closed no_receiver full oldest operation) ≡ Some message
+    → Refuses past (Poll op) (poll_reply closed no_receiver full oldest operation) message
 poll-refuses {T} past op (Some (sending sender sent)) closed no_receiver full oldest message o back =
     poll_send-refuses past op sent closed full message
     (ap (λ (operation : Option (Operation T)). option_and_then unsent_message operation) o) back
@@ -241,7 +240,7 @@ due-refuses kind past (ForceSend sender sent) message back =
 due-refuses kind past (TryRecv receiver) message back =
     absurd (try_recv-no_error (oldest_message past) (is_closed past) message back)
 due-refuses kind past (Poll op) message back =
-    poll-refuses past op (operation_of past op) (is_closed past) (has_none (live_receivers past)) (is_full kind past)
+    poll-refuses past op (operation_of past op) (is_closed past) (has_none (live_names Receivers past)) (is_full kind past)
     (oldest_message past) message refl back
 due-refuses kind past (PollNext receiver) message back =
     absurd (poll_next-no_error (oldest_message past) (is_closed past) message back)

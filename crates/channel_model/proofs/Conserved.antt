@@ -9,12 +9,11 @@ use Rattle.channel_model.specs.declared.step.Reply.{Reply}
 use Rattle.channel_model.specs.Past.{Past}
 use Rattle.channel_model.specs.Operations.{Operation, awaiting_close, operation_of, receiving, sending, live_operations}
 use Rattle.channel_model.specs.Messages.{accepted_by, accepted_messages, held_messages, oldest_message, taken_by, taken_messages, with_last}
-use Rattle.channel_model.specs.Capacity.{is_full}
-use Rattle.channel_model.specs.Handles.{live_receivers}
+use Rattle.channel_model.specs.Handles.{live_names, Receivers}
 use Rattle.channel_model.specs.Closing.{is_closed, has_none}
 use Rattle.channel_model.specs.Replies.{due_reply, poll_reply}
 use Rattle.channel_model.specs.Legal.{IsLegal}
-use Rattle.channel_model.proofs.ReplyForms.{force_send_reply, poll_closed_reply, poll_next_reply, poll_recv_reply, poll_send_reply, try_recv_reply, try_send_reply}
+use Rattle.channel_model.proofs.ReplyForms.{force_send_reply, poll_closed_reply, poll_next_reply, poll_recv_reply, poll_send_reply, try_recv_reply, try_send_reply, is_full}
 
 module _ {T : Type 0} where
   -- a reply takes nothing, or the oldest message
@@ -68,7 +67,7 @@ poll_closed-takes true oldest = inl refl
 poll_closed-takes false oldest = inl refl
 
 poll-takes : {T : Type 0} (operation : Option (Operation T)) (closed no_receiver full : Bool) (oldest : Option T)
-    → TakesOldest (poll_reply operation closed no_receiver full oldest) oldest
+    → TakesOldest (poll_reply closed no_receiver full oldest operation) oldest
 unfolding TakesOldest
 poll-takes (Some (sending sender message)) closed no_receiver full oldest = poll_send-takes message closed full oldest
 poll-takes (Some (receiving receiver)) closed no_receiver full oldest = poll_recv-takes oldest closed
@@ -83,7 +82,7 @@ due_reply-takes kind past (TrySend sender message) =
 due_reply-takes kind past (ForceSend sender message) =
     force_send-takes (is_closed past) (is_full kind past) message (oldest_message past)
 due_reply-takes kind past (TryRecv receiver) = try_recv-takes (oldest_message past) (is_closed past)
-due_reply-takes kind past (Poll op) = poll-takes (operation_of past op) (is_closed past) (has_none (live_receivers past))
+due_reply-takes kind past (Poll op) = poll-takes (operation_of past op) (is_closed past) (has_none (live_names Receivers past))
     (is_full kind past) (oldest_message past)
 due_reply-takes kind past (PollNext receiver) = poll_next-takes (oldest_message past) (is_closed past)
 due_reply-takes kind past step = inl refl

@@ -3,7 +3,7 @@ use Rattle.std.proofs.Common.{◌≡◌, ◌+◌, ◌-◌, ◌<◌, ◌≤◌, [
 use Rattle.channel_model.specs.declared.step.Kind.{Kind}
 use Rattle.channel_model.specs.declared.step.Reply.{Reply}
 use Rattle.channel_model.specs.Past.{Past}
-use Rattle.channel_model.specs.Handles.{live_receivers, live_senders}
+use Rattle.channel_model.specs.Handles.{live_names, Receivers, Senders}
 use Rattle.channel_model.specs.Messages.{held_messages}
 use Rattle.channel_model.specs.Capacity.{HasPositiveCapacity}
 use Rattle.channel_model.specs.Closing.{has_none, is_close, is_closed}
@@ -47,15 +47,15 @@ Whole-IsLegal {T} kind ((step, reply) ∷ past) legal =
 -- ---- the law in numbers
 
 -- an open channel has a sender and a receiver
-pub senders-open : {T : Type 0} (past : Past T) → is_closed past ≡ false → 0 < length (live_senders past)
+pub senders-open : {T : Type 0} (past : Past T) → is_closed past ≡ false → 0 < length (live_names Senders past)
 senders-open [] e = omega arith
-senders-open (pair ∷ past) e = open-senders (is_closed past) (is_close pair.0) (live_senders (pair ∷ past))
-    (has_none (live_receivers (pair ∷ past))) e
+senders-open (pair ∷ past) e = open-senders (is_closed past) (is_close pair.0) (live_names Senders (pair ∷ past))
+    (has_none (live_names Receivers (pair ∷ past))) e
 
-pub receivers-open : {T : Type 0} (past : Past T) → is_closed past ≡ false → 0 < length (live_receivers past)
+pub receivers-open : {T : Type 0} (past : Past T) → is_closed past ≡ false → 0 < length (live_names Receivers past)
 receivers-open [] e = omega arith
 receivers-open (pair ∷ past) e = open-receivers (is_closed past) (is_close pair.0)
-    (has_none (live_senders (pair ∷ past))) (live_receivers (pair ∷ past)) e
+    (has_none (live_names Senders (pair ∷ past))) (live_names Receivers (pair ∷ past)) e
 
 pub nobody-counted : (roster : Roster) → IsSound roster → roster.names ≡ []
     → roster.told + (length roster.names - roster.told) ≡ 0

@@ -7,10 +7,10 @@ use Rattle.channel_model.specs.declared.step.Kind.TheVariants.{Bounded, Unbounde
 use Rattle.channel_model.specs.declared.step.Step.{Step}
 use Rattle.channel_model.specs.declared.step.Reply.{Reply}
 use Rattle.channel_model.specs.Past.{Past}
-use Rattle.channel_model.specs.Handles.{live_receivers, live_senders}
+use Rattle.channel_model.specs.Handles.{live_names, Receivers, Senders}
 use Rattle.channel_model.specs.Operations.{live_operations}
 use Rattle.channel_model.specs.Messages.{accepted_by, accepted_messages, held_messages, received_by, taken_by, taken_messages}
-use Rattle.channel_model.specs.Capacity.{capacity_of, is_full}
+use Rattle.channel_model.specs.Capacity.{capacity_of}
 use Rattle.channel_model.specs.Closing.{has_none, is_close, is_closed}
 use Rattle.channel_model.specs.Rosters.{Roster, Rosters, tell_all, tell_one}
 use Rattle.channel_model.specs.Notices.{after_accepting, after_closing, after_last_receiver, after_own_move, after_receiving, rosters}
@@ -18,6 +18,7 @@ use Rattle.channel_model.specs.Legal.{IsLegal}
 use Rattle.std.proofs.lemmas.Bool.{leb-true, leb-false}
 use Rattle.channel_model.proofs.Conserved.{accepted_messages-IsLegal, count_of, length-with_last}
 use Rattle.channel_model.proofs.Keeping.{HasUntold, Enough, IsAllTold, IsAllTold-tell_all, Enough-tell_one, Enough-fewer, IsAllTold-tell_one, Enough-all_told}
+use Rattle.channel_model.proofs.ReplyForms.{is_full}
 
 -- What one pair adds to what is held.
 pub length-held_messages : {T : Type 0} (kind : Kind) (past : Past T) (step : Step T) (reply : Reply T)
@@ -60,7 +61,7 @@ IsHalfway-held capacity held held' closed receivers all e half = rw e half
 -- The law after a past, roster by roster.
 abbrev pub Whole : {T : Type 0} → Kind → Past T → Type 0
 Whole kind past = IsHalfway (capacity_of kind) (length (held_messages past)) (is_closed past)
-    (length (live_receivers past)) (rosters past)
+    (length (live_names Receivers past)) (rosters past)
 
 -- where all are told nobody is untold
 pub all_told-untold : (roster : Roster) → IsAllTold roster → HasUntold roster → ⊥
@@ -161,16 +162,16 @@ halfway_rosters past step reply = after_receiving (received_by reply)
 
 pub Whole-from_halfway : {T : Type 0} (kind : Kind) (past : Past T) (step : Step T) (reply : Reply T)
     → IsHalfway (capacity_of kind) (length (held_messages ((step, reply) ∷ past))) (is_closed past)
-    (length (live_receivers past)) (halfway_rosters past step reply)
+    (length (live_names Receivers past)) (halfway_rosters past step reply)
     → Whole kind ((step, reply) ∷ past)
 Whole-from_halfway kind past step reply half =
     ended_or_not (capacity_of kind) (length (held_messages ((step, reply) ∷ past))) (is_closed ((step, reply) ∷ past))
-    (live_receivers past) (live_receivers ((step, reply) ∷ past))
+    (live_names Receivers past) (live_names Receivers ((step, reply) ∷ past))
     (after_closing (is_closed past) (is_closed ((step, reply) ∷ past)) (halfway_rosters past step reply))
-    (closed_or_not (capacity_of kind) (length (held_messages ((step, reply) ∷ past))) (length (live_receivers past))
+    (closed_or_not (capacity_of kind) (length (held_messages ((step, reply) ∷ past))) (length (live_names Receivers past))
     (is_closed past) (is_closed ((step, reply) ∷ past)) (halfway_rosters past step reply)
-    (closed-stays (is_closed past) (is_close step) (has_none (live_senders ((step, reply) ∷ past)))
-    (has_none (live_receivers ((step, reply) ∷ past))))
+    (closed-stays (is_closed past) (is_close step) (has_none (live_names Senders ((step, reply) ∷ past)))
+    (has_none (live_names Receivers ((step, reply) ∷ past))))
     half)
 
 -- ---- the kinds of change

@@ -3,7 +3,7 @@ use Rattle.std.proofs.Common.{◌≡◌, ℕ, ◌+◌, ◌-◌, ◌<◌, [], tru
 use Rattle.std.specs.Option.{ForSome, ForNone}
 use Rattle.channel_model.specs.declared.step.Kind.{Kind}
 use Rattle.channel_model.specs.Past.{Past}
-use Rattle.channel_model.specs.Handles.{live_receivers}
+use Rattle.channel_model.specs.Handles.{live_names, Receivers}
 use Rattle.channel_model.specs.Messages.{held_messages}
 use Rattle.channel_model.specs.Capacity.{capacity_of}
 use Rattle.channel_model.specs.Closing.{is_closed}
@@ -17,16 +17,16 @@ use Rattle.channel_model.proofs.Halfway.{AreAllTold, IsHalfway, IsHalfway-held, 
 -- Nothing went in or out, and nobody moved.
 pub unmoved : {T : Type 0} (kind : Kind) (past : Past T) (held' : ℕ) → Whole kind past
     → held' + 0 ≡ length (held_messages past) + 0
-    → IsHalfway (capacity_of kind) held' (is_closed past) (length (live_receivers past)) (rosters past)
+    → IsHalfway (capacity_of kind) held' (is_closed past) (length (live_names Receivers past)) (rosters past)
 unmoved kind past held' covered e =
     IsHalfway-held (capacity_of kind) (length (held_messages past)) held' (is_closed past)
-    (length (live_receivers past)) (rosters past) (omega arith) covered
+    (length (live_names Receivers past)) (rosters past) (omega arith) covered
 
 -- ---- one roster changed
 
 module _ {T : Type 0} (kind : Kind) (past : Past T) (held' : ℕ) (covered : Whole kind past) (same : held' + 0 ≡ length (held_messages past) + 0) where
   pub with_receives : (new : Roster) → Enough (length (held_messages past)) new → (is_closed past ≡ true → IsAllTold new)
-      → IsHalfway (capacity_of kind) held' (is_closed past) (length (live_receivers past))
+      → IsHalfway (capacity_of kind) held' (is_closed past) (length (live_names Receivers past))
       (record {
         sends = (rosters past).sends;
         receives = new;
@@ -35,7 +35,7 @@ module _ {T : Type 0} (kind : Kind) (past : Past T) (held' : ℕ) (covered : Who
       })
   with_receives new enough told =
       IsHalfway-held (capacity_of kind) (length (held_messages past)) held' (is_closed past)
-      (length (live_receivers past)) _ (omega arith)
+      (length (live_names Receivers past)) _ (omega arith)
       (record {
         receives = enough;
         sends = covered.sends;
@@ -49,7 +49,7 @@ module _ {T : Type 0} (kind : Kind) (past : Past T) (held' : ℕ) (covered : Who
 
   pub with_sends : (new : Roster) → ForSome (capacity_of kind) (λ most. Enough (most - length (held_messages past)) new)
       → ForNone (capacity_of kind) (new.names ≡ []) → (is_closed past ≡ true → IsAllTold new)
-      → IsHalfway (capacity_of kind) held' (is_closed past) (length (live_receivers past))
+      → IsHalfway (capacity_of kind) held' (is_closed past) (length (live_names Receivers past))
       (record {
         sends = new;
         receives = (rosters past).receives;
@@ -58,7 +58,7 @@ module _ {T : Type 0} (kind : Kind) (past : Past T) (held' : ℕ) (covered : Who
       })
   with_sends new enough none told =
       IsHalfway-held (capacity_of kind) (length (held_messages past)) held' (is_closed past)
-      (length (live_receivers past)) _ (omega arith)
+      (length (live_names Receivers past)) _ (omega arith)
       (record {
         receives = covered.receives;
         sends = enough;
@@ -72,7 +72,7 @@ module _ {T : Type 0} (kind : Kind) (past : Past T) (held' : ℕ) (covered : Who
 
   pub with_streams : (new : Roster) → (HasUntold new → (length (held_messages past) ≡ 0) × (is_closed past ≡ false))
       → (is_closed past ≡ true → IsAllTold new)
-      → IsHalfway (capacity_of kind) held' (is_closed past) (length (live_receivers past))
+      → IsHalfway (capacity_of kind) held' (is_closed past) (length (live_names Receivers past))
       (record {
         sends = (rosters past).sends;
         receives = (rosters past).receives;
@@ -81,7 +81,7 @@ module _ {T : Type 0} (kind : Kind) (past : Past T) (held' : ℕ) (covered : Who
       })
   with_streams new empty told =
       IsHalfway-held (capacity_of kind) (length (held_messages past)) held' (is_closed past)
-      (length (live_receivers past)) _ (omega arith)
+      (length (live_names Receivers past)) _ (omega arith)
       (record {
         receives = covered.receives;
         sends = covered.sends;
@@ -93,8 +93,8 @@ module _ {T : Type 0} (kind : Kind) (past : Past T) (held' : ℕ) (covered : Who
         within = covered.within;
       })
 
-  pub with_closeds : (new : Roster) → (HasUntold new → 0 < length (live_receivers past))
-      → IsHalfway (capacity_of kind) held' (is_closed past) (length (live_receivers past))
+  pub with_closeds : (new : Roster) → (HasUntold new → 0 < length (live_names Receivers past))
+      → IsHalfway (capacity_of kind) held' (is_closed past) (length (live_names Receivers past))
       (record {
         sends = (rosters past).sends;
         receives = (rosters past).receives;
@@ -103,7 +103,7 @@ module _ {T : Type 0} (kind : Kind) (past : Past T) (held' : ℕ) (covered : Who
       })
   with_closeds new still =
       IsHalfway-held (capacity_of kind) (length (held_messages past)) held' (is_closed past)
-      (length (live_receivers past)) _ (omega arith)
+      (length (live_names Receivers past)) _ (omega arith)
       (record {
         receives = covered.receives;
         sends = covered.sends;
@@ -117,7 +117,7 @@ module _ {T : Type 0} (kind : Kind) (past : Past T) (held' : ℕ) (covered : Who
 
   -- an operation is given up
   pub with_given_up : (op : ℕ) → AreSound (rosters past)
-      → IsHalfway (capacity_of kind) held' (is_closed past) (length (live_receivers past))
+      → IsHalfway (capacity_of kind) held' (is_closed past) (length (live_names Receivers past))
       (record {
         sends = hand_on op (rosters past).sends;
         receives = hand_on op (rosters past).receives;
@@ -126,7 +126,7 @@ module _ {T : Type 0} (kind : Kind) (past : Past T) (held' : ℕ) (covered : Who
       })
   with_given_up op sound =
       IsHalfway-held (capacity_of kind) (length (held_messages past)) held' (is_closed past)
-      (length (live_receivers past)) _ (omega arith)
+      (length (live_names Receivers past)) _ (omega arith)
       (record {
         receives = Enough-hand_on op (length (held_messages past))
             (rosters past).receives sound.receives covered.receives;

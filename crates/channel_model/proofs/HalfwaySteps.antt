@@ -11,15 +11,15 @@ use Rattle.channel_model.specs.declared.step.Reply.{Reply}
 use Rattle.channel_model.specs.declared.step.Refusal.TheVariants.{Unknown}
 use Rattle.channel_model.specs.declared.step.Reply.TheVariants.{SendPolled, Done, Refused}
 use Rattle.channel_model.specs.Past.{Past}
-use Rattle.channel_model.specs.Handles.{live_receivers}
+use Rattle.channel_model.specs.Handles.{live_names, Receivers}
 use Rattle.channel_model.specs.Operations.{Operation, awaiting_close, is_finished_send, message_of, operation_of, receiving, sending, unsent_message, live_operations}
 use Rattle.channel_model.specs.Messages.{accepted_by, held_messages, oldest_message, taken_by}
-use Rattle.channel_model.specs.Capacity.{capacity_of, is_full}
+use Rattle.channel_model.specs.Capacity.{capacity_of}
 use Rattle.channel_model.specs.Closing.{has_none, is_closed}
 use Rattle.channel_model.specs.Replies.{due_reply, poll_reply}
 use Rattle.channel_model.specs.Rosters.{AreSound, Rosters, leave, wait}
 use Rattle.channel_model.specs.Notices.{after_accepting, rosters}
-use Rattle.channel_model.proofs.ReplyForms.{force_send_reply, poll_closed_reply, poll_next_reply, poll_recv_reply, poll_send_reply, try_recv_reply, try_send_reply}
+use Rattle.channel_model.proofs.ReplyForms.{force_send_reply, poll_closed_reply, poll_next_reply, poll_recv_reply, poll_send_reply, try_recv_reply, try_send_reply, is_full}
 use Rattle.channel_model.proofs.Conserved.{count_of}
 use Rattle.channel_model.proofs.Keeping.{Enough-fewer, Enough-leave, Enough-none, IsAllTold-leave, Enough-all_told, HasUntold-leave, names-leave}
 use Rattle.channel_model.proofs.Halfway.{AreAllTold, IsHalfway, Whole, halfway_rosters, accepts, receiving_one, none-held, full-held_of, room-held_of}
@@ -31,7 +31,7 @@ Halfway kind past step reply =
     length (held_messages ((step, reply) ∷ past)) + count_of (taken_by reply)
     ≡ length (held_messages past) + count_of (accepted_by (live_operations past) step reply)
     → IsHalfway (capacity_of kind) (length (held_messages ((step, reply) ∷ past))) (is_closed past)
-    (length (live_receivers past)) (halfway_rosters past step reply)
+    (length (live_names Receivers past)) (halfway_rosters past step reply)
 
 pub try_send-halfway : {T : Type 0} (kind : Kind) (past : Past T) (sender : ℕ) (message : T) → Whole kind past
     → (closed full : Bool) → is_closed past ≡ closed → is_full kind past ≡ full
@@ -40,7 +40,7 @@ unfolding Halfway
 try_send-halfway kind past sender message covered true full c f held = unmoved kind past _ covered held
 try_send-halfway kind past sender message covered false true c f held = unmoved kind past _ covered held
 try_send-halfway kind past sender message covered false false c f held =
-    accepts (capacity_of kind) (length (held_messages past)) _ (is_closed past) (length (live_receivers past))
+    accepts (capacity_of kind) (length (held_messages past)) _ (is_closed past) (length (live_names Receivers past))
     (rosters past) message c (omega arith)
     (λ most e. let room : length (held_messages past) < most = room-held_of kind past f most e in omega arith)
     covered.receives
@@ -56,7 +56,7 @@ pub force_send-halfway : {T : Type 0} (kind : Kind) (past : Past T) (sender : �
 unfolding Halfway
 force_send-halfway kind past sender message covered some true full oldest c f o held = unmoved kind past _ covered held
 force_send-halfway kind past sender message covered some false true (Some oldest) c f o held =
-    accepts (capacity_of kind) (length (held_messages past)) _ (is_closed past) (length (live_receivers past))
+    accepts (capacity_of kind) (length (held_messages past)) _ (is_closed past) (length (live_names Receivers past))
     (rosters past) message c (omega arith)
     (λ most e. let room : length (held_messages past) ≤ most = covered.within most e in omega arith)
     covered.receives
@@ -65,7 +65,7 @@ force_send-halfway kind past sender message covered some false true (Some oldest
     covered.unbounded
     covered.closeds
 force_send-halfway kind past sender message covered some false true None c f o held =
-    accepts (capacity_of kind) (length (held_messages past)) _ (is_closed past) (length (live_receivers past))
+    accepts (capacity_of kind) (length (held_messages past)) _ (is_closed past) (length (live_names Receivers past))
     (rosters past) message c (omega arith)
     (λ most e.
     let none : length (held_messages past) ≡ 0 = none-held (held_messages past) o in
@@ -78,7 +78,7 @@ force_send-halfway kind past sender message covered some false true None c f o h
     covered.unbounded
     covered.closeds
 force_send-halfway kind past sender message covered some false false oldest c f o held =
-    accepts (capacity_of kind) (length (held_messages past)) _ (is_closed past) (length (live_receivers past))
+    accepts (capacity_of kind) (length (held_messages past)) _ (is_closed past) (length (live_names Receivers past))
     (rosters past) message c (omega arith)
     (λ most e. let room : length (held_messages past) < most = room-held_of kind past f most e in omega arith)
     covered.receives
@@ -92,7 +92,7 @@ pub try_recv-halfway : {T : Type 0} (kind : Kind) (past : Past T) (receiver : �
     → Halfway kind past (TryRecv receiver) (try_recv_reply oldest closed)
 unfolding Halfway
 try_recv-halfway kind past receiver covered (Some message) closed o held =
-    receiving_one (capacity_of kind) (length (held_messages past)) _ (is_closed past) (length (live_receivers past))
+    receiving_one (capacity_of kind) (length (held_messages past)) _ (is_closed past) (length (live_names Receivers past))
     (rosters past) message (omega arith) covered.within
     (Enough-fewer (length (held_messages past)) _ (rosters past).receives (omega arith) covered.receives)
     covered.sends covered.unbounded (λ untold. (covered.streams untold).0) covered.closeds covered.told
@@ -104,7 +104,7 @@ pub poll_recv-halfway : {T : Type 0} (kind : Kind) (past : Past T) (op : ℕ) �
     → Halfway kind past (Poll op) (poll_recv_reply oldest closed)
 unfolding Halfway
 poll_recv-halfway kind past op covered sound (Some message) closed o c held =
-    receiving_one (capacity_of kind) (length (held_messages past)) _ (is_closed past) (length (live_receivers past))
+    receiving_one (capacity_of kind) (length (held_messages past)) _ (is_closed past) (length (live_names Receivers past))
     (record {
       sends = (rosters past).sends;
       receives = leave op (rosters past).receives;
@@ -135,7 +135,7 @@ pub poll_next-halfway : {T : Type 0} (kind : Kind) (past : Past T) (receiver : �
     → is_closed past ≡ closed → Halfway kind past (PollNext receiver) (poll_next_reply oldest closed)
 unfolding Halfway
 poll_next-halfway kind past receiver covered sound (Some message) closed o c held =
-    receiving_one (capacity_of kind) (length (held_messages past)) _ (is_closed past) (length (live_receivers past))
+    receiving_one (capacity_of kind) (length (held_messages past)) _ (is_closed past) (length (live_names Receivers past))
     (record {
       sends = (rosters past).sends;
       receives = (rosters past).receives;
@@ -167,7 +167,7 @@ some_receiver [] e = cc
 some_receiver (first ∷ receivers) e = omega arith
 
 pub poll_closed-halfway : {T : Type 0} (kind : Kind) (past : Past T) (op : ℕ) → Whole kind past → AreSound (rosters past)
-    → (no_receiver : Bool) → has_none (live_receivers past) ≡ no_receiver
+    → (no_receiver : Bool) → has_none (live_names Receivers past) ≡ no_receiver
     → Halfway kind past (Poll op) (poll_closed_reply no_receiver)
 unfolding Halfway
 poll_closed-halfway kind past op covered sound true r held =
@@ -175,7 +175,7 @@ poll_closed-halfway kind past op covered sound true r held =
     (λ untold. covered.closeds (HasUntold-leave op (rosters past).closeds sound.closeds untold))
 poll_closed-halfway kind past op covered sound false r held =
     with_closeds kind past _ covered held (wait op (rosters past).closeds)
-    (λ untold. some_receiver (live_receivers past) r)
+    (λ untold. some_receiver (live_names Receivers past) r)
 
 pub full-bounded : {T : Type 0} (kind : Kind) (past : Past T) (P : Type 0) → is_full kind past ≡ true
     → ForNone (capacity_of kind) P
@@ -192,7 +192,7 @@ poll_send-halfway kind past op sender covered sound None closed full o c f held 
   where
     go : (finished : Bool) → finished ≡ true
         → IsHalfway (capacity_of kind) (length (held_messages ((Poll op, SendPolled Pending) ∷ past))) (is_closed past)
-        (length (live_receivers past)) (cond finished (rosters past)
+        (length (live_names Receivers past)) (cond finished (rosters past)
         (record {
           sends = wait op (rosters past).sends;
           receives = (rosters past).receives;
@@ -213,7 +213,7 @@ poll_send-halfway kind past op sender covered sound (Some message) false true o 
   where
     go : (finished : Bool) → finished ≡ false
         → IsHalfway (capacity_of kind) (length (held_messages ((Poll op, SendPolled Pending) ∷ past))) (is_closed past)
-        (length (live_receivers past)) (cond finished (rosters past)
+        (length (live_names Receivers past)) (cond finished (rosters past)
         (record {
           sends = wait op (rosters past).sends;
           receives = (rosters past).receives;
@@ -240,9 +240,9 @@ poll_send-halfway {T} kind past op sender covered sound (Some message) false fal
     } in
     subst (λ (found : Option T). IsHalfway (capacity_of kind)
     (length (held_messages ((Poll op, SendPolled (Ready (Ok tt))) ∷ past))) (is_closed past)
-    (length (live_receivers past)) (after_accepting found own)) (sym put)
+    (length (live_names Receivers past)) (after_accepting found own)) (sym put)
     (accepts (capacity_of kind) (length (held_messages past)) _ (is_closed past)
-    (length (live_receivers past)) own message c (omega arith)
+    (length (live_names Receivers past)) own message c (omega arith)
     (λ most e. let room : length (held_messages past) < most = room-held_of kind past f most e in omega arith)
     covered.receives
     (λ most e. Enough-fewer (most - length (held_messages past) - 1) _ (leave op (rosters past).sends) (omega arith)
@@ -257,14 +257,14 @@ no_operation-halfway kind past op covered held = unmoved kind past _ covered hel
 
 pub poll-halfway : {T : Type 0} (kind : Kind) (past : Past T) (op : ℕ) → Whole kind past → AreSound (rosters past)
     → (operation : Option (Operation T)) → operation_of past op ≡ operation
-    → Halfway kind past (Poll op) (poll_reply operation (is_closed past) (has_none (live_receivers past)) (is_full kind past)
-    (oldest_message past))
+    → Halfway kind past (Poll op) (poll_reply (is_closed past) (has_none (live_names Receivers past)) (is_full kind past)
+    (oldest_message past) operation)
 poll-halfway kind past op covered sound (Some (sending sender message)) o =
     poll_send-halfway kind past op sender covered sound message (is_closed past) (is_full kind past) o refl refl
 poll-halfway kind past op covered sound (Some (receiving receiver)) o =
     poll_recv-halfway kind past op covered sound (oldest_message past) (is_closed past) refl refl
 poll-halfway kind past op covered sound (Some (awaiting_close sender)) o =
-    poll_closed-halfway kind past op covered sound (has_none (live_receivers past)) refl
+    poll_closed-halfway kind past op covered sound (has_none (live_names Receivers past)) refl
 poll-halfway kind past op covered sound None o = no_operation-halfway kind past op covered
 
 pub drop_op-halfway : {T : Type 0} (kind : Kind) (past : Past T) (op : ℕ) → Whole kind past → AreSound (rosters past)

@@ -1,6 +1,6 @@
 -- Whoever answers as the past decides makes only pasts that can come about.
-use Rattle.std.proofs.Common.{◌≡◌, ◌⊎◌, inl, inr, List, [], ◌∷◌, Bool, true, false, Some, None, Option, refl, sym, subst}
-use Rattle.std.specs.Prelude.{is_some, MatchOption}
+use Rattle.std.proofs.Common.{◌≡◌, inl, inr, List, [], ◌∷◌, Bool, true, false, Some, None, Option, refl, sym, subst}
+use Rattle.std.specs.Prelude.{is_some}
 use Rattle.channel_model.specs.declared.step.Kind.{Kind}
 use Rattle.channel_model.specs.declared.step.Refusal.{Refusal}
 use Rattle.channel_model.specs.declared.step.Refusal.TheVariants.{OutOfMemory}
@@ -10,17 +10,15 @@ use Rattle.channel_model.specs.declared.step.Reply.{Reply}
 use Rattle.channel_model.specs.declared.step.Reply.TheVariants.{Refused}
 use Rattle.channel_model.specs.Past.{Past}
 use Rattle.channel_model.specs.Operations.{Operation, awaiting_close, operation_of, receiving, sending}
-use Rattle.channel_model.specs.Messages.{oldest_message}
-use Rattle.channel_model.specs.Capacity.{is_full}
-use Rattle.channel_model.specs.Handles.{live_receivers}
+use Rattle.channel_model.specs.Messages.{oldest_message, message_in}
+use Rattle.channel_model.specs.Handles.{live_names, Receivers}
 use Rattle.channel_model.specs.Closing.{is_closed, has_none}
 use Rattle.channel_model.specs.Replies.{due_reply, poll_reply}
 use Rattle.channel_model.specs.Refusals.{is_known, refusal_of}
-use Rattle.channel_model.specs.Memory.{may_want_memory}
-use Rattle.channel_model.specs.Answers.{AreAnswers, IsAnswer, message_in, past_after}
+use Rattle.channel_model.specs.Answers.{AreAnswers, IsAnswer, past_after, refused_or}
 use Rattle.channel_model.specs.Legal.{IsAllowed, IsLegal}
 use Rattle.channel_model.specs.View.{view_of}
-use Rattle.channel_model.proofs.ReplyForms.{force_send_reply, poll_closed_reply, poll_next_reply, poll_recv_reply, poll_send_reply, try_recv_reply, try_send_reply}
+use Rattle.channel_model.proofs.ReplyForms.{force_send_reply, poll_closed_reply, poll_next_reply, poll_recv_reply, poll_send_reply, try_recv_reply, try_send_reply, is_full}
 use Rattle.channel_model.proofs.AllowedSteps.{allowed}
 
 -- ---- a step that is known stands in the past after its reply
@@ -80,7 +78,7 @@ poll_closed-longer past step false = refl
 
 poll-longer : {T : Type 0} (past : Past T) (step : Step T) (operation : Option (Operation T))
     (closed no_receiver full : Bool) (oldest : Option T) → is_some operation ≡ true
-    → IsLonger past step (poll_reply operation closed no_receiver full oldest)
+    → IsLonger past step (poll_reply closed no_receiver full oldest operation)
 unfolding IsLonger
 poll-longer past step (Some (sending sender message)) closed no_receiver full oldest some =
     poll_send-longer past step message closed full
@@ -100,7 +98,7 @@ due-longer kind past (ForceSend sender message) known =
 due-longer kind past (TryRecv receiver) known =
     try_recv-longer past (TryRecv receiver) (oldest_message past) (is_closed past)
 due-longer kind past (Poll op) known = poll-longer past (Poll op) (operation_of past op) (is_closed past)
-    (has_none (live_receivers past)) (is_full kind past) (oldest_message past) known
+    (has_none (live_names Receivers past)) (is_full kind past) (oldest_message past) known
 due-longer kind past (PollNext receiver) known =
     poll_next-longer past (PollNext receiver) (oldest_message past) (is_closed past)
 due-longer kind past step known = refl
@@ -127,16 +125,14 @@ legal_due {T} kind past step reply legal none due =
 
 pub IsLegal-IsAnswer : {T : Type 0} (kind : Kind) (past : Past T) (step : Step T) (reply : Reply T) → IsLegal kind past
     → IsAnswer kind past step reply → IsLegal kind (past_after past step reply)
-IsLegal-IsAnswer {T} kind past step reply legal answer = go (refusal_of kind past step) refl answer
+IsLegal-IsAnswer kind past step reply legal (inr wanted) =
+    legal_refused kind past step OutOfMemory (message_in step) reply legal wanted.1
+IsLegal-IsAnswer {T} kind past step reply legal (inl answer) = go (refusal_of kind past step) refl answer
   where
     go : (found : Option Refusal) → refusal_of kind past step ≡ found
-        → MatchOption found ((reply ≡ due_reply kind past step)
-        ⊎ ((may_want_memory kind past step ≡ true) × (reply ≡ Refused OutOfMemory (message_in step))))
-        (λ refusal. reply ≡ Refused refusal (message_in step))
-        → IsLegal kind (past_after past step reply)
+        → reply ≡ refused_or found step (due_reply kind past step) → IsLegal kind (past_after past step reply)
     go (Some refusal) e is = legal_refused kind past step refusal (message_in step) reply legal is
-    go None e (inl due) = legal_due kind past step reply legal e due
-    go None e (inr wanted) = legal_refused kind past step OutOfMemory (message_in step) reply legal wanted.1
+    go None e is = legal_due kind past step reply legal e is
 
 pub IsLegal-AreAnswers : {T : Type 0} (kind : Kind) (past : Past T) (steps : List (Step T)) (replies : List (Reply T))
     (after : Past T) → IsLegal kind past → AreAnswers kind past steps replies after → IsLegal kind after

@@ -5,15 +5,15 @@ use Rattle.channel_model.specs.declared.step.Step.{Step}
 use Rattle.channel_model.specs.declared.step.Step.TheVariants.{Poll, PollNext, DropOp, DropReceiver}
 use Rattle.channel_model.specs.declared.step.Reply.{Reply}
 use Rattle.channel_model.specs.declared.step.Reply.TheVariants.{SendPolled, RecvPolled, ClosedPolled, NextPolled}
-use Rattle.event_list.specs.Keys.{is_among}
+use Rattle.identity.specs.Keys.{is_among}
 use Rattle.channel_model.specs.Past.{Past}
 use Rattle.channel_model.specs.Operations.{is_finished_send, live_operations, Operation, operation_in}
 use Rattle.channel_model.specs.Messages.{accepted_by, received_by}
-use Rattle.channel_model.specs.Handles.{live_receivers}
+use Rattle.channel_model.specs.Handles.{live_names, Receivers}
 use Rattle.channel_model.specs.Closing.{is_closed, has_none}
 use Rattle.channel_model.specs.Rosters.{AreSound, IsSound, Roster, Rosters, arrive, is_told, leave, nobody, wait}
 use Rattle.channel_model.specs.Notices.{after_accepting, after_closing, after_last_receiver, after_own_move, after_receiving, rosters}
-use Rattle.channel_model.specs.Polling.{told_in, waiting_in}
+use Rattle.channel_model.specs.Polling.{waiting_in}
 use Rattle.channel_model.proofs.RosterLemmas.{Left, told_left, untold_left, nobody_left, left, leave-IsSound, wait-IsSound, tell_one-IsSound, tell_all-IsSound, hand_on-IsSound}
 
 after_own_move-AreSound : {T : Type 0} (operations : List (ℕ × Operation T)) (step : Step T)
@@ -150,7 +150,7 @@ rosters-AreSound [] = record {
   closeds = nobody-IsSound;
 }
 rosters-AreSound ((step, reply) ∷ past) =
-    after_last_receiver-AreSound (has_none (live_receivers past)) (has_none (live_receivers ((step, reply) ∷ past))) _
+    after_last_receiver-AreSound (has_none (live_names Receivers past)) (has_none (live_names Receivers ((step, reply) ∷ past))) _
     (after_closing-AreSound (is_closed past) (is_closed ((step, reply) ∷ past)) _
     (after_receiving-AreSound (received_by reply) _
     (after_accepting-AreSound (accepted_by (live_operations past) step reply) _
@@ -160,6 +160,10 @@ rosters-AreSound ((step, reply) ∷ past) =
 abbrev pub pairs : ℕ → ℕ
 pairs zero = 0
 pairs (suc count) = count + pairs count
+
+-- how many of those who wait were told
+abbrev pub told_in : Rosters → ℕ
+told_in all = all.sends.told + all.receives.told + all.streams.told + all.closeds.told
 
 abbrev pub measure : Rosters → ℕ
 measure all = pairs (waiting_in all) + told_in all

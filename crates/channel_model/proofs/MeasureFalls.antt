@@ -9,12 +9,11 @@ use Rattle.channel_model.specs.declared.step.Step.{Step}
 use Rattle.channel_model.specs.declared.step.Step.TheVariants.{Poll, PollNext}
 use Rattle.channel_model.specs.declared.step.Reply.{Reply}
 use Rattle.channel_model.specs.declared.step.Reply.TheVariants.{SendPolled, RecvPolled, ClosedPolled, NextPolled}
-use Rattle.event_list.specs.Keys.{is_among}
+use Rattle.identity.specs.Keys.{is_among}
 use Rattle.channel_model.specs.Past.{Past}
-use Rattle.channel_model.specs.Handles.{live_receivers, live_senders}
+use Rattle.channel_model.specs.Handles.{live_names, Receivers, Senders}
 use Rattle.channel_model.specs.Operations.{Operation, awaiting_close, is_awaiting, is_finished_send, is_receive, is_unsent, operation_of, receiving, sending, live_operations}
 use Rattle.channel_model.specs.Messages.{accepted_by, oldest_message, received_by}
-use Rattle.channel_model.specs.Capacity.{is_full}
 use Rattle.channel_model.specs.Closing.{is_close, is_closed, has_none}
 use Rattle.channel_model.specs.Tables.{send_error}
 use Rattle.channel_model.specs.Replies.{due_reply, poll_reply}
@@ -23,11 +22,11 @@ use Rattle.channel_model.specs.Notices.{after_accepting, after_closing, after_la
 use Rattle.channel_model.specs.Legal.{IsLegal}
 use Rattle.channel_model.specs.Covered.{IsCovered}
 use Rattle.channel_model.specs.Standing.{standing_of}
-use Rattle.channel_model.specs.Polling.{told_in, told_polls, waiting_in}
-use Rattle.channel_model.proofs.ReplyForms.{poll_closed_reply, poll_next_reply, poll_recv_reply, poll_send_reply}
+use Rattle.channel_model.specs.Polling.{told_polls, waiting_in}
+use Rattle.channel_model.proofs.ReplyForms.{poll_closed_reply, poll_next_reply, poll_recv_reply, poll_send_reply, is_full}
 use Rattle.channel_model.proofs.NameLists.{is_among-take}
 use Rattle.channel_model.proofs.RosterLemmas.{Left, told_left, untold_left, nobody_left, left}
-use Rattle.channel_model.proofs.Measure.{rosters-AreSound, measure, measure-ready, wait-told}
+use Rattle.channel_model.proofs.Measure.{rosters-AreSound, measure, measure-ready, wait-told, told_in}
 use Rattle.channel_model.proofs.Unchanged.{rosters-kept}
 use Rattle.channel_model.proofs.CoveredPasts.{IsCovered-IsLegal}
 use Rattle.channel_model.proofs.AllowedSteps.{or_right}
@@ -69,7 +68,7 @@ pub ready-falls : {T : Type 0} (past : Past T) (step : Step T) (reply : Reply T)
 ready-falls past step reply fewer some =
     measure-ready (rosters past) (rosters ((step, reply) ∷ past))
     (fewer ∙ ap suc (sym
-    (waiting-last_receiver (has_none (live_receivers past)) (has_none (live_receivers ((step, reply) ∷ past)))
+    (waiting-last_receiver (has_none (live_names Receivers past)) (has_none (live_names Receivers ((step, reply) ∷ past)))
     (after_closing (is_closed past) (is_closed ((step, reply) ∷ past))
     (after_receiving (received_by reply) (after_accepting (accepted_by (live_operations past) step reply)
     (after_own_move (live_operations past) step reply (rosters past)))))
@@ -99,8 +98,8 @@ leave-told name roster sound told = go (left name roster sound)
 -- a poll that is pending changes the rosters by its own move alone
 pub in_vain : {T : Type 0} (kind : Kind) (past : Past T) (step : Step T) (reply : Reply T) (own : Rosters)
     → IsCovered (standing_of kind past) → is_close step ≡ false
-    → live_senders ((step, reply) ∷ past) ≡ live_senders past
-    → live_receivers ((step, reply) ∷ past) ≡ live_receivers past
+    → live_names Senders ((step, reply) ∷ past) ≡ live_names Senders past
+    → live_names Receivers ((step, reply) ∷ past) ≡ live_names Receivers past
     → after_receiving (received_by reply) (after_accepting (accepted_by (live_operations past) step reply)
     (after_own_move (live_operations past) step reply (rosters past))) ≡ own
     → measure own < measure (rosters past) → measure (rosters ((step, reply) ∷ past)) < measure (rosters past)
@@ -205,8 +204,8 @@ pub poll-falls : {T : Type 0} (kind : Kind) (past : Past T) (op : ℕ) (operatio
     ⊎ ((is_told op (rosters past).closeds ≡ true) × (is_awaiting operation ≡ true)))
     → measure (rosters ((
       Poll op,
-      poll_reply operation (is_closed past) (has_none (live_receivers past)) (is_full kind past)
-          (oldest_message past),
+      poll_reply (is_closed past) (has_none (live_names Receivers past)) (is_full kind past)
+          (oldest_message past) operation,
     ) ∷ past)) < measure (rosters past)
 poll-falls kind past op (Some (receiving receiver)) o covered (inl told) =
     poll_recv-falls kind past op (oldest_message past) (is_closed past) covered refl told.0
@@ -220,7 +219,7 @@ poll-falls kind past op (Some (receiving receiver)) o covered (inr (inl told)) =
 poll-falls kind past op (Some (awaiting_close sender)) o covered (inr (inl told)) = let no = told.1 in cc
 poll-falls kind past op None o covered (inr (inl told)) = let no = told.1 in cc
 poll-falls kind past op (Some (awaiting_close sender)) o covered (inr (inr told)) =
-    poll_closed-falls kind past op (has_none (live_receivers past)) covered told.0
+    poll_closed-falls kind past op (has_none (live_names Receivers past)) covered told.0
 poll-falls kind past op (Some (sending sender message)) o covered (inr (inr told)) = let no = told.1 in cc
 poll-falls kind past op (Some (receiving receiver)) o covered (inr (inr told)) = let no = told.1 in cc
 poll-falls kind past op None o covered (inr (inr told)) = let no = told.1 in cc

@@ -1,8 +1,16 @@
 -- The answers of the tables, as replies to steps: a reply by the few things that it hangs on.
-use Rattle.std.proofs.Common.{Bool, Option}
+use Rattle.std.proofs.Common.{Bool, Option, length}
+use Rattle.channel_model.specs.declared.step.Kind.{Kind}
 use Rattle.channel_model.specs.declared.step.Reply.{Reply}
 use Rattle.channel_model.specs.declared.step.Reply.TheVariants.{TrySent, Forced, Received, SendPolled, RecvPolled, ClosedPolled, NextPolled}
 use Rattle.channel_model.specs.Tables.{try_send_answer, force_send_answer, try_recv_answer, send_poll, recv_poll, next_poll, closed_poll}
+use Rattle.channel_model.specs.Past.{Past}
+use Rattle.channel_model.specs.Messages.{held_messages}
+use Rattle.channel_model.specs.Capacity.{capacity_of, full_at}
+
+-- The channel is full after this past.
+abbrev pub is_full : {T : Type 0} → Kind → Past T → Bool
+is_full kind past = full_at (capacity_of kind) (length (held_messages past))
 
 abbrev pub try_send_reply : {T : Type 0} (closed full : Bool) → T → Reply T
 try_send_reply closed full message = TrySent (try_send_answer closed full message)

@@ -1,19 +1,13 @@
 -- The past after a row's lines can come about.
-use Rattle.std.proofs.Common.{◌≡◌, ℕ, ◌⊎◌, inl, List, [], ◌∷◌, ◌++◌, Some, None, Option, Bool, ◌<◌, refl, true}
-use Rattle.std.specs.Prelude.{MatchOption, nat_lt}
+use Rattle.std.proofs.Common.{◌≡◌, ℕ, inl, List, [], ◌∷◌, ◌++◌, Bool, ◌<◌, refl, true}
+use Rattle.std.specs.Prelude.{nat_lt}
 use Rattle.std.proofs.lemmas.Bool.{ltb-true}
 use Rattle.channel_model.specs.declared.step.Kind.{Kind}
 use Rattle.channel_model.specs.declared.step.Kind.TheVariants.{Bounded, Unbounded}
-use Rattle.channel_model.specs.declared.step.Refusal.{Refusal}
-use Rattle.channel_model.specs.declared.step.Refusal.TheVariants.{OutOfMemory}
 use Rattle.channel_model.specs.declared.step.Step.{Step}
-use Rattle.channel_model.specs.declared.step.Reply.TheVariants.{Refused}
 use Rattle.channel_model.specs.Past.{Past}
 use Rattle.channel_model.specs.Capacity.{HasPositiveCapacity}
-use Rattle.channel_model.specs.Replies.{due_reply}
-use Rattle.channel_model.specs.Refusals.{refusal_of}
-use Rattle.channel_model.specs.Memory.{may_want_memory}
-use Rattle.channel_model.specs.Answers.{IsAnswer, answer_of, message_in, past_made, refused_or}
+use Rattle.channel_model.specs.Answers.{IsAnswer, answer_of, past_made}
 use Rattle.channel_model.specs.Legal.{IsLegal}
 use Rattle.channel_model.specs.Polling.{settling_polls}
 use Rattle.channel_model.proofs.LegalAnswers.{IsLegal-IsAnswer}
@@ -22,15 +16,7 @@ use Rattle.channel_model.proofs.Script.{Line, does, notes, settles, past_after_l
 
 -- what a line answers is an answer
 pub answer-IsAnswer : (kind : Kind) (past : Past ℕ) (step : Step ℕ) → IsAnswer kind past step (answer_of kind past step)
-answer-IsAnswer kind past step = go (refusal_of kind past step)
-  where
-    go : (refusal : Option Refusal) → MatchOption refusal
-        ((refused_or refusal step (due_reply kind past step) ≡ due_reply kind past step)
-        ⊎ ((may_want_memory kind past step ≡ true)
-        × (refused_or refusal step (due_reply kind past step) ≡ Refused OutOfMemory (message_in step))))
-        (λ found. refused_or refusal step (due_reply kind past step) ≡ Refused found (message_in step))
-    go (Some refusal) = refl
-    go None = inl refl
+answer-IsAnswer kind past step = inl refl
 
 pub IsLegal-past_after_lines : (kind : Kind) (past : Past ℕ) (lines : List Line) → IsLegal kind past
     → IsLegal kind (past_after_lines kind past lines)

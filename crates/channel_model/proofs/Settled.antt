@@ -4,11 +4,11 @@ use Rattle.std.proofs.lemmas.Bool.{leb-true, leb-false}
 use Rattle.channel_model.specs.declared.step.Kind.{Kind}
 use Rattle.channel_model.specs.declared.step.Kind.TheVariants.{Bounded, Unbounded}
 use Rattle.channel_model.specs.declared.step.Who.TheVariants.{Op, Receiver}
-use Rattle.event_list.specs.Keys.{is_among}
+use Rattle.identity.specs.Keys.{is_among}
 use Rattle.channel_model.specs.Past.{Past}
-use Rattle.channel_model.specs.Handles.{live_receivers}
+use Rattle.channel_model.specs.Handles.{live_names, Receivers}
 use Rattle.channel_model.specs.Messages.{held_messages}
-use Rattle.channel_model.specs.Capacity.{is_full, HasPositiveCapacity}
+use Rattle.channel_model.specs.Capacity.{HasPositiveCapacity}
 use Rattle.channel_model.specs.Closing.{has_none, is_closed}
 use Rattle.channel_model.specs.Rosters.{Roster}
 use Rattle.channel_model.specs.Notices.{rosters}
@@ -17,13 +17,14 @@ use Rattle.channel_model.specs.Polling.{IsQuiet}
 use Rattle.channel_model.specs.Laws.{IsDone}
 use Rattle.channel_model.proofs.Keeping.{HasUntold}
 use Rattle.channel_model.proofs.Halfway.{AreAllTold, Whole}
+use Rattle.channel_model.proofs.ReplyForms.{is_full}
 
 -- Nobody waits who could go on, roster by roster.
 pub record IsIdle {T : Type 0} (kind : Kind) (past : Past T) : Type 0 where
   pub receives : can_receive past ≡ true → (rosters past).receives.names ≡ []
   pub streams : can_receive past ≡ true → (rosters past).streams.names ≡ []
   pub sends : can_send kind past ≡ true → (rosters past).sends.names ≡ []
-  pub closeds : has_none (live_receivers past) ≡ true → (rosters past).closeds.names ≡ []
+  pub closeds : has_none (live_names Receivers past) ≡ true → (rosters past).closeds.names ≡ []
 
 -- who was not told and is not untold isn't there
 nobody_untold : (roster : Roster) → roster.told ≡ 0 → (HasUntold roster → ⊥) → roster.names ≡ []
@@ -52,11 +53,11 @@ nobody_live (first ∷ rest) e = cc
 
 -- no closed operation waits where no receiver is live
 no_closed_waits : {T : Type 0} (kind : Kind) (past : Past T) → Whole kind past → IsQuiet (rosters past)
-    → has_none (live_receivers past) ≡ true → (rosters past).closeds.names ≡ []
+    → has_none (live_names Receivers past) ≡ true → (rosters past).closeds.names ≡ []
 no_closed_waits kind past covered quiet none =
     nobody_untold (rosters past).closeds quiet.closeds
-    (λ untold. let some : 0 < length (live_receivers past) = covered.closeds untold in
-    let zero = nobody_live (live_receivers past) none in omega arith)
+    (λ untold. let some : 0 < length (live_names Receivers past) = covered.closeds untold in
+    let zero = nobody_live (live_names Receivers past) none in omega arith)
 
 -- by whether the channel is closed
 on_closed : {T : Type 0} (kind : Kind) (past : Past T) → Whole kind past → IsQuiet (rosters past)
@@ -130,10 +131,10 @@ pub IsSettled-IsIdle : {T : Type 0} (kind : Kind) (past : Past T) → IsIdle kin
 IsSettled-IsIdle kind past idle (Op op) =
     none_of (is_among op (rosters past).sends.names && can_send kind past)
     (is_among op (rosters past).receives.names && can_receive past)
-    (is_among op (rosters past).closeds.names && has_none (live_receivers past))
+    (is_among op (rosters past).closeds.names && has_none (live_names Receivers past))
     (nobody_among op (rosters past).sends.names (can_send kind past) idle.sends)
     (nobody_among op (rosters past).receives.names (can_receive past) idle.receives)
-    (nobody_among op (rosters past).closeds.names (has_none (live_receivers past)) idle.closeds)
+    (nobody_among op (rosters past).closeds.names (has_none (live_names Receivers past)) idle.closeds)
 IsSettled-IsIdle kind past idle (Receiver receiver) =
     nobody_among receiver (rosters past).streams.names (can_receive past) idle.streams
 

@@ -124,6 +124,10 @@ IsComplete-IsLegal kind past legal =
     (within_most (measure (rosters past)) (waiting_in (rosters past))
     (let few = told-waiting (rosters past) (rosters-AreSound past) in omega arith))
 
+-- where nobody is told there is nobody to be polled
+pub nobody_polled : {T : Type 0} (all : Rosters) → IsQuiet all → told_polls {T = T} all ≡ []
+nobody_polled all quiet = rw (quiet.receives, quiet.streams, quiet.sends, quiet.closeds) refl
+
 -- Behind each past that can come about these polls settle the channel.
 pub Settles-IsLegal : {T : Type 0} (kind : Kind) (past : Past T) → IsLegal kind past
     → Settles kind past (settling_polls kind past) (length (settling_polls kind past))
@@ -137,7 +141,7 @@ Settles-IsLegal kind past legal =
       each = complete.each;
       counted = refl;
       listed = refl;
-      quiet = complete.quiet;
+      quiet = nobody_polled (rosters (settling_polls kind past ++ past)) complete.quiet;
       settled = ends.settled complete.quiet;
       bounded = ends.bounded;
     }
@@ -167,20 +171,16 @@ polls_within-IsSettling {T} kind past ((step, reply) ∷ polls) each =
     ∙ (ap (λ (next : Option (Step T)). with_poll kind past polls next) each.1
     ∙ ap (λ (due : Reply T). (step, due) ∷ polls) (sym each.2))
 
-nobody_polled : {T : Type 0} (all : Rosters) → IsQuiet all → told_polls {T = T} all ≡ []
-nobody_polled all quiet = rw (quiet.receives, quiet.streams, quiet.sends, quiet.closeds) refl
-
 -- where nobody is told, no more polls are made
 polls_within-stay : {T : Type 0} (kind : Kind) (past polls : Past T) (n : ℕ) → polls_within n kind past ≡ polls
-    → IsQuiet (rosters (polls ++ past)) → (k m : ℕ) → m ≡ k + n → polls_within m kind past ≡ polls
+    → told_polls {T = T} (rosters (polls ++ past)) ≡ [] → (k m : ℕ) → m ≡ k + n → polls_within m kind past ≡ polls
 polls_within-stay kind past polls n made quiet zero m is = let same : m ≡ n = omega (arith, is) in rw same made
 polls_within-stay kind past polls n made quiet (suc k) zero is = absurd (omega (arith, is))
 polls_within-stay {T} kind past polls n made quiet (suc k) (suc m) is =
     let less : m ≡ k + n = omega (arith, is) in
     ap (λ (made : Past T). with_poll kind past made (next_poll past made))
     (polls_within-stay kind past polls n made quiet k m less)
-    ∙ ap (λ (told : List (Step T)). with_poll kind past polls (slice_get told 0))
-    (nobody_polled (rosters (polls ++ past)) quiet)
+    ∙ ap (λ (told : List (Step T)). with_poll kind past polls (slice_get told 0)) quiet
 
 -- Polls that settled the channel are the ones that are computed.
 pub settling_polls-Settles : {T : Type 0} (kind : Kind) (past polls : Past T) (count : ℕ)
@@ -188,7 +188,8 @@ pub settling_polls-Settles : {T : Type 0} (kind : Kind) (past polls : Past T) (c
     → settling_polls kind past ≡ polls
 settling_polls-Settles {T} kind past polls count finished legal settles =
     sym (polls_within-stay kind past computed (length computed)
-    (polls_within-IsSettling kind past computed complete.each) complete.quiet
+    (polls_within-IsSettling kind past computed complete.each)
+    (nobody_polled (rosters (computed ++ past)) complete.quiet)
     (length polls) (length polls + length computed) refl)
     ∙ polls_within-stay kind past polls (length polls) (polls_within-IsSettling kind past polls settles.each)
     settles.quiet (length computed) (length polls + length computed) (omega arith)

@@ -5,7 +5,7 @@ use Rattle.channel_model.specs.declared.step.Kind.{Kind}
 use Rattle.channel_model.specs.declared.step.Step.{Step}
 use Rattle.channel_model.specs.declared.step.Reply.{Reply}
 use Rattle.channel_model.specs.Past.{Past}
-use Rattle.channel_model.specs.Handles.{live_receivers, live_senders}
+use Rattle.channel_model.specs.Handles.{live_names, Receivers, Senders}
 use Rattle.channel_model.specs.Messages.{accepted_by, received_by}
 use Rattle.channel_model.specs.Closing.{has_none, is_close, is_closed}
 use Rattle.channel_model.specs.Rosters.{Rosters}
@@ -24,16 +24,16 @@ kept false false (s ∷ senders) [] e some more = let one : 0 < 0 = more refl in
 
 pub is_closed-kept : {T : Type 0} (kind : Kind) (past : Past T) (step : Step T) (reply : Reply T)
     → IsCovered (standing_of kind past) → is_close step ≡ false
-    → live_senders ((step, reply) ∷ past) ≡ live_senders past
-    → live_receivers ((step, reply) ∷ past) ≡ live_receivers past
+    → live_names Senders ((step, reply) ∷ past) ≡ live_names Senders past
+    → live_names Receivers ((step, reply) ∷ past) ≡ live_names Receivers past
     → is_closed ((step, reply) ∷ past) ≡ is_closed past
 is_closed-kept kind past step reply covered open_still same_senders same_receivers =
     ap (λ (names : List ℕ). ((is_closed past || is_close step) || has_none names)
-    || has_none (live_receivers ((step, reply) ∷ past))) same_senders
-    ∙ ap (λ (names : List ℕ). ((is_closed past || is_close step) || has_none (live_senders past)) || has_none names)
+    || has_none (live_names Receivers ((step, reply) ∷ past))) same_senders
+    ∙ ap (λ (names : List ℕ). ((is_closed past || is_close step) || has_none (live_names Senders past)) || has_none names)
     same_receivers
-    ∙ kept (is_closed past) (is_close step) (live_senders past)
-    (live_receivers past) open_still covered.open_senders covered.open_receivers
+    ∙ kept (is_closed past) (is_close step) (live_names Senders past)
+    (live_names Receivers past) open_still covered.open_senders covered.open_receivers
 
 pub after_closing-kept : (before now : Bool) (all : Rosters) → now ≡ before → after_closing before now all ≡ all
 after_closing-kept true now all e = refl
@@ -49,12 +49,12 @@ after_last_receiver-kept false true all e = cc
 -- the rosters then change by the step's own move and its message alone
 pub rosters-kept : {T : Type 0} (kind : Kind) (past : Past T) (step : Step T) (reply : Reply T)
     → IsCovered (standing_of kind past) → is_close step ≡ false
-    → live_senders ((step, reply) ∷ past) ≡ live_senders past
-    → live_receivers ((step, reply) ∷ past) ≡ live_receivers past
+    → live_names Senders ((step, reply) ∷ past) ≡ live_names Senders past
+    → live_names Receivers ((step, reply) ∷ past) ≡ live_names Receivers past
     → rosters ((step, reply) ∷ past) ≡ after_receiving (received_by reply)
     (after_accepting (accepted_by (live_operations past) step reply) (after_own_move (live_operations past) step reply (rosters past)))
 rosters-kept kind past step reply covered open_still same_senders same_receivers =
-    after_last_receiver-kept (has_none (live_receivers past)) (has_none (live_receivers ((step, reply) ∷ past))) _
+    after_last_receiver-kept (has_none (live_names Receivers past)) (has_none (live_names Receivers ((step, reply) ∷ past))) _
     (ap (λ (names : List ℕ). has_none names) same_receivers)
     ∙ after_closing-kept (is_closed past) (is_closed ((step, reply) ∷ past)) _
     (is_closed-kept kind past step reply covered open_still same_senders same_receivers)

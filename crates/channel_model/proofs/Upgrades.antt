@@ -6,7 +6,7 @@ use Rattle.channel_model.specs.declared.step.Step.TheVariants.{Close, UpgradeSen
 use Rattle.channel_model.specs.declared.step.Reply.{Reply}
 use Rattle.channel_model.specs.declared.step.Reply.TheVariants.{Upgraded}
 use Rattle.channel_model.specs.Past.{Past}
-use Rattle.channel_model.specs.Handles.{live_senders, live_receivers}
+use Rattle.channel_model.specs.Handles.{live_names, Senders, Receivers}
 use Rattle.channel_model.specs.Messages.{held_messages}
 use Rattle.channel_model.specs.Closing.{is_closed, has_none}
 use Rattle.channel_model.specs.Legal.{IsLegal}
@@ -16,12 +16,12 @@ use Rattle.channel_model.specs.Laws.{with_made, UpgradesWhileOpen}
 use Rattle.channel_model.proofs.CoveredPasts.{IsCovered-IsLegal}
 
 senders-made : {T : Type 0} (past : Past T) (of new : ℕ) (granted : Bool)
-    → live_senders ((UpgradeSender of new, Upgraded granted) ∷ past) ≡ with_made granted new (live_senders past)
+    → live_names Senders ((UpgradeSender of new, Upgraded granted) ∷ past) ≡ with_made granted new (live_names Senders past)
 senders-made past of new true = refl
 senders-made past of new false = refl
 
 receivers-made : {T : Type 0} (past : Past T) (of new : ℕ) (granted : Bool)
-    → live_receivers ((UpgradeReceiver of new, Upgraded granted) ∷ past) ≡ with_made granted new (live_receivers past)
+    → live_names Receivers ((UpgradeReceiver of new, Upgraded granted) ∷ past) ≡ with_made granted new (live_names Receivers past)
 receivers-made past of new true = refl
 receivers-made past of new false = refl
 
@@ -29,9 +29,9 @@ pub UpgradesWhileOpen-replied : {T : Type 0} (past : Past T) (of new : ℕ) (rep
     → reply ≡ Upgraded (not (is_closed past)) → UpgradesWhileOpen past of new reply
 UpgradesWhileOpen-replied {T} past of new reply replied = record {
   replied = replied;
-  senders = ap (λ (r : Reply T). live_senders ((UpgradeSender of new, r) ∷ past)) replied
+  senders = ap (λ (r : Reply T). live_names Senders ((UpgradeSender of new, r) ∷ past)) replied
       ∙ senders-made past of new (not (is_closed past));
-  receivers = ap (λ (r : Reply T). live_receivers ((UpgradeReceiver of new, r) ∷ past)) replied
+  receivers = ap (λ (r : Reply T). live_names Receivers ((UpgradeReceiver of new, r) ∷ past)) replied
       ∙ receivers-made past of new (not (is_closed past));
 }
 
@@ -41,8 +41,8 @@ by_hand false no_sender no_receiver = refl
 
 pub is_closed-Close : {T : Type 0} (past : Past T) (side : Side) (reply : Reply T)
     → is_closed ((Close side, reply) ∷ past) ≡ true
-is_closed-Close past side reply = by_hand (is_closed past) (has_none (live_senders past))
-    (has_none (live_receivers past))
+is_closed-Close past side reply = by_hand (is_closed past) (has_none (live_names Senders past))
+    (has_none (live_names Receivers past))
 
 pub within-IsLegal : {T : Type 0} (capacity : ℕ) (past : Past T) → IsLegal (Bounded capacity) past
     → length (held_messages past) ≤ capacity

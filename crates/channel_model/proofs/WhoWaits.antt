@@ -8,12 +8,11 @@ use Rattle.channel_model.specs.declared.step.Step.{Step}
 use Rattle.channel_model.specs.declared.step.Step.TheVariants.{CloneReceiver, UpgradeReceiver, DropReceiver, StartSend, StartRecv, StartClosed, Poll, PollNext, DropOp}
 use Rattle.channel_model.specs.declared.step.Reply.{Reply}
 use Rattle.channel_model.specs.declared.step.Reply.TheVariants.{SendPolled, Done, Upgraded}
-use Rattle.event_list.specs.Keys.{is_among}
+use Rattle.identity.specs.Keys.{is_among}
 use Rattle.channel_model.specs.Past.{Past}
-use Rattle.channel_model.specs.Handles.{live_receivers}
+use Rattle.channel_model.specs.Handles.{live_names, Receivers}
 use Rattle.channel_model.specs.Operations.{Operation, awaiting_close, is_awaiting, is_finished_send, is_receive, is_unsent, live_operations, operation_of, receiving, sending}
 use Rattle.channel_model.specs.Messages.{accepted_by, oldest_message, received_by}
-use Rattle.channel_model.specs.Capacity.{is_full}
 use Rattle.channel_model.specs.Closing.{is_closed, has_none}
 use Rattle.channel_model.specs.Replies.{due_reply, poll_reply}
 use Rattle.channel_model.specs.Refusals.{refusal_of}
@@ -22,7 +21,7 @@ use Rattle.channel_model.specs.Notices.{after_accepting, after_closing, after_la
 use Rattle.channel_model.specs.Legal.{IsAllowed, IsLegal}
 use Rattle.channel_model.specs.Laws.{AreLive}
 use Rattle.channel_model.specs.View.{view_of}
-use Rattle.channel_model.proofs.ReplyForms.{poll_closed_reply, poll_next_reply, poll_recv_reply, poll_send_reply}
+use Rattle.channel_model.proofs.ReplyForms.{poll_closed_reply, poll_next_reply, poll_recv_reply, poll_send_reply, is_full}
 use Rattle.channel_model.proofs.LookUps.{look_up-without, look_up-with_finished, among-leave, among-hand_on, among-wait}
 use Rattle.channel_model.proofs.AllowedSteps.{allowed, known_if_borrowed, apart_by, same_by, started, or_right, is_among-without_other}
 
@@ -183,7 +182,7 @@ poll_closed-live past op sender false o live =
 
 pub poll-live : {T : Type 0} (past : Past T) (op : ℕ) (operation : Option (Operation T)) (closed no_receiver full : Bool)
     (oldest : Option T) → operation_of past op ≡ operation
-    → OwnMoveIsLive past (Poll op) (poll_reply operation closed no_receiver full oldest)
+    → OwnMoveIsLive past (Poll op) (poll_reply closed no_receiver full oldest operation)
 unfolding OwnMoveIsLive
 poll-live past op (Some (sending sender message)) closed no_receiver full oldest o live =
     poll_send-live past op sender message closed full o live
@@ -195,7 +194,7 @@ poll-live past op None closed no_receiver full oldest o live =
     record { sends = live.sends; receives = live.receives; closeds = live.closeds; streams = live.streams }
 
 pub poll_next-live : {T : Type 0} (past : Past T) (receiver : ℕ) (oldest : Option T) (closed : Bool)
-    → is_among receiver (live_receivers past) ≡ true
+    → is_among receiver (live_names Receivers past) ≡ true
     → OwnMoveIsLive past (PollNext receiver) (poll_next_reply oldest closed)
 unfolding OwnMoveIsLive
 poll_next-live past receiver (Some message) closed known live =
@@ -221,7 +220,7 @@ poll_next-live past receiver None false known live =
     }
   where
     either_way : (name : ℕ) → ((receiver == name) ≡ true) ⊎ (is_among name (rosters past).streams.names ≡ true)
-        → is_among name (live_receivers past) ≡ true
+        → is_among name (live_names Receivers past) ≡ true
     either_way name (inl same) = rw (← eqb-true receiver name same) known
     either_way name (inr was) = live.streams name was
 
@@ -253,7 +252,7 @@ drop_receiver-live past receiver live =
       closeds = live.closeds;
       streams = λ name among.
           let stayed = among-leave receiver name (rosters past).streams among in
-          is_among-without_other receiver name (live_receivers past) stayed.apart (live.streams name stayed.before);
+          is_among-without_other receiver name (live_names Receivers past) stayed.apart (live.streams name stayed.before);
     }
 
 pub upgrade_receiver-live : {T : Type 0} (past : Past T) (of new : ℕ) (granted : Bool)
@@ -264,7 +263,7 @@ upgrade_receiver-live past of new true live =
       sends = live.sends;
       receives = live.receives;
       closeds = live.closeds;
-      streams = λ name among. or_right (new == name) (is_among name (live_receivers past)) (live.streams name among);
+      streams = λ name among. or_right (new == name) (is_among name (live_names Receivers past)) (live.streams name among);
     }
 upgrade_receiver-live past of new false live =
     record { sends = live.sends; receives = live.receives; closeds = live.closeds; streams = live.streams }
@@ -272,7 +271,7 @@ upgrade_receiver-live past of new false live =
 pub due-live : {T : Type 0} (kind : Kind) (past : Past T) (step : Step T) → IsAllowed step (refusal_of kind past step)
     → OwnMoveIsLive past step (due_reply kind past step)
 unfolding OwnMoveIsLive
-due-live kind past (Poll op) may live = poll-live past op (operation_of past op) (is_closed past) (has_none (live_receivers past))
+due-live kind past (Poll op) may live = poll-live past op (operation_of past op) (is_closed past) (has_none (live_names Receivers past))
     (is_full kind past) (oldest_message past) refl live
 due-live kind past (PollNext receiver) (inl may) live =
     poll_next-live past receiver (oldest_message past) (is_closed past)
@@ -287,7 +286,7 @@ due-live kind past (CloneReceiver of new) may live =
       sends = live.sends;
       receives = live.receives;
       closeds = live.closeds;
-      streams = λ name among. or_right (new == name) (is_among name (live_receivers past)) (live.streams name among);
+      streams = λ name among. or_right (new == name) (is_among name (live_names Receivers past)) (live.streams name among);
     }
 due-live kind past (UpgradeReceiver of new) may live = upgrade_receiver-live past of new (not (is_closed past)) live
 due-live kind past (StartSend op sender message) may live =
@@ -318,7 +317,7 @@ AreLive-IsLegal kind [] legal = record {
   streams = λ name among. cc;
 }
 AreLive-IsLegal {T} kind ((step, reply) ∷ past) legal =
-    AreLive-last_receiver ((step, reply) ∷ past) (has_none (live_receivers past)) (has_none (live_receivers ((step, reply) ∷ past))) _
+    AreLive-last_receiver ((step, reply) ∷ past) (has_none (live_names Receivers past)) (has_none (live_names Receivers ((step, reply) ∷ past))) _
     (AreLive-closing ((step, reply) ∷ past) (is_closed past) (is_closed ((step, reply) ∷ past)) _
     (AreLive-receiving ((step, reply) ∷ past) (received_by reply) _
     (AreLive-accepting ((step, reply) ∷ past) (accepted_by (live_operations past) step reply) _

@@ -3,12 +3,12 @@ use Rattle.std.specs.Prelude.{◌≡◌, Bool, false, not, ◌&&◌, ◌||◌}
 use Rattle.channel_model.specs.declared.step.Kind.{Kind}
 use Rattle.channel_model.specs.declared.step.Who.{Who}
 use Rattle.channel_model.specs.declared.step.Who.TheVariants.{Op, Receiver}
-use Rattle.event_list.specs.Keys.{is_among}
+use Rattle.identity.specs.Keys.{is_among}
 use Rattle.channel_model.specs.Past.{Past}
 use Rattle.channel_model.specs.Messages.{held_messages}
 use Rattle.channel_model.specs.View.{view_of}
 use Rattle.channel_model.specs.Replies.{is_full_in}
-use Rattle.channel_model.specs.Handles.{live_receivers}
+use Rattle.channel_model.specs.Handles.{live_names, Receivers}
 use Rattle.channel_model.specs.Closing.{has_none, is_closed}
 use Rattle.channel_model.specs.Notices.{rosters}
 
@@ -26,7 +26,7 @@ abbrev pub is_able : {T : Type 0} → Kind → Past T → Who → Bool
 is_able kind past (Op op) =
     (is_among op (rosters past).sends.names && can_send kind past)
     || (is_among op (rosters past).receives.names && can_receive past)
-    || (is_among op (rosters past).closeds.names && has_none (live_receivers past))
+    || (is_among op (rosters past).closeds.names && has_none (live_names Receivers past))
 is_able kind past (Receiver receiver) =
     is_among receiver (rosters past).streams.names && can_receive past
 

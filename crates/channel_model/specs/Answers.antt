@@ -1,32 +1,31 @@
 -- What answers a step, and a list of steps.
-use Rattle.std.specs.Prelude.{◌≡◌, ◌⊎◌, List, [], ◌∷◌, Option, Some, None, Bool, true, false, MatchOption}
+use Rattle.std.specs.Prelude.{◌≡◌, ◌⊎◌, List, [], ◌∷◌, Option, Some, None, Bool, true, false}
 use Rattle.channel_model.specs.declared.step.Kind.{Kind}
 use Rattle.channel_model.specs.declared.step.Refusal.{Refusal}
 use Rattle.channel_model.specs.declared.step.Refusal.TheVariants.{OutOfMemory}
 use Rattle.channel_model.specs.declared.step.Step.{Step}
-use Rattle.channel_model.specs.declared.step.Step.TheVariants.{TrySend, ForceSend, StartSend}
 use Rattle.channel_model.specs.declared.step.Reply.{Reply}
 use Rattle.channel_model.specs.declared.step.Reply.TheVariants.{Refused}
 use Rattle.channel_model.specs.Past.{Past}
+use Rattle.channel_model.specs.Messages.{message_in}
 use Rattle.channel_model.specs.Replies.{due_reply}
 use Rattle.channel_model.specs.Refusals.{refusal_of}
 use Rattle.channel_model.specs.Memory.{may_want_memory}
 
--- The message that a refused step hands back.
-abbrev pub message_in : {T : Type 0} → Step T → Option T
-message_in (TrySend sender message) = Some message
-message_in (ForceSend sender message) = Some message
-message_in (StartSend op sender message) = Some message
-message_in step = None
+-- the refusal that applies, or else the reply that is due
+abbrev pub refused_or : {T : Type 0} → Option Refusal → Step T → (due : Reply T) → Reply T
+refused_or None step due = due
+refused_or (Some refusal) step due = Refused refusal (message_in step)
 
--- The reply is the refusal that applies; where none does, it is the one that is due, or want of
--- memory where that is possible.
+-- The answer to a step after this past where no memory is wanted.
+abbrev pub answer_of : {T : Type 0} → Kind → Past T → Step T → Reply T
+answer_of kind past step = refused_or (refusal_of kind past step) step (due_reply kind past step)
+
+-- The reply is that answer, or want of memory where it is possible.
 abbrev pub IsAnswer : {T : Type 0} → Kind → Past T → Step T → Reply T → Type 0
 IsAnswer kind past step reply =
-    MatchOption (refusal_of kind past step)
-    ((reply ≡ due_reply kind past step)
-    ⊎ ((may_want_memory kind past step ≡ true) × (reply ≡ Refused OutOfMemory (message_in step))))
-    (λ refusal. reply ≡ Refused refusal (message_in step))
+    (reply ≡ answer_of kind past step)
+    ⊎ ((may_want_memory kind past step ≡ true) × (reply ≡ Refused OutOfMemory (message_in step)))
 
 -- memory was refused
 abbrev pub wants_memory : {T : Type 0} → Reply T → Bool
@@ -38,16 +37,7 @@ abbrev pub past_after : {T : Type 0} → Past T → Step T → Reply T → Past 
 past_after past step (Refused refusal message) = past
 past_after past step reply = (step, reply) ∷ past
 
--- the refusal that applies, or else the reply that is due
-abbrev pub refused_or : {T : Type 0} → Option Refusal → Step T → (due : Reply T) → Reply T
-refused_or None step due = due
-refused_or (Some refusal) step due = Refused refusal (message_in step)
-
--- The answer to a step after this past where no memory is wanted.
-abbrev pub answer_of : {T : Type 0} → Kind → Past T → Step T → Reply T
-answer_of kind past step = refused_or (refusal_of kind past step) step (due_reply kind past step)
-
--- the past after a step that was answered so
+-- the past after a step where no memory is wanted
 abbrev pub past_made : {T : Type 0} → Kind → Past T → Step T → Past T
 past_made kind past step = past_after past step (answer_of kind past step)
 

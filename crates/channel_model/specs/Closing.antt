@@ -3,7 +3,7 @@ use Rattle.std.specs.Prelude.{ℕ, [], ◌∷◌, List, Bool, true, false, ◌||
 use Rattle.channel_model.specs.declared.step.Step.{Step}
 use Rattle.channel_model.specs.declared.step.Step.TheVariants.{Close}
 use Rattle.channel_model.specs.Past.{Past}
-use Rattle.channel_model.specs.Handles.{live_senders, live_receivers}
+use Rattle.channel_model.specs.Handles.{live_names, Senders, Receivers}
 
 -- a closing by hand, by either side
 abbrev pub is_close : {T : Type 0} → Step T → Bool
@@ -27,4 +27,5 @@ closed_after before step senders receivers =
 abbrev pub is_closed : {T : Type 0} → Past T → Bool
 is_closed [] = false
 is_closed (pair ∷ past) =
-    closed_after (is_closed past) pair.0 (live_senders (pair ∷ past)) (live_receivers (pair ∷ past))
+    closed_after (is_closed past) pair.0 (live_names Senders (pair ∷ past))
+    (live_names Receivers (pair ∷ past))

@@ -4,62 +4,40 @@ use Rattle.channel_model.specs.declared.step.Step.{Step}
 use Rattle.channel_model.specs.declared.step.Step.TheVariants.{CloneSender, CloneReceiver, CloneWeakSender, CloneWeakReceiver, DowngradeSender, DowngradeReceiver, UpgradeSender, UpgradeReceiver, DropSender, DropReceiver, DropWeakSender, DropWeakReceiver}
 use Rattle.channel_model.specs.declared.step.Reply.{Reply}
 use Rattle.channel_model.specs.declared.step.Reply.TheVariants.{Upgraded}
-use Rattle.channel_model.specs.Past.{Past}
+use Rattle.channel_model.specs.Past.{Past, made_by}
 
 -- the names but this one
 abbrev pub without : ℕ → List ℕ → List ℕ
 without name names = filter (λ other. not (other == name)) names
 
--- ---- What a step with this reply makes of the names that were live before it.
+-- The four spaces of handles' names. A name may be live in several of them at once.
+pub data Space : Type 0 where
+  Senders Receivers WeakSenders WeakReceivers : Space
 
--- The senders: a copy is live, an upgrade where it was answered by a handle, and who is given up is
--- not.
-abbrev pub senders_after : {T : Type 0} → Step T → Reply T → List ℕ → List ℕ
-senders_after (CloneSender of new) reply names = new ∷ names
-senders_after (UpgradeSender of new) (Upgraded true) names = new ∷ names
-senders_after (DropSender name) reply names = without name names
-senders_after step reply names = names
+-- What a step with this reply makes of the names that were live in a space before it: a copy is
+-- live, a weak handle that was made of another, an upgrade where it was answered by a handle; and
+-- who is given up is not.
+abbrev pub names_after : {T : Type 0} → Space → Step T → Reply T → List ℕ → List ℕ
+names_after Senders (CloneSender of new) reply names = new ∷ names
+names_after Senders (UpgradeSender of new) (Upgraded true) names = new ∷ names
+names_after Senders (DropSender name) reply names = without name names
+names_after Receivers (CloneReceiver of new) reply names = new ∷ names
+names_after Receivers (UpgradeReceiver of new) (Upgraded true) names = new ∷ names
+names_after Receivers (DropReceiver name) reply names = without name names
+names_after WeakSenders (CloneWeakSender of new) reply names = new ∷ names
+names_after WeakSenders (DowngradeSender of new) reply names = new ∷ names
+names_after WeakSenders (DropWeakSender name) reply names = without name names
+names_after WeakReceivers (CloneWeakReceiver of new) reply names = new ∷ names
+names_after WeakReceivers (DowngradeReceiver of new) reply names = new ∷ names
+names_after WeakReceivers (DropWeakReceiver name) reply names = without name names
+names_after space step reply names = names
 
--- the receivers, likewise
-abbrev pub receivers_after : {T : Type 0} → Step T → Reply T → List ℕ → List ℕ
-receivers_after (CloneReceiver of new) reply names = new ∷ names
-receivers_after (UpgradeReceiver of new) (Upgraded true) names = new ∷ names
-receivers_after (DropReceiver name) reply names = without name names
-receivers_after step reply names = names
+-- A new channel has sender 0 and receiver 0.
+abbrev pub first_names : Space → List ℕ
+first_names Senders = 0 ∷ []
+first_names Receivers = 0 ∷ []
+first_names space = []
 
--- The weak senders: a copy is live, one that was made from a sender, and who is given up is not.
-abbrev pub weak_senders_after : {T : Type 0} → Step T → Reply T → List ℕ → List ℕ
-weak_senders_after (CloneWeakSender of new) reply names = new ∷ names
-weak_senders_after (DowngradeSender of new) reply names = new ∷ names
-weak_senders_after (DropWeakSender name) reply names = without name names
-weak_senders_after step reply names = names
-
--- the weak receivers, likewise
-abbrev pub weak_receivers_after : {T : Type 0} → Step T → Reply T → List ℕ → List ℕ
-weak_receivers_after (CloneWeakReceiver of new) reply names = new ∷ names
-weak_receivers_after (DowngradeReceiver of new) reply names = new ∷ names
-weak_receivers_after (DropWeakReceiver name) reply names = without name names
-weak_receivers_after step reply names = names
-
--- ---- Which names are live after a past: those that were made and not given up since.
-
--- The senders. A new channel has sender 0.
-abbrev pub live_senders : {T : Type 0} → Past T → List ℕ
-live_senders [] = 0 ∷ []
-live_senders ((step, reply) ∷ past) = senders_after step reply (live_senders past)
-
--- The receivers. A new channel has receiver 0.
-abbrev pub live_receivers : {T : Type 0} → Past T → List ℕ
-live_receivers [] = 0 ∷ []
-live_receivers ((step, reply) ∷ past) = receivers_after step reply (live_receivers past)
-
--- The weak senders. A new channel has none.
-abbrev pub live_weak_senders : {T : Type 0} → Past T → List ℕ
-live_weak_senders [] = []
-live_weak_senders ((step, reply) ∷ past) = weak_senders_after step reply (live_weak_senders past)
-
--- The weak receivers. A new channel has none.
-abbrev pub live_weak_receivers : {T : Type 0} → Past T → List ℕ
-live_weak_receivers [] = []
-live_weak_receivers ((step, reply) ∷ past) =
-    weak_receivers_after step reply (live_weak_receivers past)
+-- The names that are live after a past: those that were made and not given up since.
+abbrev pub live_names : {T : Type 0} → Space → Past T → List ℕ
+live_names space past = made_by (names_after space) (first_names space) past

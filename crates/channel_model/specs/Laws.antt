@@ -9,9 +9,9 @@ use Rattle.channel_model.specs.declared.step.Step.{Step}
 use Rattle.channel_model.specs.declared.step.Step.TheVariants.{TrySend, ForceSend, TryRecv, UpgradeSender, UpgradeReceiver, Poll, PollNext}
 use Rattle.channel_model.specs.declared.step.Reply.{Reply}
 use Rattle.channel_model.specs.declared.step.Reply.TheVariants.{TrySent, Forced, Received, Upgraded, SendPolled, RecvPolled, NextPolled}
-use Rattle.event_list.specs.Keys.{is_among}
+use Rattle.identity.specs.Keys.{is_among}
 use Rattle.channel_model.specs.Past.{Past}
-use Rattle.channel_model.specs.Handles.{live_receivers, live_senders}
+use Rattle.channel_model.specs.Handles.{live_names, Receivers, Senders}
 use Rattle.channel_model.specs.Operations.{is_awaiting, is_receive, is_unsent, message_of, operation_of, receiving}
 use Rattle.channel_model.specs.Messages.{accepted_messages, held_messages, oldest_message, taken_messages}
 use Rattle.channel_model.specs.Closing.{is_closed}
@@ -31,7 +31,7 @@ pub record AreLive {T : Type 0} (past : Past T) (all : Rosters) : Type 0 where
   pub closeds : (name : ℕ) → is_among name all.closeds.names ≡ true
       → is_awaiting (operation_of past name) ≡ true
   pub streams : (name : ℕ) → is_among name all.streams.names ≡ true
-      → is_among name (live_receivers past) ≡ true
+      → is_among name (live_names Receivers past) ≡ true
 
 -- No send waits beside a waiting receive or stream, and on a closed channel none of them waits.
 pub record IsDone {T : Type 0} (past : Past T) : Type 0 where
@@ -97,7 +97,7 @@ with_made is_made name names = if is_made then name ∷ names else names
 pub record UpgradesWhileOpen {T : Type 0} (past : Past T) (of new : ℕ)
     (reply : Reply T) : Type 0 where
   pub replied : reply ≡ Upgraded (not (is_closed past))
-  pub senders : live_senders ((UpgradeSender of new, reply) ∷ past)
-      ≡ with_made (not (is_closed past)) new (live_senders past)
-  pub receivers : live_receivers ((UpgradeReceiver of new, reply) ∷ past)
-      ≡ with_made (not (is_closed past)) new (live_receivers past)
+  pub senders : live_names Senders ((UpgradeSender of new, reply) ∷ past)
+      ≡ with_made (not (is_closed past)) new (live_names Senders past)
+  pub receivers : live_names Receivers ((UpgradeReceiver of new, reply) ∷ past)
+      ≡ with_made (not (is_closed past)) new (live_names Receivers past)

@@ -1,11 +1,12 @@
 -- Where want of memory is possible.
-use Rattle.std.specs.Prelude.{Bool, true, false, not, ◌&&◌, ◌||◌, is_none, is_some}
+use Rattle.std.specs.Prelude.{Bool, false, not, ◌&&◌, ◌||◌, is_none, is_some}
 use Rattle.channel_model.specs.declared.step.Kind.{Kind}
 use Rattle.channel_model.specs.declared.step.Step.{Step}
-use Rattle.channel_model.specs.declared.step.Step.TheVariants.{TrySend, ForceSend, UpgradeSender, UpgradeReceiver, Poll, PollNext}
-use Rattle.event_list.specs.Keys.{is_among}
+use Rattle.channel_model.specs.declared.step.Step.TheVariants.{UpgradeSender, UpgradeReceiver, Poll, PollNext}
+use Rattle.identity.specs.Keys.{is_among}
 use Rattle.channel_model.specs.Past.{Past}
 use Rattle.channel_model.specs.Operations.{is_finished_send, message_among, operation_in}
+use Rattle.channel_model.specs.Messages.{message_in}
 use Rattle.channel_model.specs.Replies.{is_pending, reply_in}
 use Rattle.channel_model.specs.Refusals.{new_is_live, refusal_in}
 use Rattle.channel_model.specs.Rosters.{waits_anywhere}
@@ -17,12 +18,10 @@ makes_name view (UpgradeSender of new) = not view.closed
 makes_name view (UpgradeReceiver of new) = not view.closed
 makes_name view step = is_some (new_is_live view step)
 
--- The step brings a message to send: its own, or that of an unfinished send.
+-- The step brings a message: its own, or that of an unfinished send.
 abbrev pub brings_message : {T : Type 0} → View T → Step T → Bool
-brings_message view (TrySend sender message) = true
-brings_message view (ForceSend sender message) = true
 brings_message view (Poll op) = is_some (message_among view.operations op)
-brings_message view step = false
+brings_message view step = is_some (message_in step)
 
 -- The step polls somebody who waits nowhere, a finished send aside.
 abbrev pub polls_newcomer : {T : Type 0} → View T → Step T → Bool

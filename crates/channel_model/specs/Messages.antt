@@ -2,11 +2,18 @@
 use Rattle.std.specs.Prelude.{List, [], ◌∷◌, ◌++◌, Option, Some, None, Ok, length, drop, slice_get}
 use Rattle.futures.specs.declared.task.Poll.TheVariants.{Ready}
 use Rattle.channel_model.specs.declared.step.Step.{Step}
-use Rattle.channel_model.specs.declared.step.Step.TheVariants.{TrySend, ForceSend, Poll}
+use Rattle.channel_model.specs.declared.step.Step.TheVariants.{TrySend, ForceSend, StartSend, Poll}
 use Rattle.channel_model.specs.declared.step.Reply.{Reply}
 use Rattle.channel_model.specs.declared.step.Reply.TheVariants.{TrySent, Forced, Received, SendPolled, RecvPolled, NextPolled}
 use Rattle.channel_model.specs.Past.{Past}
 use Rattle.channel_model.specs.Operations.{Operations, live_operations, message_among}
+
+-- The message that a step brings, and gets back where it is refused.
+abbrev pub message_in : {T : Type 0} → Step T → Option T
+message_in (TrySend sender message) = Some message
+message_in (ForceSend sender message) = Some message
+message_in (StartSend op sender message) = Some message
+message_in step = None
 
 -- The message that a step with this reply put in, beside these live operations: sent at once,
 -- forced in, or sent by a poll.

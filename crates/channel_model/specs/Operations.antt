@@ -5,7 +5,7 @@ use Rattle.channel_model.specs.declared.step.Step.{Step}
 use Rattle.channel_model.specs.declared.step.Step.TheVariants.{StartSend, StartRecv, StartClosed, Poll, DropOp}
 use Rattle.channel_model.specs.declared.step.Reply.{Reply}
 use Rattle.channel_model.specs.declared.step.Reply.TheVariants.{SendPolled}
-use Rattle.channel_model.specs.Past.{Past}
+use Rattle.channel_model.specs.Past.{Past, made_by}
 
 -- A send, a receive or a closed operation, with the handle that it borrows until it is given up.
 -- A send has its message until a poll of it was answered ready: without a message it is finished.
@@ -46,12 +46,7 @@ operations_after step reply operations = operations
 -- The operations that were started and not given up since, each with its name. A new channel has
 -- none.
 abbrev pub live_operations : {T : Type 0} → Past T → Operations T
-live_operations [] = []
-live_operations ((step, reply) ∷ past) = operations_after step reply (live_operations past)
-
--- their names
-abbrev pub names_of : {T : Type 0} → Operations T → List ℕ
-names_of operations = map (λ entry. entry.0) operations
+live_operations past = made_by operations_after [] past
 
 -- the operation of this name among these, if there is one
 abbrev pub operation_in : {T : Type 0} → Operations T → ℕ → Option (Operation T)

@@ -14,6 +14,11 @@ use Rattle.channel_model.specs.Notices.{rosters}
 use Rattle.channel_model.specs.Legal.{IsLegal}
 use Rattle.channel_model.specs.Able.{IsSettled}
 
+-- the poll of who waits
+abbrev pub poll_of : {T : Type 0} → Who → Step T
+poll_of (Op op) = Poll op
+poll_of (Receiver receiver) = PollNext receiver
+
 -- The polls of all who were told: receives, then streams, then sends, then closed operations.
 abbrev pub told_polls : {T : Type 0} → Rosters → List (Step T)
 told_polls all =
@@ -50,10 +55,6 @@ waiting_in all =
     length all.sends.names + length all.receives.names + length all.streams.names
     + length all.closeds.names
 
--- how many of them were told
-abbrev pub told_in : Rosters → ℕ
-told_in all = all.sends.told + all.receives.told + all.streams.told + all.closeds.told
-
 -- the most polls that settling may take where this many wait
 abbrev pub most_polls : ℕ → ℕ
 most_polls waiting = waiting * (waiting + 1) / 2
@@ -89,7 +90,7 @@ pub record Settles {T : Type 0} (kind : Kind) (past polls : Past T) (count : ℕ
   pub each : IsSettling kind past polls
   pub counted : count ≡ length polls
   pub listed : finished ≡ finished_polls polls
-  pub quiet : IsQuiet (rosters (polls ++ past))
+  pub quiet : told_polls {T = T} (rosters (polls ++ past)) ≡ []
   pub settled : IsSettled kind (polls ++ past)
   pub bounded : count ≤ most_polls (waiting_in (rosters past))
 

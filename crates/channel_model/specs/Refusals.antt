@@ -1,5 +1,5 @@
 -- Which steps are refused, want of memory aside.
-use Rattle.std.specs.Prelude.{ℕ, Option, Some, None, Bool, false, not, ◌&&◌, length, nat_lt, is_some, unwrap_or, if◌then◌else◌}
+use Rattle.std.specs.Prelude.{ℕ, List, Option, Some, None, Bool, false, not, ◌&&◌, length, nat_lt, is_some, unwrap_or, if◌then◌else◌}
 use Rattle.std.specs.List.{list_any}
 use Rattle.channel_model.specs.declared.step.Kind.{Kind}
 use Rattle.channel_model.specs.declared.step.Side.{Side}
@@ -8,7 +8,7 @@ use Rattle.channel_model.specs.declared.step.Refusal.{Refusal}
 use Rattle.channel_model.specs.declared.step.Refusal.TheVariants.{Unknown, Taken, Borrowed, TooMany}
 use Rattle.channel_model.specs.declared.step.Step.{Step}
 use Rattle.channel_model.specs.declared.step.Step.TheVariants.{TrySend, ForceSend, TryRecv, Close, IsClosed, IsEmpty, IsFull, IsTerminated, Len, SenderCount, ReceiverCount, Capacity, CloneSender, CloneReceiver, CloneWeakSender, CloneWeakReceiver, DowngradeSender, DowngradeReceiver, UpgradeSender, UpgradeReceiver, DropSender, DropReceiver, DropWeakSender, DropWeakReceiver, StartSend, StartRecv, StartClosed, Poll, PollNext, DropOp}
-use Rattle.event_list.specs.Keys.{is_among}
+use Rattle.identity.specs.Keys.{is_among}
 use Rattle.channel_model.specs.Tables.{handle_limit}
 use Rattle.channel_model.specs.Past.{Past}
 use Rattle.channel_model.specs.Operations.{operation_in, borrows_receiver, borrows_sender}
@@ -27,53 +27,51 @@ is_handle view (Receiver name) = is_among name view.receivers
 
 -- ---- the four refusals
 
+-- A handle is made of another: whether that is among these, and the new one among those.
+abbrev pub made : (of : ℕ) (names : List ℕ) (new : ℕ) (others : List ℕ) → Bool × Option Bool
+made of names new others = (is_among of names, Some (is_among new others))
+
+-- What a step finds live: whether the name by which it acts is, and, where it is to make a name,
+-- whether that one is.
+abbrev pub live_of : {T : Type 0} → View T → Step T → Bool × Option Bool
+live_of view (TrySend sender message) = (is_among sender view.senders, None)
+live_of view (ForceSend sender message) = (is_among sender view.senders, None)
+live_of view (TryRecv receiver) = (is_among receiver view.receivers, None)
+live_of view (Close side) = (is_handle view side, None)
+live_of view (IsClosed side) = (is_handle view side, None)
+live_of view (IsEmpty side) = (is_handle view side, None)
+live_of view (IsFull side) = (is_handle view side, None)
+live_of view (IsTerminated receiver) = (is_among receiver view.receivers, None)
+live_of view (Len side) = (is_handle view side, None)
+live_of view (SenderCount side) = (is_handle view side, None)
+live_of view (ReceiverCount side) = (is_handle view side, None)
+live_of view (Capacity side) = (is_handle view side, None)
+live_of view (CloneSender of new) = made of view.senders new view.senders
+live_of view (CloneReceiver of new) = made of view.receivers new view.receivers
+live_of view (CloneWeakSender of new) = made of view.weak_senders new view.weak_senders
+live_of view (CloneWeakReceiver of new) = made of view.weak_receivers new view.weak_receivers
+live_of view (DowngradeSender of new) = made of view.senders new view.weak_senders
+live_of view (DowngradeReceiver of new) = made of view.receivers new view.weak_receivers
+live_of view (UpgradeSender of new) = made of view.weak_senders new view.senders
+live_of view (UpgradeReceiver of new) = made of view.weak_receivers new view.receivers
+live_of view (DropSender name) = (is_among name view.senders, None)
+live_of view (DropReceiver name) = (is_among name view.receivers, None)
+live_of view (DropWeakSender name) = (is_among name view.weak_senders, None)
+live_of view (DropWeakReceiver name) = (is_among name view.weak_receivers, None)
+live_of view (StartSend op name message) = (is_among name view.senders, Some (is_operation view op))
+live_of view (StartRecv op name) = (is_among name view.receivers, Some (is_operation view op))
+live_of view (StartClosed op name) = (is_among name view.senders, Some (is_operation view op))
+live_of view (Poll op) = (is_operation view op, None)
+live_of view (PollNext receiver) = (is_among receiver view.receivers, None)
+live_of view (DropOp op) = (is_operation view op, None)
+
 -- The name by which the step acts is live.
 abbrev pub is_known : {T : Type 0} → View T → Step T → Bool
-is_known view (TrySend sender message) = is_among sender view.senders
-is_known view (ForceSend sender message) = is_among sender view.senders
-is_known view (TryRecv receiver) = is_among receiver view.receivers
-is_known view (Close side) = is_handle view side
-is_known view (IsClosed side) = is_handle view side
-is_known view (IsEmpty side) = is_handle view side
-is_known view (IsFull side) = is_handle view side
-is_known view (IsTerminated receiver) = is_among receiver view.receivers
-is_known view (Len side) = is_handle view side
-is_known view (SenderCount side) = is_handle view side
-is_known view (ReceiverCount side) = is_handle view side
-is_known view (Capacity side) = is_handle view side
-is_known view (CloneSender of new) = is_among of view.senders
-is_known view (CloneReceiver of new) = is_among of view.receivers
-is_known view (CloneWeakSender of new) = is_among of view.weak_senders
-is_known view (CloneWeakReceiver of new) = is_among of view.weak_receivers
-is_known view (DowngradeSender of new) = is_among of view.senders
-is_known view (DowngradeReceiver of new) = is_among of view.receivers
-is_known view (UpgradeSender of new) = is_among of view.weak_senders
-is_known view (UpgradeReceiver of new) = is_among of view.weak_receivers
-is_known view (DropSender name) = is_among name view.senders
-is_known view (DropReceiver name) = is_among name view.receivers
-is_known view (DropWeakSender name) = is_among name view.weak_senders
-is_known view (DropWeakReceiver name) = is_among name view.weak_receivers
-is_known view (StartSend op sender message) = is_among sender view.senders
-is_known view (StartRecv op receiver) = is_among receiver view.receivers
-is_known view (StartClosed op sender) = is_among sender view.senders
-is_known view (Poll op) = is_operation view op
-is_known view (PollNext receiver) = is_among receiver view.receivers
-is_known view (DropOp op) = is_operation view op
+is_known view step = (live_of view step).0
 
 -- For a step that is to make a name: whether it is live already.
 abbrev pub new_is_live : {T : Type 0} → View T → Step T → Option Bool
-new_is_live view (CloneSender of new) = Some (is_among new view.senders)
-new_is_live view (CloneReceiver of new) = Some (is_among new view.receivers)
-new_is_live view (CloneWeakSender of new) = Some (is_among new view.weak_senders)
-new_is_live view (CloneWeakReceiver of new) = Some (is_among new view.weak_receivers)
-new_is_live view (DowngradeSender of new) = Some (is_among new view.weak_senders)
-new_is_live view (DowngradeReceiver of new) = Some (is_among new view.weak_receivers)
-new_is_live view (UpgradeSender of new) = Some (is_among new view.senders)
-new_is_live view (UpgradeReceiver of new) = Some (is_among new view.receivers)
-new_is_live view (StartSend op sender message) = Some (is_operation view op)
-new_is_live view (StartRecv op receiver) = Some (is_operation view op)
-new_is_live view (StartClosed op sender) = Some (is_operation view op)
-new_is_live view step = None
+new_is_live view step = (live_of view step).1
 
 -- The name that the step is to make is live already.
 abbrev pub is_taken : {T : Type 0} → View T → Step T → Bool

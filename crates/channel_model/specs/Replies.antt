@@ -1,7 +1,7 @@
 -- The reply that the past decides. No reply hangs on who was told. Of several cases the first that
 -- applies counts.
 use Rattle.std.specs.Prelude.{Option, Some, None, Bool, true, false, not, ◌&&◌, length, slice_get}
-use Rattle.futures.specs.declared.task.Poll.TheVariants.{Pending}
+use Rattle.futures.specs.declared.task.Poll.TheVariants.{Pending, Ready}
 use Rattle.channel_model.specs.declared.step.Kind.{Kind}
 use Rattle.channel_model.specs.declared.step.Refusal.TheVariants.{Unknown}
 use Rattle.channel_model.specs.declared.step.Step.{Step}
@@ -15,16 +15,14 @@ use Rattle.channel_model.specs.Capacity.{full_at}
 use Rattle.channel_model.specs.Closing.{has_none}
 use Rattle.channel_model.specs.View.{View, view_of}
 
--- By the kind of the operation. Where none has this name the step is refused, and isn't made.
-abbrev pub poll_reply : {T : Type 0} (operation : Option (Operation T))
-    (closed no_receiver full : Bool) (oldest : Option T) → Reply T
-poll_reply (Some (sending sender message)) closed no_receiver full oldest =
-    SendPolled (send_poll message closed full)
-poll_reply (Some (receiving receiver)) closed no_receiver full oldest =
-    RecvPolled (recv_poll oldest closed)
-poll_reply (Some (awaiting_close sender)) closed no_receiver full oldest =
-    ClosedPolled (closed_poll no_receiver)
-poll_reply None closed no_receiver full oldest = Refused Unknown None
+-- What a poll looks at decides the reply to it, by the kind of the operation. Where none has this
+-- name the step is refused, and isn't made.
+module _ {T : Type 0} (closed no_receiver full : Bool) (oldest : Option T) where
+  abbrev pub poll_reply : Option (Operation T) → Reply T
+  poll_reply (Some (sending sender message)) = SendPolled (send_poll message closed full)
+  poll_reply (Some (receiving receiver)) = RecvPolled (recv_poll oldest closed)
+  poll_reply (Some (awaiting_close sender)) = ClosedPolled (closed_poll no_receiver)
+  poll_reply None = Refused Unknown None
 
 -- it holds as many messages as it may
 abbrev pub is_full_in : {T : Type 0} → View T → Bool
@@ -51,9 +49,8 @@ reply_in view (Capacity side) = Capacity view.capacity
 reply_in view (UpgradeSender of new) = Upgraded (not view.closed)
 reply_in view (UpgradeReceiver of new) = Upgraded (not view.closed)
 reply_in view (Poll op) =
-    poll_reply (operation_in view.operations op) view.closed (has_none view.receivers)
-    (is_full_in view)
-    (slice_get view.messages 0)
+    poll_reply view.closed (has_none view.receivers) (is_full_in view) (slice_get view.messages 0)
+    (operation_in view.operations op)
 reply_in view (PollNext receiver) = NextPolled (next_poll (slice_get view.messages 0) view.closed)
 reply_in view step = Done
 
@@ -68,3 +65,11 @@ is_pending (RecvPolled Pending) = true
 is_pending (ClosedPolled Pending) = true
 is_pending (NextPolled Pending) = true
 is_pending reply = false
+
+-- a poll that was answered ready
+abbrev pub is_ready : {T : Type 0} → Reply T → Bool
+is_ready (SendPolled (Ready outcome)) = true
+is_ready (RecvPolled (Ready outcome)) = true
+is_ready (ClosedPolled (Ready outcome)) = true
+is_ready (NextPolled (Ready outcome)) = true
+is_ready reply = false

@@ -1,8 +1,10 @@
 -- Lists of those who wait, and how each change moves them.
 use Rattle.std.specs.Prelude.{◌+◌, ◌-◌, ◌≤◌, ℕ, List, [], ◌∷◌, ◌++◌, Bool, ◌||◌, length, take, min, if◌then◌else◌}
+use Rattle.futures.specs.declared.task.Poll.{Poll}
+use Rattle.futures.specs.declared.task.Poll.TheVariants.{Ready, Pending}
 use Rattle.channel_model.specs.declared.step.Notice.{Notice}
 use Rattle.channel_model.specs.declared.step.Notice.TheVariants.{Absent, Untold, Told}
-use Rattle.event_list.specs.Keys.{AreDifferent, is_among}
+use Rattle.identity.specs.Keys.{AreDifferent, is_among}
 use Rattle.channel_model.specs.Handles.{without}
 
 -- Those who wait, in order of arrival, and how many of them were told: always the first ones.
@@ -37,6 +39,11 @@ wait name roster =
     else if is_among name roster.names then roster
     else arrive name roster
 
+-- The one of this name was polled: it leaves where it is ready, and else it waits.
+abbrev pub polled : {A : Type 0} → Poll A → ℕ → Roster → Roster
+polled (Ready answer) name roster = leave name roster
+polled Pending name roster = wait name roster
+
 -- The longest waiting untold one is told, if there is one.
 abbrev pub tell_one : Roster → Roster
 tell_one roster =
@@ -58,6 +65,19 @@ pub record Rosters : Type 0 where
   pub receives : Roster
   pub streams : Roster
   pub closeds : Roster
+
+-- one roster of them is changed
+abbrev pub in_sends : (change : Roster → Roster) → Rosters → Rosters
+in_sends change all = record all { sends = change all.sends }
+
+abbrev pub in_receives : (change : Roster → Roster) → Rosters → Rosters
+in_receives change all = record all { receives = change all.receives }
+
+abbrev pub in_streams : (change : Roster → Roster) → Rosters → Rosters
+in_streams change all = record all { streams = change all.streams }
+
+abbrev pub in_closeds : (change : Roster → Roster) → Rosters → Rosters
+in_closeds change all = record all { closeds = change all.closeds }
 
 -- nobody waits
 abbrev pub nobody : Roster

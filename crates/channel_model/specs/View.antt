@@ -2,9 +2,9 @@
 -- this alone.
 use Rattle.std.specs.Prelude.{◌≡◌, ℕ, List, Option, Bool, length}
 use Rattle.channel_model.specs.declared.step.Kind.{Kind}
-use Rattle.event_list.specs.Keys.{is_among}
+use Rattle.identity.specs.Keys.{is_among}
 use Rattle.channel_model.specs.Past.{Past}
-use Rattle.channel_model.specs.Handles.{live_receivers, live_senders, live_weak_receivers, live_weak_senders}
+use Rattle.channel_model.specs.Handles.{live_names, Receivers, Senders, WeakReceivers, WeakSenders}
 use Rattle.channel_model.specs.Operations.{Operations, live_operations, operation_in}
 use Rattle.channel_model.specs.Messages.{held_messages}
 use Rattle.channel_model.specs.Capacity.{capacity_of}
@@ -31,10 +31,10 @@ view_of kind past = record {
   capacity = capacity_of kind;
   messages = held_messages past;
   closed = is_closed past;
-  senders = live_senders past;
-  receivers = live_receivers past;
-  weak_senders = live_weak_senders past;
-  weak_receivers = live_weak_receivers past;
+  senders = live_names Senders past;
+  receivers = live_names Receivers past;
+  weak_senders = live_names WeakSenders past;
+  weak_receivers = live_names WeakReceivers past;
   operations = live_operations past;
   rosters = rosters past;
 }
@@ -48,8 +48,7 @@ pub record AreSameNames (names others : List ℕ) : Type 0 where
   pub each : (name : ℕ) → is_among name names ≡ is_among name others
 
 -- As many, and each name has the same operation in both, or none.
-pub record AreSameOperations {T : Type 0}
-    (operations others : Operations T) : Type 0 where
+pub record AreSameOperations {T : Type 0} (operations others : Operations T) : Type 0 where
   pub count : length operations ≡ length others
   pub each : (name : ℕ) → operation_in operations name ≡ operation_in others name
 

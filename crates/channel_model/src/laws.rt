@@ -97,7 +97,7 @@ pub fn waits_once<T>()
     ensures live { (kind : Kind) (past : Past T) → IsLegal kind past → AreLive past (rosters past) }
 {}
 
-/// No notice is lost: whoever waits unnotified could not go on, or enough others were told.
+/// No notice is lost: whoever waits untold could not go on, or enough others were told.
 ///
 /// # Examples
 ///

@@ -1,5 +1,4 @@
-//! What the past of a channel decides: its steps and replies, and the laws that hold after every
-//! past.
+//! What a channel's past decides: replies, what is shown, and laws that hold after every past.
 //!
 //! A past is the list of the steps that were made on a channel, each with its reply. The
 //! definitions say what it decides: the reply that is due to a step, what is held, who is live, who

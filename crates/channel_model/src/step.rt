@@ -4,6 +4,8 @@
 //! of steps is any way in which the calls of any number of parties follow one another.
 ghost use Rattle.std.specs.Prelude.{◌≡◌};
 ghost use Rattle.channel_model.specs.Answers.{wants_memory};
+ghost use Rattle.channel_model.specs.Polling.{poll_of};
+ghost use Rattle.channel_model.specs.Replies.{is_pending, is_ready};
 
 use crate::errors::{RecvError, SendError, TryRecvError, TrySendError};
 use futures::task::Poll;
@@ -59,6 +61,27 @@ pub enum Who {
     Op(u64),
     /// The stream of the receiver of this name.
     Receiver(u64),
+}
+
+impl Who {
+    /// The poll of who waits.
+    ///
+    /// # Examples
+    ///
+    /// ```
+    /// let poll: Step<u64> = Who::Op(3).poll();
+    /// assert_eq!(rt; poll, Step::Poll(3));
+    /// let poll: Step<u64> = Who::Receiver(1).poll();
+    /// assert_eq!(rt; poll, Step::PollNext(1));
+    /// ```
+    pub fn poll<T>(self) -> Step<T>
+        ensures { result ≡ poll_of self }
+    {
+        match self {
+            Who::Op(op) => Step::Poll(op),
+            Who::Receiver(receiver) => Step::PollNext(receiver),
+        }
+    }
 }
 
 /// Whether somebody waits, and was told to try again.
@@ -120,7 +143,7 @@ pub enum Refusal {
 /// assert_eq!(rt; run.step(Step::Len(Side::Sender(0))), Reply::Count(1));
 /// assert_eq!(rt; run.step(Step::TryRecv(0)), Reply::Received(Ok(7)));
 /// ```
-#[derive(Debug, Drop, PartialEq, Eq)]
+#[derive(Clone, Copy, Debug, Drop, PartialEq, Eq)]
 pub enum Step<T> {
     /// A sender sends a message, if the channel is open and not full.
     TrySend(u64, T),
@@ -241,5 +264,48 @@ impl<T> Reply<T> {
         ensures { result ≡ wants_memory self.now }
     {
         matches!(self, Reply::Refused(Refusal::OutOfMemory, _))
+    }
+
+    /// Whether this answers a poll that was ready.
+    ///
+    /// # Examples
+    ///
+    /// ```
+    /// let mut run = Run::new(rt.alloc(), Kind::Unbounded)?;
+    /// run.step(Step::StartSend { op: 0, sender: 0, msg: 7 });
+    /// assert!(rt; run.step(Step::Poll(0)).is_ready());
+    /// assert!(rt; !run.step(Step::Len(Side::Sender(0))).is_ready());
+    /// ```
+    pub fn is_ready(&self) -> bool
+        ensures { result ≡ is_ready self.now }
+    {
+        match self {
+            Reply::SendPolled(poll) => poll.is_ready(),
+            Reply::RecvPolled(poll) => poll.is_ready(),
+            Reply::ClosedPolled(poll) => poll.is_ready(),
+            Reply::NextPolled(poll) => poll.is_ready(),
+            _ => false,
+        }
+    }
+
+    /// Whether this answers a poll that was pending.
+    ///
+    /// # Examples
+    ///
+    /// ```
+    /// let mut run: Run<u64> = Run::new(rt.alloc(), Kind::Unbounded)?;
+    /// assert!(rt; run.step(Step::PollNext(0)).is_pending());
+    /// assert!(rt; !run.step(Step::TryRecv(0)).is_pending());
+    /// ```
+    pub fn is_pending(&self) -> bool
+        ensures { result ≡ is_pending self.now }
+    {
+        match self {
+            Reply::SendPolled(poll) => poll.is_pending(),
+            Reply::RecvPolled(poll) => poll.is_pending(),
+            Reply::ClosedPolled(poll) => poll.is_pending(),
+            Reply::NextPolled(poll) => poll.is_pending(),
+            _ => false,
+        }
     }
 }

@@ -12,14 +12,14 @@ use Rattle.channel_model.specs.declared.step.Reply.{Reply}
 use Rattle.channel_model.specs.declared.step.Reply.TheVariants.{TrySent, Forced, Received, Flag, Count}
 use Rattle.std.specs.List.{list_any}
 use Rattle.channel_model.specs.Past.{Past}
-use Rattle.channel_model.specs.Handles.{live_receivers, live_senders}
+use Rattle.channel_model.specs.Handles.{live_names, Receivers, Senders}
 use Rattle.channel_model.specs.Messages.{accepted_by, held_messages, oldest_message, taken_by, with_last}
-use Rattle.channel_model.specs.Capacity.{capacity_of, HasPositiveCapacity, is_full}
+use Rattle.channel_model.specs.Capacity.{capacity_of, HasPositiveCapacity}
 use Rattle.channel_core.specs.Queue as queue
 use Rattle.channel_model.specs.Closing.{has_none, is_close, is_closed}
 use Rattle.channel_model.specs.Operations.{live_operations}
 use Rattle.channel_model.specs.Replies.{due_reply}
-use Rattle.channel_model.proofs.ReplyForms.{force_send_reply, try_recv_reply, try_send_reply}
+use Rattle.channel_model.proofs.ReplyForms.{force_send_reply, try_recv_reply, try_send_reply, is_full}
 use Rattle.channel_model.specs.Refusals.{refusal_of}
 use Rattle.channel_model.specs.Legal.{IsAllowed}
 use Rattle.channel_model.specs.Tables.{force_send_answer, try_recv_answer, try_send_answer}
@@ -42,7 +42,7 @@ past_of-push {T} history entry = ap (λ (entries : List (Call T × Outcome T)). 
 
 -- no call makes or gives up a handle
 senders-call : {T : Type 0} (past : Past T) (call : Call T) (reply : Reply T)
-    → live_senders ((step_of_call call, reply) ∷ past) ≡ live_senders past
+    → live_names Senders ((step_of_call call, reply) ∷ past) ≡ live_names Senders past
 senders-call past (TrySend message) reply = refl
 senders-call past (ForceSend message) reply = refl
 senders-call past TryRecv reply = refl
@@ -51,7 +51,7 @@ senders-call past IsClosed reply = refl
 senders-call past Len reply = refl
 
 receivers-call : {T : Type 0} (past : Past T) (call : Call T) (reply : Reply T)
-    → live_receivers ((step_of_call call, reply) ∷ past) ≡ live_receivers past
+    → live_names Receivers ((step_of_call call, reply) ∷ past) ≡ live_names Receivers past
 receivers-call past (TrySend message) reply = refl
 receivers-call past (ForceSend message) reply = refl
 receivers-call past TryRecv reply = refl
@@ -59,18 +59,18 @@ receivers-call past Close reply = refl
 receivers-call past IsClosed reply = refl
 receivers-call past Len reply = refl
 
-one_sender : {T : Type 0} (entries : List (Call T × Outcome T)) → live_senders (map pair_of entries) ≡ 0 ∷ []
+one_sender : {T : Type 0} (entries : List (Call T × Outcome T)) → live_names Senders (map pair_of entries) ≡ 0 ∷ []
 one_sender [] = refl
 one_sender (entry ∷ entries) = senders-call (map pair_of entries) entry.0 (reply_of_outcome entry.1)
     ∙ one_sender entries
 
-one_receiver : {T : Type 0} (entries : List (Call T × Outcome T)) → live_receivers (map pair_of entries) ≡ 0 ∷ []
+one_receiver : {T : Type 0} (entries : List (Call T × Outcome T)) → live_names Receivers (map pair_of entries) ≡ 0 ∷ []
 one_receiver [] = refl
 one_receiver (entry ∷ entries) = receivers-call (map pair_of entries) entry.0 (reply_of_outcome entry.1)
     ∙ one_receiver entries
 
 -- so no call is refused
-known : {T : Type 0} (kind : Kind) (past : Past T) (call : Call T) → live_senders past ≡ 0 ∷ [] → live_receivers past ≡ 0 ∷ []
+known : {T : Type 0} (kind : Kind) (past : Past T) (call : Call T) → live_names Senders past ≡ 0 ∷ [] → live_names Receivers past ≡ 0 ∷ []
     → refusal_of kind past (step_of_call call) ≡ None
 known kind past (TrySend message) senders receivers =
     ap (λ names. cond (not (list_any (λ other. other == 0) names)) (Some Unknown) None) senders
@@ -256,8 +256,8 @@ kept_more {T} {W} kind history channel after call outcome is answered left =
       closed =
           same_closed channel call
           ∙ ap (λ shut. shut || is_close step) is.closed
-          ∙ open_still (is_closed past || is_close step) (live_senders ((step, reply) ∷ past))
-          (live_receivers ((step, reply) ∷ past))
+          ∙ open_still (is_closed past || is_close step) (live_names Senders ((step, reply) ∷ past))
+          (live_names Receivers ((step, reply) ∷ past))
           (senders-call past call reply ∙ senders) (receivers-call past call reply ∙ receivers);
     })
   where
@@ -270,10 +270,10 @@ kept_more {T} {W} kind history channel after call outcome is answered left =
     reply : Reply T
     reply = reply_of_outcome outcome
 
-    senders : live_senders past ≡ 0 ∷ []
+    senders : live_names Senders past ≡ 0 ∷ []
     senders = one_sender (reverse history)
 
-    receivers : live_receivers past ≡ 0 ∷ []
+    receivers : live_names Receivers past ≡ 0 ∷ []
     receivers = one_receiver (reverse history)
 
     none : refusal_of kind past step ≡ None

@@ -3,7 +3,7 @@ ghost use Rattle.std.specs.Prelude.{◌≡◌, ◌↔◌, [], IfOk, IsTrue, leng
 
 use crate::calls::{Call, Outcome};
 use channel_core::OutOfMemory;
-use channel_stamps::Stamp;
+use identity::Stamp;
 use std::alloc::Global;
 use std::marker::Model;
 

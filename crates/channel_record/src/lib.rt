@@ -1,5 +1,4 @@
-//! A channel that any number of threads call through a shared reference, and whose calls are
-//! afterwards one history.
+//! A channel that many threads call by a shared reference, and their calls as one history.
 //!
 //! Each thread writes down its own calls in a [`Clerk`]. [`Recorder::finish`] compares what the
 //! clerks wrote down with the history that was made under the lock, and its [`Book`] has both: a
@@ -19,9 +18,8 @@ pub use book::Book;
 pub use calls::{Call, Outcome};
 pub use channel_core::{MakeError, OutOfMemory, SendError, TryRecvError, TrySendError};
 pub use channel_model::Kind;
-pub use channel_stamps::{Stamp, StampMaker};
 pub use clerk::Clerk;
-pub use exact::Exact;
 pub use finish::FinishError;
+pub use identity::{Exact, Stamp, StampMaker};
 pub use journal::Journal;
 pub use recorder::Recorder;

@@ -2,7 +2,7 @@
 ghost use Rattle.std.specs.Prelude.{◌≡◌, ◌≢◌, ◌<◌, ◌↔◌, ◌++◌, ◌∷◌, [], ℕ, IsTrue, IsSome, IfOk, OnErr, Err, None};
 ghost use Rattle.channel_model.specs.Capacity.{HasPositiveCapacity};
 ghost use Rattle.channel_model.specs.declared.step.Kind.TheVariants.{Bounded, Unbounded};
-ghost use Rattle.channel_stamps.specs.Stamps.{next_stamp};
+ghost use Rattle.identity.specs.Stamps.{next_stamp};
 ghost use Rattle.channel_record.specs.Shares.{IsRecorderOf};
 
 use crate::calls::{Call, Outcome};
@@ -10,8 +10,7 @@ use crate::clerk::Clerk;
 use crate::journal::Journal;
 use channel_core::{MakeError, OutOfMemory};
 use channel_model::Kind;
-use channel_stamps::{Stamp, StampMaker};
-use exact::Exact;
+use identity::{Exact, Stamp, StampMaker};
 use std::alloc::Global;
 use std::marker::Model;
 use std::sync::{Mutex, Wait};

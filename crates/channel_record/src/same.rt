@@ -3,7 +3,7 @@ ghost use Rattle.std.specs.Prelude.{◌≡◌, ◌↔◌, IsTrue};
 
 use crate::calls::{Call, Outcome};
 use channel_core::{SendError, TryRecvError, TrySendError};
-use exact::Exact;
+use identity::Exact;
 
 /// Whether two calls are the same.
 pub(crate) fn same_call<T: Exact>(one: &Call<T>, other: &Call<T>) -> bool

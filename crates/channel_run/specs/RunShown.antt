@@ -4,12 +4,12 @@ use Rattle.std.specs.Prelude.{◌≡◌, ◌≢◌, ℕ, ◌==◌, List, MatchOp
 use Rattle.std.specs.Map.{lookup, keys_of}
 use Rattle.std.specs.BTreeMap.{is_at}
 use Rattle.std.specs.Ordering.{nat_cmp}
-use Rattle.event_list.specs.Keys.{AreDifferent, is_among}
+use Rattle.identity.specs.Keys.{AreDifferent, is_among}
 use Rattle.event_list.specs.Waiting.{Waiting, keys, told_flag, told_count}
 use Rattle.channel_run.specs.declared.operations.Operation.{Operation as Started}
 use Rattle.channel_run.specs.declared.operations.Operation.TheVariants.{Send, Recv, Closed}
 use Rattle.channel_core.specs.declared.state.Group.{Group}
-use Rattle.channel_core.specs.declared.state.Group.TheVariants.{Sends, Receives, Streams, Closeds}
+use Rattle.channel_core.specs.declared.state.Group.TheVariants.{Sends, Receives, Closeds}
 use Rattle.channel_model.specs.declared.step.Notice.{Notice}
 use Rattle.channel_model.specs.declared.step.Notice.TheVariants.{Absent, Told, Untold}
 use Rattle.channel_core.specs.Channel.{Channel}
@@ -61,27 +61,21 @@ module _ {T : Type 0} where
   operation_shown (Recv receiver ticket) = receiving receiver
   operation_shown (Closed sender ticket) = awaiting_close sender
 
-  abbrev pub send_ticket : Started T → Option ℕ
-  send_ticket (Send sender message ticket) = ticket
-  send_ticket (Recv receiver ticket) = None
-  send_ticket (Closed sender ticket) = None
-
-  abbrev pub recv_ticket : Started T → Option ℕ
-  recv_ticket (Send sender message ticket) = None
-  recv_ticket (Recv receiver ticket) = ticket
-  recv_ticket (Closed sender ticket) = None
-
-  abbrev pub closed_ticket : Started T → Option ℕ
-  closed_ticket (Send sender message ticket) = None
-  closed_ticket (Recv receiver ticket) = None
-  closed_ticket (Closed sender ticket) = ticket
-
   -- the ticket by which an operation waits in a group
   abbrev pub ticket_in : Group → Started T → Option ℕ
-  ticket_in Sends = send_ticket
-  ticket_in Receives = recv_ticket
-  ticket_in Streams = λ operation. None
-  ticket_in Closeds = closed_ticket
+  ticket_in Sends (Send sender message ticket) = ticket
+  ticket_in Receives (Recv receiver ticket) = ticket
+  ticket_in Closeds (Closed sender ticket) = ticket
+  ticket_in group operation = None
+
+  abbrev pub send_ticket : Started T → Option ℕ
+  send_ticket = ticket_in Sends
+
+  abbrev pub recv_ticket : Started T → Option ℕ
+  recv_ticket = ticket_in Receives
+
+  abbrev pub closed_ticket : Started T → Option ℕ
+  closed_ticket = ticket_in Closeds
 
 -- what stands under a name
 abbrev pub entry_at : {X : Type 0} → List (ℕ × X) → ℕ → Option X
@@ -158,11 +152,11 @@ module _ {T : Type 0} where
   -- who waits, by name
   abbrev pub rosters_shown : {W : Type 0} → Channel T W
       → (receivers : List (ℕ × Option ℕ)) (operations : List (ℕ × Started T)) → Rosters
-  rosters_shown core receivers operations = record {
-    sends = roster_of (ticket_at send_ticket operations) (keys_of operations) core.sends;
-    receives = roster_of (ticket_at recv_ticket operations) (keys_of operations) core.receives;
-    streams = roster_of (ticket_at stream_ticket receivers) (keys_of receivers) core.streams;
-    closeds = roster_of (ticket_at closed_ticket operations) (keys_of operations) core.closeds;
+  rosters_shown core receivers started = record {
+    sends = roster_of (ticket_at (ticket_in Sends) started) (keys_of started) core.sends;
+    receives = roster_of (ticket_at (ticket_in Receives) started) (keys_of started) core.receives;
+    streams = roster_of (ticket_at (λ ticket. ticket) receivers) (keys_of receivers) core.streams;
+    closeds = roster_of (ticket_at (ticket_in Closeds) started) (keys_of started) core.closeds;
   }
 
   abbrev pub shown : {W : Type 0} → Channel T W

@@ -1,14 +1,10 @@
 -- What a run answers to a step, and what it shows then, by what it shows before. Private methods
 -- promise it, and what a past decides follows from it; no public clause has to cite this module.
-use Rattle.std.specs.Prelude.{◌≡◌, ◌⊎◌, MatchOption, ℕ, List, Option, Some, None, Bool, true, false, if◌then◌else◌, drop, slice_get}
-use Rattle.futures.specs.declared.task.Poll.TheVariants.{Ready}
+use Rattle.std.specs.Prelude.{◌≡◌, ◌⊎◌, MatchOption, List, Option, Some, None, Bool, true, false, if◌then◌else◌, drop, slice_get}
 use Rattle.channel_core.specs.declared.state.Group.{Group}
 use Rattle.channel_core.specs.declared.state.Group.TheVariants.{Sends, Receives, Streams, Closeds}
-use Rattle.channel_model.specs.declared.step.Kind.{Kind}
 use Rattle.channel_model.specs.declared.step.Who.{Who}
 use Rattle.channel_model.specs.declared.step.Who.TheVariants.{Op, Receiver}
-use Rattle.channel_model.specs.declared.step.Notice.{Notice}
-use Rattle.channel_model.specs.declared.step.Notice.TheVariants.{Absent}
 use Rattle.channel_model.specs.declared.step.Side.{Side}
 use Rattle.channel_model.specs.declared.step.Side.TheVariants.{Receiver}
 use Rattle.channel_model.specs.declared.step.Refusal.{Refusal}
@@ -16,21 +12,18 @@ use Rattle.channel_model.specs.declared.step.Refusal.TheVariants.{OutOfMemory}
 use Rattle.channel_model.specs.declared.step.Step.{Step}
 use Rattle.channel_model.specs.declared.step.Step.TheVariants.{Capacity, Close, DropReceiver, DropSender, IsClosed, IsEmpty, IsFull, IsTerminated, Len, Poll, PollNext, ReceiverCount, SenderCount}
 use Rattle.channel_model.specs.declared.step.Reply.{Reply}
-use Rattle.channel_model.specs.declared.step.Reply.TheVariants.{SendPolled, RecvPolled, ClosedPolled, NextPolled, Refused}
-use Rattle.channel_model.specs.Past.{Past}
-use Rattle.channel_model.specs.Handles.{receivers_after, senders_after, weak_receivers_after, weak_senders_after}
-use Rattle.channel_model.specs.Operations.{Operation, awaiting_close, operation_in, receiving, sending, operations_after}
-use Rattle.channel_model.specs.Messages.{taken_by, with_last, accepted_by}
+use Rattle.channel_model.specs.declared.step.Reply.TheVariants.{Refused}
+use Rattle.channel_model.specs.Handles.{names_after, Receivers, Senders, WeakReceivers, WeakSenders}
+use Rattle.channel_model.specs.Operations.{operations_after}
+use Rattle.channel_model.specs.Messages.{taken_by, with_last, accepted_by, message_in}
 use Rattle.channel_model.specs.Closing.{closed_after}
 use Rattle.channel_model.specs.Replies.{is_pending, reply_in}
-use Rattle.channel_model.specs.Rosters.{Roster, Rosters, notice_in}
+use Rattle.channel_model.specs.Rosters.{Roster, Rosters}
 use Rattle.channel_model.specs.Notices.{after_ending, after_messages}
-use Rattle.channel_model.specs.Polling.{IsQuiet, told_polls}
-use Rattle.channel_model.specs.Answers.{IsAnswer, message_in, past_after}
+use Rattle.channel_model.specs.Polling.{IsQuiet, poll_of, told_polls}
 use Rattle.channel_model.specs.View.{View, AreAlike}
 use Rattle.channel_model.specs.Memory.{may_want_memory_in, polls_newcomer}
 use Rattle.channel_model.specs.Refusals.{refusal_in}
-use Rattle.channel_run.specs.StandsFor.{StandsFor}
 
 -- ---- what it shows after a step with this reply
 
@@ -53,8 +46,8 @@ may_close step = false
 abbrev pub closed_in : {T : Type 0} → View T → Step T → Reply T → Bool
 closed_in run step reply =
     if may_close step
-    then closed_after run.closed step (senders_after step reply run.senders)
-    (receivers_after step reply run.receivers)
+    then closed_after run.closed step (names_after Senders step reply run.senders)
+    (names_after Receivers step reply run.receivers)
     else run.closed
 
 -- whom the end of the channel, or of the last receiver, tells
@@ -62,7 +55,7 @@ abbrev pub ending_in : {T : Type 0} → View T → Step T → Reply T → Roster
 ending_in run step reply all =
     if may_close step
     then after_ending run.closed (closed_in run step reply) run.receivers
-    (receivers_after step reply run.receivers) all
+    (names_after Receivers step reply run.receivers) all
     else all
 
 abbrev pub rosters_after : {T : Type 0} → View T → Step T → Reply T → Rosters
@@ -74,10 +67,10 @@ after_step run step reply = record {
   capacity = run.capacity;
   messages = messages_after run step reply;
   closed = closed_in run step reply;
-  senders = senders_after step reply run.senders;
-  receivers = receivers_after step reply run.receivers;
-  weak_senders = weak_senders_after step reply run.weak_senders;
-  weak_receivers = weak_receivers_after step reply run.weak_receivers;
+  senders = names_after Senders step reply run.senders;
+  receivers = names_after Receivers step reply run.receivers;
+  weak_senders = names_after WeakSenders step reply run.weak_senders;
+  weak_receivers = names_after WeakReceivers step reply run.weak_receivers;
   operations = operations_after step reply run.operations;
   rosters = rosters_after run step reply;
 }
@@ -126,24 +119,11 @@ StepsAsAllowed before step reply after =
     ⊎ ((polls_newcomer before step ≡ true) × (is_pending (reply_in before step) ≡ true)
     × IsRefused before step OutOfMemory reply after)
 
--- the poll of somebody who may wait
-abbrev pub poll_of : {T : Type 0} → Who → Step T
-poll_of (Op op) = Poll op
-poll_of (Receiver receiver) = PollNext receiver
-
 -- What a run does when it polls somebody who was told. No refusal guards it.
 abbrev pub PollsTo : {T : Type 0} → View T → Who → Reply T → View T → Type 0
 PollsTo before (Op op) reply after = StepsTo before (Poll op) reply after
 PollsTo before (Receiver receiver) reply after =
     StepsAsAllowed before (PollNext receiver) reply after
-
--- a poll that was answered ready
-abbrev pub is_ready : {T : Type 0} → Reply T → Bool
-is_ready (SendPolled (Ready result)) = true
-is_ready (RecvPolled (Ready result)) = true
-is_ready (ClosedPolled (Ready done)) = true
-is_ready (NextPolled (Ready item)) = true
-is_ready reply = false
 
 -- the roster of a group
 abbrev pub roster_in : Group → Rosters → Roster
@@ -157,23 +137,3 @@ abbrev pub IsNext : {T : Type 0} → View T → Option Who → Type 0
 IsNext {T} run next =
     MatchOption next (IsQuiet run.rosters)
     (λ who. slice_get (told_polls {T = T} run.rosters) 0 ≡ Some (poll_of who))
-
--- What a run promises of a step, after a past that stands for it: the reply is an answer, and the
--- past after it stands for the run after it.
-pub record Answers {T : Type 0} (kind : Kind) (past : Past T) (step : Step T) (reply : Reply T)
-    (after : View T) : Type 0 where
-  pub answer : IsAnswer kind past step reply
-  pub stands : StandsFor kind (past_after past step reply) after
-
--- ---- its notices
-
--- an operation waits in the roster of its kind, if anywhere
-abbrev pub notice_of_operation : {T : Type 0} → Rosters → ℕ → Option (Operation T) → Notice
-notice_of_operation all op None = Absent
-notice_of_operation all op (Some (sending sender message)) = notice_in op all.sends
-notice_of_operation all op (Some (receiving receiver)) = notice_in op all.receives
-notice_of_operation all op (Some (awaiting_close sender)) = notice_in op all.closeds
-
-abbrev pub notice_shown : {T : Type 0} → View T → Who → Notice
-notice_shown run (Op op) = notice_of_operation run.rosters op (operation_in run.operations op)
-notice_shown run (Receiver receiver) = notice_in receiver run.rosters.streams

@@ -24,8 +24,7 @@ pub record ComesTo {T : Type 0} (kind : Kind) (steps : List (Step T)) (replies :
 -- There are polls after this past that settled the channel, in this number, with these ones ready,
 -- and the past that is longer by them stands for the run now.
 pub record SettlesTo {T : Type 0} (kind : Kind) (past : Past T) (count : ℕ)
-    (finished : List (Who × Reply T))
-    (run : View T) : Type 0 where
+    (finished : List (Who × Reply T)) (run : View T) : Type 0 where
   pub polls : Past T
   pub settles : Settles kind past polls count finished
   pub stands : StandsFor kind (polls ++ past) run

@@ -3,7 +3,7 @@ ghost use Rattle.std.specs.Prelude.{◌≡◌, ℕ, [], length, true, suc, None,
 ghost use Rattle.std.specs.List.{list_any};
 ghost use Rattle.std.specs.BTreeMap.{values};
 ghost use Rattle.std.specs.Map.{keys_of};
-ghost use Rattle.event_list.specs.Keys.{AreDifferent};
+ghost use Rattle.identity.specs.Keys.{AreDifferent};
 ghost use Rattle.channel_model.specs.Operations.{borrows_receiver, borrows_sender, unsent_message};
 ghost use Rattle.channel_run.specs.RunShown.{entry_at, has_key, number_at, one_if, operation_shown, ticket_in, AreCounted, Changed};
 
@@ -169,7 +169,7 @@ impl<T> Operations<T> {
         ensures counted { AreCounted self.new.by_sender self.new.by_receiver
             self.new.by_name.entries }
     {
-        // its contract says that the names are different
+        // proof: the call promises that the names are different
         let _count = self.by_name.len();
         let operation = self.by_name.remove(&op)?;
         self.discount(&operation);
@@ -189,7 +189,7 @@ impl<T> Operations<T> {
         ensures kept { self.new.by_name ≡ self.old.by_name }
         ensures unchanged { OnErr result (self.new ≡ self.old) }
     {
-        // no count is above the number of operations, so it can be raised
+        // proof: no count is above the number of operations, so that it can be raised
         let _count = self.by_name.len();
         match operation {
             Operation::Send { sender, .. } => self.by_sender.raise(*sender),

@@ -17,7 +17,7 @@
 //! poll next is to take the first told key of a list, and to look for the ticket that has it. A
 //! settling that takes a second poll notes who holds which ticket, and looks for no further one.
 ghost use Rattle.std.specs.Prelude.{◌≡◌, [], length, IfOk, IfErr};
-ghost use Rattle.event_list.specs.Keys.{is_among};
+ghost use Rattle.identity.specs.Keys.{is_among};
 ghost use Rattle.channel_model.specs.declared.step.Kind.{Kind};
 ghost use Rattle.channel_model.specs.Past.{Past};
 ghost use Rattle.channel_model.specs.Capacity.{HasPositiveCapacity};

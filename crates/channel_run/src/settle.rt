@@ -3,9 +3,9 @@ ghost use Rattle.std.specs.Prelude.{◌≡◌, ◌+◌, ◌≤◌, ◌++◌, ◌
 ghost use Rattle.std.specs.Vec.{vec_len, vec_capacity};
 ghost use Rattle.channel_model.specs.declared.step.Kind.{Kind};
 ghost use Rattle.channel_model.specs.Past.{Past};
+ghost use Rattle.channel_model.specs.Replies.{is_ready};
 ghost use Rattle.channel_run.specs.StandsFor.{StandsFor};
 ghost use Rattle.channel_run.specs.Runs.{SettlesTo};
-ghost use Rattle.channel_run.specs.RunSteps.{is_ready};
 
 use crate::run::Run;
 use channel_model::{OutOfMemory, Reply, Who};
@@ -90,23 +90,10 @@ fn keep_ready<T: Drop>(finished: &mut Vec<(Who, Reply<T>)>, who: Who, reply: Rep
         ≡ vec_len finished.old + (if is_ready reply then 1 else 0) }
     ensures room { vec_capacity finished.old ≤ vec_capacity finished.new }
 {
-    if is_ready(&reply) {
+    if reply.is_ready() {
         match finished.push((who, reply)) {
             Ok(()) => {}
             Err(_) => unreachable!(),
         }
-    }
-}
-
-// Whether a poll was answered ready.
-fn is_ready<T>(reply: &Reply<T>) -> bool
-    ensures { result ≡ is_ready reply.now }
-{
-    match reply {
-        Reply::SendPolled(poll) => poll.is_ready(),
-        Reply::RecvPolled(poll) => poll.is_ready(),
-        Reply::ClosedPolled(poll) => poll.is_ready(),
-        Reply::NextPolled(poll) => poll.is_ready(),
-        _ => false,
     }
 }

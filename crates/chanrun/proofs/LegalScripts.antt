@@ -1,16 +1,12 @@
 -- Behind every list of commands stands a past that can come about.
-use Rattle.std.proofs.Common.{◌≡◌, ℕ, List, [], ◌∷◌, ◌++◌, length, slice_get, Option, Some, None, MatchOption, inl, refl, sym, subst, arith}
-use Rattle.std.specs.Prelude.{◌⊎◌, Contains}
+use Rattle.std.proofs.Common.{◌≡◌, ℕ, List, [], ◌∷◌, ◌++◌, length, slice_get, Option, Some, None, inl, refl, sym, subst, arith}
+use Rattle.std.specs.Prelude.{Contains}
 use Rattle.channel_model.specs.declared.step.Kind.{Kind}
-use Rattle.channel_model.specs.declared.step.Refusal.{Refusal}
 use Rattle.channel_model.specs.declared.step.Reply.{Reply}
-use Rattle.channel_model.specs.declared.step.Reply.TheVariants.{Refused}
 use Rattle.channel_model.specs.declared.step.Step.{Step}
 use Rattle.channel_model.specs.Past.{Past}
-use Rattle.channel_model.specs.Refusals.{refusal_of}
-use Rattle.channel_model.specs.Replies.{due_reply}
 use Rattle.channel_model.specs.Notices.{rosters}
-use Rattle.channel_model.specs.Answers.{AreAnswers, IsAnswer, answer_of, message_in, past_after, refused_or}
+use Rattle.channel_model.specs.Answers.{AreAnswers, IsAnswer, answer_of, past_after}
 use Rattle.channel_model.specs.Legal.{IsLegal}
 use Rattle.channel_model.specs.Polling.{EndsWell, IsFreePolling, IsSettling, Settles, finished_polls, settling_polls, told_polls}
 use Rattle.chanrun.specs.declared.grammar.command.Command.{Command}
@@ -31,13 +27,8 @@ abbrev pub CanBeSettled : Type 0
 CanBeSettled =
     (kind : Kind) (past : Past ℕ) → IsLegal kind past → (polls : Past ℕ) × Settles kind past polls (length polls) (finished_polls polls)
 
-answer_by : (refusal : Option Refusal) (step : Step ℕ) (due : Reply ℕ) (Wanted : Type 0)
-    → MatchOption refusal ((refused_or refusal step due ≡ due) ⊎ Wanted) (λ other. refused_or refusal step due ≡ Refused other (message_in step))
-answer_by None step due Wanted = inl refl
-answer_by (Some refusal) step due Wanted = refl
-
 answer-IsAnswer : (kind : Kind) (past : Past ℕ) (step : Step ℕ) → IsAnswer kind past step (answer_of kind past step)
-answer-IsAnswer kind past step = answer_by (refusal_of kind past step) step (due_reply kind past step) _
+answer-IsAnswer kind past step = inl refl
 
 legal-step : AnswersMakeLegalPasts → (kind : Kind) (past : Past ℕ) (step : Step ℕ) → IsLegal kind past
     → IsLegal kind (past_after past step (answer_of kind past step))

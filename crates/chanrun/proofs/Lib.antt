@@ -3,6 +3,5 @@ pub mod Lines
 pub mod Words
 pub mod Known
 pub mod SettlingPolls
-pub mod TextsOfLines
 pub mod LinesDone
 pub mod LegalScripts

@@ -3,5 +3,7 @@ pub mod Grammar
 pub mod Digits
 pub mod Texts
 pub mod Script
+pub mod Parsed
+pub mod Replayed
 pub mod Outcome
 pub mod Stages

@@ -14,5 +14,5 @@ mod word;
 
 pub use command::Command;
 pub use fault::Fault;
-pub use line::{LINE_LIMIT, command_of, kind_of, split_line};
+pub use line::{LINE_LIMIT, command_of, kind_of, lines_of, split_line};
 pub use word::{CAPACITY_LIMIT, who_of};

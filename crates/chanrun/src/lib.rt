@@ -1,5 +1,4 @@
-//! Scripts: lines that name steps on a channel, read as bytes, and the replies to them, written as
-//! bytes.
+//! Scripts, from bytes to bytes: lines that name steps on a channel, and the replies to them.
 //!
 //! ```text
 //! bounded 1
@@ -17,6 +16,10 @@
 pub mod device;
 pub mod grammar;
 pub mod laws;
+pub mod parse;
 pub mod program;
+pub mod replay;
 pub mod reply_text;
 pub mod script;
+pub mod standard;
+pub mod tell;

@@ -4,34 +4,21 @@ ghost use Rattle.chanrun.specs.declared.grammar.fault.Fault.{Fault};
 ghost use Rattle.chanrun.specs.Outcome.{IsDone, status_of};
 
 use crate::device::{Sink, Source};
-use crate::script::{ScriptError, run_script, write_text};
+use crate::script::{ScriptError, run_script};
+use crate::standard::Program;
+use crate::tell::tell;
 use std::alloc::Global;
-use std::fmt;
-use std::fmt::Write;
 
-// A sink to which text is written.
-struct Page<'a, S> {
-    sink: &'a mut S,
-}
-
-impl<S: Sink> fmt::Write for Page<'_, S> {
-    fn write_str(&mut self, text: &str) -> fmt::Result {
-        match write_text(&mut *self.sink, text.as_bytes()) {
-            Ok(()) => Ok(()),
-            Err(_) => Err(fmt::Error),
-        }
-    }
-}
-
-// Writes a line, as far as the sink takes it.
-fn tell<S: Sink, D: fmt::Display + Drop>(sink: &mut S, text: D) {
-    let mut page = Page { sink };
-    let _ = writeln!(page, "{text}");
-    let Page { sink: _ } = page;
-}
-
-// The status for the end of a script that wasn't done whole.
-fn status_of(error: &ScriptError) -> u8
+/// The status for the end of a script that wasn't done whole.
+///
+/// # Examples
+///
+/// ```
+/// assert_eq!(rt; status_of(&ScriptError::Read), 1);
+/// let fault = ScriptError::Fault { line: 3, fault: Fault::BadName };
+/// assert_eq!(rt; status_of(&fault), 2);
+/// ```
+pub fn status_of(error: &ScriptError) -> u8
     ensures { result ≡ status_of error.now }
 {
     match error {
@@ -96,5 +83,33 @@ pub fn program<R: Source, W: Sink, E: Sink>(
             tell(errors, "chanrun takes no arguments");
             2
         }
+    }
+}
+
+/// Runs a script that is read from standard input, and prints the replies.
+///
+/// # Examples
+///
+/// ```
+/// let written = Vec::new(rt.alloc());
+/// let said = Vec::new(rt.alloc());
+/// let script = b"unbounded\nlen t0\n".as_slice();
+/// let ended = run_buffered(rt.alloc(), Chanrun, Some(&[]), script, written, said);
+/// assert_eq!(rt; ended, Ok(2));
+/// ```
+#[derive(Clone, Copy)]
+pub struct Chanrun;
+
+impl Program for Chanrun {
+    fn run<R: Source, W: Sink, E: Sink>(
+        self,
+        alloc: Global,
+        arguments: Option<&[String]>,
+        reader: &mut R,
+        writer: &mut W,
+        errors: &mut E,
+    ) -> u8 {
+        let count = arguments.map(|words| words.len());
+        program(alloc, count, reader, writer, errors)
     }
 }

@@ -2,37 +2,32 @@
 //!
 //! 1. `read_script` reads block by block, up to one byte more than a script may have. So a read
 //!    that fails, and a script that is too long, are found before anything is written.
-//! 2. `answer` splits the first line off, and `answer_others` makes a run of the channel that it
-//!    asks for.
-//! 3. `answer_lines` splits the others off one by one and numbers them. Of each, `answer_line`
-//!    finds the command or the fault, `answer_command` makes the step on the run and the text of
-//!    its reply, and `write_text` writes it before the next line is looked at.
-//! 4. The first fault ends the script, and so do a write that fails and memory that is refused.
-//!    What was written until then is the replies to the lines before, or a beginning of them.
+//! 2. The lines are read, up to the first faulty one (`parse`).
+//! 3. Each line is done on a run of the channel that the first one asks for (`replay`), and what
+//!    answers it is written before the next line is done.
+//! 4. The fault ends the script, and so do a write that fails and memory that is refused. What was
+//!    written until then is the replies to the lines before, or a beginning of them.
 //!
-//! Of the lines that are done nothing is kept but the run. All that the proofs say of it is that
-//! the past of those lines stands for it, so that the text of each reply is the one that the past
-//! decides.
-ghost use Rattle.std.specs.Prelude.{◌≡◌, ℕ, ◌+◌, ◌<◌, ◌≤◌, ◌∷◌, [], ◌++◌, ◌⊎◌, List, Option, length, string_bytes, IfOk, IfErr, OnOk, IfSome, IsErrOf, true};
-ghost use Rattle.std.specs.Io.KnownBytes.{Consumes, IsAtEnd, Appends};
+//! All that the proofs say of the run is that the past of the lines done so far stands for it, so
+//! that the text of each reply is the one that the past decides.
+ghost use Rattle.std.specs.Prelude.{◌≡◌, ℕ, ◌+◌, ◌≤◌, [], ◌++◌, ◌⊎◌, List, None, Some, Err, length, map, flat_map, IfOk, IfErr, OnOk, IfSome, IsErrOf};
+ghost use Rattle.std.specs.Io.KnownBytes.{Consumes, Appends};
 ghost use Rattle.channel_model.specs.declared.step.Kind.{Kind};
 ghost use Rattle.channel_model.specs.Past.{Past};
-ghost use Rattle.channel_model.specs.Capacity.{HasPositiveCapacity};
 ghost use Rattle.channel_run.specs.StandsFor.{StandsFor};
 ghost use Rattle.chanrun.specs.Device.{one_more, AppendsFront};
-ghost use Rattle.chanrun.specs.Grammar.{lines_of, command_of};
-ghost use Rattle.chanrun.specs.Script.{as_line, command_text, past_after_command, settled_line, finished_line, settled_text, fault_from, texts_after, commands_of, script_text, script_fault};
-ghost use Rattle.chanrun.specs.Texts.{reply_text};
+ghost use Rattle.chanrun.specs.Script.{as_line, command_text, past_after_command, texts_after, script_text, script_fault};
 ghost use Rattle.chanrun.specs.Outcome.{HasRead, IsDone, IsBegun, ending};
+ghost use Rattle.chanrun.specs.Replayed.{text_line};
 ghost use Rattle.chanrun.specs.Stages.{IsUnread, IsAnswered};
-ghost use Rattle.chanrun.specs.declared.grammar.command.Command.{Command};
 ghost use Rattle.chanrun.specs.declared.script.ScriptError.TheVariants.{OutOfMemory};
 
 use crate::device::{Sink, Source};
-use crate::grammar::{Command, Fault, command_of, kind_of, split_line};
-use crate::reply_text::{NoticeText, ReplyText, WhoText};
-use channel_model::{Kind, OutOfMemory, Reply, Who};
-use channel_run::{Run, Settled};
+use crate::grammar::{Command, Fault};
+use crate::parse::{Line, Script, script_of};
+use crate::replay::{answer_to, texts_of};
+use channel_model::OutOfMemory;
+use channel_run::Run;
 use std::alloc::{AllocError, Global};
 use std::error::Error;
 use std::fmt;
@@ -171,33 +166,24 @@ pub fn write_text<W: Sink>(writer: &mut W, text: &[u8]) -> Result<(), ScriptErro
     Ok(())
 }
 
-// The line that says how many polls settling made, and how many of them were ready.
-fn settled_line(alloc: Global, polls: u128, finished: usize) -> Result<String, AllocError>
-    ensures { IfOk result (λ line. string_bytes line ≡ settled_line polls finished) }
+// Adds a text as a line.
+fn add_line(page: &mut Vec<u8>, text: &str) -> Result<(), AllocError>
+    ensures { OnOk result (page.new.items ≡ page.old.items ++ as_line text.now) }
 {
-    format!(in alloc; "settled {polls} {finished}\n")
+    page.extend_from_slice(text.as_bytes())?;
+    page.push(b'\n')?;
+    Ok(())
 }
 
-// The line for a poll that was ready.
-fn finished_line(alloc: Global, who: Who, reply: Reply<u64>) -> Result<String, AllocError>
-    ensures { IfOk result (λ line. string_bytes line ≡ finished_line (who, reply)) }
+// Texts, each as a line.
+fn page_of(alloc: Global, texts: &[String]) -> Result<Vec<u8>, AllocError>
+    ensures { IfOk result (λ page. page.items ≡ flat_map text_line texts.now) }
 {
-    let who = WhoText(who);
-    let reply = ReplyText(reply);
-    format!(in alloc; "{who} {reply}\n")
-}
-
-// The lines for what settling came to.
-fn settled_text(alloc: Global, settled: Settled<u64>) -> Result<String, AllocError>
-    ensures { IfOk result (λ text. string_bytes text
-        ≡ settled_text settled.polls settled.finished.items) }
-{
-    let mut text = settled_line(alloc, settled.polls, settled.finished.len())?;
-    for (who, reply) in settled.finished {
-        let line = finished_line(alloc, who, reply)?;
-        text.push_str(line.as_str())?;
+    let mut page = Vec::new(alloc);
+    for text in texts {
+        add_line(&mut page, text.as_str())?;
     }
-    Ok(text)
+    Ok(page)
 }
 
 // Does a command, after any past that stands for the run. The text is what answers it.
@@ -205,123 +191,89 @@ fn answer_command(
     alloc: Global,
     run: &mut Run<u64>,
     command: Command,
-) -> Result<String, ScriptError>
+) -> Result<Vec<u8>, ScriptError>
     ensures ok { (kind : Kind) (past : Past ℕ) → StandsFor kind past run.old → IfOk result (λ text.
-        (string_bytes text ≡ command_text kind past command)
+        (text.items ≡ command_text kind past command)
         × StandsFor kind (past_after_command kind past command) run.new) }
     ensures err { IfErr result (λ e. e ≡ ScriptError.OutOfMemory) }
 {
-    match command {
-        Command::Make(step) => {
-            let reply = run.step(step);
-            if reply.wants_memory() {
-                return Err(ScriptError::OutOfMemory);
-            }
-            Ok(format!(in alloc; "{}\n", ReplyText(reply))?)
-        }
-        Command::Notice(who) => {
-            let notice = NoticeText(run.notice_of(who));
-            Ok(format!(in alloc; "{notice}\n")?)
-        }
-        Command::Settle => Ok(settled_text(alloc, run.settle()?)?),
-    }
+    let answer = answer_to(run, command)?;
+    let texts = texts_of(alloc, answer)?;
+    Ok(page_of(alloc, texts.as_slice())?)
 }
 
-// Does one line after the first one, and writes what answers it.
-fn answer_line<W: Sink>(
+// Does a command, and writes what answers it.
+fn write_answer<W: Sink>(
     alloc: Global,
     run: &mut Run<u64>,
-    number: u64,
-    line: &[u8],
+    command: Command,
     writer: &mut W,
 ) -> Result<(), ScriptError>
-    ensures ok { (kind : Kind) (past : Past ℕ) → StandsFor kind past run.old
-        → OnOk result ((command : Command) × (command_of line.now ≡ Ok command)
-        × StandsFor kind (past_after_command kind past command) run.new
+    ensures ok { (kind : Kind) (past : Past ℕ) → StandsFor kind past run.old → OnOk result
+        (StandsFor kind (past_after_command kind past command) run.new
         × Appends (W.written writer.old) (W.written writer.new) (command_text kind past command)
         × (W.failures writer.new ≡ W.failures writer.old)) }
-    ensures err { (kind : Kind) (past : Past ℕ) (others : List (List ℕ))
-        → StandsFor kind past run.old → IfErr result (λ e. IsAnswered
-        (fault_from number (line.now ∷ others))
-        (texts_after kind past (commands_of (line.now ∷ others))) (Err e)
+    ensures err { (kind : Kind) (past : Past ℕ) → StandsFor kind past run.old
+        → IfErr result (λ e. IsAnswered None (command_text kind past command) (Err e)
         (W.written writer.old) (W.written writer.new)
         (W.failures writer.old) (W.failures writer.new)) }
 {
-    let command = match command_of(alloc, line)? {
-        Ok(command) => command,
-        Err(fault) => {
-            return Err(ScriptError::Fault {
-                line: number,
-                fault,
-            });
-        }
-    };
     let text = answer_command(alloc, run, command)?;
-    write_text(writer, text.as_bytes())
+    write_text(writer, text.as_slice())
 }
 
-// Does the lines after the first one in order, on a run on which no step was made, up to the first
-// faulty one.
-fn answer_lines<W: Sink>(
+// Does the lines after the first one in order, on a run on which no step was made.
+fn write_answers<W: Sink>(
     alloc: Global,
     run: &mut Run<u64>,
-    lines: &[u8],
+    lines: &[Line],
     writer: &mut W,
 ) -> Result<(), ScriptError>
-    requires { length lines.now ≤ SCRIPT_LIMIT }
-    ensures { (kind : Kind) → StandsFor kind [] run.old → IsAnswered
-        (fault_from 2 (lines_of lines.now))
-        (texts_after kind [] (commands_of (lines_of lines.now))) result
+    ensures { (kind : Kind) → StandsFor kind [] run.old → IsAnswered None
+        (texts_after kind [] (map (λ line. line.command) lines.now)) result
         (W.written writer.old) (W.written writer.new)
         (W.failures writer.old) (W.failures writer.new) }
 {
-    let mut rest = lines;
-    let mut number: u64 = 1;
-    while !rest.is_empty() {
-        let (line, others) = split_line(rest);
-        number += 1;
-        answer_line(alloc, run, number, line, writer)?;
-        rest = others;
+    for line in lines {
+        write_answer(alloc, run, line.command, writer)?;
     }
     Ok(())
 }
 
-// Makes a channel of this kind, and does the lines after the first one on it.
-fn answer_others<W: Sink>(
-    alloc: Global,
-    kind: Kind,
-    lines: &[u8],
-    writer: &mut W,
-) -> Result<(), ScriptError>
-    requires positive { HasPositiveCapacity kind }
-    requires short { length lines.now ≤ SCRIPT_LIMIT }
-    ensures { IsAnswered (fault_from 2 (lines_of lines.now))
-        (texts_after kind [] (commands_of (lines_of lines.now))) result
+// Makes the channel of a script, and does its lines on it.
+fn answer_lines<W: Sink>(alloc: Global, script: &Script, writer: &mut W) -> Result<(), ScriptError>
+    ensures { IsAnswered None
+        (texts_after script.now.kind [] (map (λ line. line.command) script.now.lines.items)) result
         (W.written writer.old) (W.written writer.new)
         (W.failures writer.old) (W.failures writer.new) }
 {
-    let mut run = Run::new(alloc, kind)?;
-    answer_lines(alloc, &mut run, lines, writer)
+    let mut run = Run::new(alloc, script.kind)?;
+    write_answers(alloc, &mut run, script.lines.as_slice(), writer)
 }
 
-// Makes the channel that the first line asks for, and does the other lines in order, up to the
-// first faulty one.
+// The end of a script with this fault, if it has one.
+fn ended(fault: Option<(u64, Fault)>) -> Result<(), ScriptError>
+    ensures { ending result ≡ Some fault }
+{
+    match fault {
+        Some((line, fault)) => Err(ScriptError::Fault { line, fault }),
+        None => Ok(()),
+    }
+}
+
+// Does the lines of a script in order, up to the first faulty one.
 fn answer<W: Sink>(alloc: Global, input: &[u8], writer: &mut W) -> Result<(), ScriptError>
     requires { length input.now ≤ SCRIPT_LIMIT }
     ensures { IsAnswered (script_fault input.now) (script_text input.now) result
         (W.written writer.old) (W.written writer.new)
         (W.failures writer.old) (W.failures writer.new) }
 {
-    if input.is_empty() {
-        return Err(ScriptError::Fault {
-            line: 1,
-            fault: Fault::ChannelMissing,
-        });
-    }
-    let (first, others) = split_line(input);
-    match kind_of(alloc, first)? {
-        Ok(kind) => answer_others(alloc, kind, others, writer),
-        Err(fault) => Err(ScriptError::Fault { line: 1, fault }),
+    match script_of(alloc, input)? {
+        Ok(script) => {
+            answer_lines(alloc, &script, writer)?;
+            ended(script.fault)
+        }
+        Err(fault) => ended(Some((1, fault))),
     }
 }
 

@@ -3,24 +3,26 @@ use Rattle.std.proofs.Common.{◌≡◌, ℕ, ◌+◌, ◌-◌, ◌<◌, ◌==�
 use Rattle.std.specs.Option.{option_map, option_and_then}
 use Rattle.std.proofs.lemmas.List.{length-map, length-append}
 use Rattle.slab.specs.Slab.{Slab, get, slab_len}
-use Rattle.event_list.specs.Keys.{is_among, AreDifferent}
-use Rattle.event_list.specs.Waiting.{Waiting, LosesOne, IsWaiting, keys, untold_keys, told_flag, joined, without, renewed, told_one, payloads, RingsEach}
-use Rattle.event_list.specs.Entries.{with_notice, is_told, payload_at, Rewrites}
+use Rattle.identity.specs.Keys.{is_among, AreDifferent}
+use Rattle.event_list.specs.Waiting.{Waiting, LosesOne, IsWaiting, keys, untold_keys, is_told, payload_of, told_flag, payload_in, joined, without, renewed, told_one, payloads, RingsEach}
+use Rattle.event_list.specs.Entries.{with_notice, payload_at, Rewrites}
 use Rattle.event_list.specs.Chain.{first_key, IsChain, untold_item, items, shown, IsLinked, Keeps}
 use Rattle.event_list.specs.declared.entries.Entry.{Entry}
 use Rattle.event_list.specs.declared.ends.Ends.{Ends}
 use Rattle.event_list.specs.declared.entries.EntryState.{EntryState}
 use Rattle.event_list.specs.declared.entries.EntryState.TheVariants.{Told, Untold}
-use Rattle.event_list.proofs.Splits.{without_told, without_untold, without_absent, renewed_absent, loses_one, joined_waits, renewed_waits}
+use Rattle.event_list.proofs.Splits.{payload_told, without_told, without_untold, without_absent, renewed_absent, loses_one, joined_waits, renewed_waits}
 use Rattle.event_list.proofs.ChainLemmas.{Keeps-shown}
-use Rattle.event_list.proofs.KeptEntries.{mark_is, told_entry, untold_entry, told_from_flag, untold_from_flag}
+use Rattle.event_list.proofs.KeptEntries.{mark_is, payload_is, told_entry, untold_entry, told_from_flag, untold_from_flag}
 use Rattle.event_list.proofs.Writes.{linked_renewed, FirstUntold, first_untold, linked_told_one}
 
--- a fact of the value, where there is one
-pub there : {result : Option Bool} {P : Type 0} → result ≡ Some true → OnSome result P → P
-there {P = P} is holds = subst (λ r. OnSome r P) is holds
-
 module _ {W : Type 0} where
+  -- a fact of the entry that left, where one did
+  pub there : (result : Option (EntryState W)) {told : Bool} {P : Type 0} → option_map is_told result ≡ Some told
+      → OnSome result P → P
+  there None is holds = absurd (cc)
+  there (Some state) is holds = holds
+
   -- what the fields keep while the value is seen as this list
   pub opened : {slab : Slab (Entry W)} {ends : Ends} {len told : ℕ} {list : Waiting W}
       → Keeps slab ends len told (shown slab ends len told) → shown slab ends len told ≡ list
@@ -48,6 +50,22 @@ module _ {W : Type 0} where
       → result ≡ told_flag list name
   marked {slab} {ends} {key = key} {list = list} keeps same is = is ∙ mark_is slab ends list key keeps.links
       ∙ ap (told_flag list) same
+
+  -- a told entry has no payload, as the list says
+  pub no_payload : {slab : Slab (Entry W)} {ends : Ends} {len told key name : ℕ} {list : Waiting W}
+      → Keeps slab ends len told list → key ≡ name → told_flag list key ≡ Some true
+      → None ≡ payload_in name list.untold
+  no_payload {key = key} {list = list} keeps same is =
+      sym (payload_told list key keeps.links.different (told_from_flag list key is))
+      ∙ ap (λ k. payload_in k list.untold) same
+
+  -- the payload that an entry had is the list's
+  pub had : {slab : Slab (Entry W)} {ends : Ends} {len told key name : ℕ} {list : Waiting W} {result : Option W}
+      → Keeps slab ends len told list → key ≡ name
+      → result ≡ option_and_then (λ entry. payload_of entry.notice) (get slab key)
+      → result ≡ payload_in name list.untold
+  had {slab} {ends} {key = key} {list = list} keeps same is = is ∙ payload_is slab ends list key keeps.links
+      ∙ ap (λ k. payload_in k list.untold) same
 
   chain_same : (old new : Slab (Entry W)) (before behind : Option ℕ) (xs : List (ℕ × EntryState W))
       → ((key : ℕ) → get new key ≡ get old key) → IsChain old before xs behind → IsChain new before xs behind

@@ -1,18 +1,17 @@
 -- What the slab says of a key, by the list that the entries keep: its entry, between its neighbours.
-use Rattle.std.proofs.Common.{◌≡◌, ℕ, Bool, true, false, cond, List, ◌∷◌, ◌++◌, map, Some, None, refl, sym, ap, ◌∙◌, subst, inl, inr}
-use Rattle.std.specs.Option.{option_map}
+use Rattle.std.proofs.Common.{◌≡◌, ℕ, Bool, true, false, cond, List, ◌∷◌, ◌++◌, map, Option, Some, None, refl, sym, ap, ◌∙◌, subst, inl, inr}
+use Rattle.std.specs.Option.{option_map, option_and_then}
 use Rattle.std.proofs.lemmas.Bool.{cases_Bool}
 use Rattle.std.proofs.lemmas.List.{map-id, map-append, append_assoc}
 use Rattle.slab.specs.Slab.{Slab, get}
-use Rattle.event_list.specs.Keys.{is_among}
-use Rattle.event_list.specs.Waiting.{Waiting, untold_keys, told_flag}
-use Rattle.event_list.specs.Entries.{is_told}
+use Rattle.identity.specs.Keys.{is_among}
+use Rattle.event_list.specs.Waiting.{Waiting, untold_keys, is_told, payload_of, told_flag, payload_in}
 use Rattle.event_list.specs.Chain.{first_key, last_key, IsChain, told_item, untold_item, items, IsLinked}
 use Rattle.event_list.specs.declared.entries.Entry.{Entry}
 use Rattle.event_list.specs.declared.ends.Ends.{Ends}
 use Rattle.event_list.specs.declared.entries.EntryState.{EntryState}
 use Rattle.event_list.specs.declared.entries.EntryState.TheVariants.{Told, Untold}
-use Rattle.event_list.proofs.Splits.{absent_both, Midst, cut_at, ToldCut, UntoldCut}
+use Rattle.event_list.proofs.Splits.{absent_both, Midst, cut_at, ToldCut, UntoldCut, payload_none, payload_told, payload_cut}
 use Rattle.event_list.proofs.ChainLemmas.{chain_back}
 
 pub Midst-same : (key : ℕ) (xs ys us vs : List ℕ) → xs ≡ us → ys ≡ vs → Midst key us vs → Midst key xs ys
@@ -114,6 +113,23 @@ module _ {W : Type 0} where
               (untold_entry slab ends list key linked untold).entry)
           | inr absent ↦ rw (not_told, absent) (ap (option_map (λ (entry : Entry W). is_told entry.notice))
               (linked.only key (absent_both key list.told (untold_keys list) not_told absent)))
+        ]
+      ]
+
+  -- and the payload in its entry is the list's
+  pub payload_is : (slab : Slab (Entry W)) (ends : Ends) (list : Waiting W) (key : ℕ) → IsLinked slab ends list
+      → option_and_then (λ entry. payload_of entry.notice) (get slab key) ≡ payload_in key list.untold
+  payload_is slab ends list key linked =
+      let held : Option (Entry W) → Option W = option_and_then (λ (entry : Entry W). payload_of entry.notice) in
+      elim (cases_Bool (is_among key list.told)) [
+        | inl told ↦ ap held (told_entry slab ends list key linked told).entry
+            ∙ sym (payload_told list key linked.different told)
+        | inr not_told ↦ elim (cases_Bool (is_among key (untold_keys list))) [
+          | inl untold ↦
+              let at = untold_entry slab ends list key linked untold in
+              ap held at.entry ∙ sym (payload_cut list key at.payload at.front at.back at.cut)
+          | inr absent ↦ ap held (linked.only key (absent_both key list.told (untold_keys list) not_told absent))
+              ∙ sym (payload_none key list.untold absent)
         ]
       ]
 

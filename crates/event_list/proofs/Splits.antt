@@ -1,10 +1,10 @@
 -- Lists of keys, cut at one key: what is among them, and what is left without it.
-use Rattle.std.proofs.Common.{◌≡◌, ℕ, ◌==◌, true, false, not, cond, ◌||◌, List, [], ◌∷◌, ◌++◌, map, filter, length, Some, is_some, refl, sym, ap, ◌∙◌, arith, subst, inl, inr}
+use Rattle.std.proofs.Common.{◌≡◌, ℕ, ◌==◌, true, false, not, cond, ◌||◌, List, [], ◌∷◌, ◌++◌, map, filter, length, Some, None, is_some, refl, sym, ap, ◌∙◌, arith, subst, inl, inr}
 use Rattle.std.proofs.lemmas.Bool.{eqb-true, eqb-false, eq-eqb, ne_eqb, or_parts, or_from, or_right, or_cases, cases_Bool, both_ways}
 use Rattle.std.proofs.lemmas.List.{map-id, length-append, map-append, append_assoc, append-nil}
 use Rattle.std.proofs.lemmas.List.Folds.{list_any-append}
 use Rattle.std.proofs.lemmas.List.Elements.{filter-append}
-use Rattle.event_list.specs.Keys.{is_among, AreDifferent}
+use Rattle.identity.specs.Keys.{is_among, AreDifferent}
 use Rattle.event_list.specs.Waiting.{Waiting, LosesOne, IsWaiting, payload_in, keys, untold_keys, told_flag, joined, without, repaid, renewed}
 
 pub eqb_swap : (x y : ℕ) → (x == y) ≡ false → (y == x) ≡ false
@@ -310,6 +310,27 @@ module _ {W : Type 0} where
       let parts = or_parts (entry.0 == key) (is_among key (map (λ entry. entry.0) front)) h in
       ap (λ b. cond b (Some entry.1) (payload_in key (front ++ (key, payload) ∷ back))) parts.0
       ∙ payload_here key payload front back parts.1
+
+  -- no payload is there under a key that isn't untold
+  pub payload_none : (key : ℕ) (xs : List (ℕ × W)) → is_among key (map (λ entry. entry.0) xs) ≡ false
+      → payload_in key xs ≡ None
+  payload_none key [] h = refl
+  payload_none key (entry ∷ rest) h =
+      let parts = or_parts (entry.0 == key) (is_among key (map (λ entry. entry.0) rest)) h in
+      ap (λ b. cond b (Some entry.1) (payload_in key rest)) parts.0 ∙ payload_none key rest parts.1
+
+  -- so under a told one
+  pub payload_told : (list : Waiting W) (key : ℕ) → AreDifferent (keys list) → is_among key list.told ≡ true
+      → payload_in key list.untold ≡ None
+  payload_told list key different told =
+      payload_none key list.untold (apart list.told (untold_keys list) key different told)
+
+  -- an untold key's payload
+  pub payload_cut : (list : Waiting W) (key : ℕ) (payload : W) (front back : List (ℕ × W))
+      → UntoldCut list key payload front back → payload_in key list.untold ≡ Some payload
+  payload_cut list key payload front back cut = ap (payload_in key) cut.is_here
+      ∙ payload_here key payload front back (absent_right key list.told (map (λ entry. entry.0) front)
+      (untold_midst list key payload front back cut).not_before)
 
   waits_at : (list : Waiting W) (key : ℕ) (payload : W) (front back : List (ℕ × W))
       → list.untold ≡ front ++ (key, payload) ∷ back → is_among key list.told ≡ false

@@ -1,5 +1,5 @@
 -- What one call on the entries in the slab changes. No public clause cites this module.
-use Rattle.std.specs.Prelude.{◌≡◌, ◌≢◌, ◌==◌, ℕ, Bool, true, false, Option, Some, None, is_some, if◌then◌else◌}
+use Rattle.std.specs.Prelude.{◌≡◌, ◌≢◌, ◌==◌, ℕ, Bool, false, Option, Some, None, is_some, if◌then◌else◌}
 use Rattle.std.specs.Option.{option_map, option_or}
 use Rattle.slab.specs.Slab.{Slab, get, slab_len}
 use Rattle.event_list.specs.declared.entries.Entry.{Entry}
@@ -40,11 +40,6 @@ module _ {W : Type 0} where
   -- an entry with another notice
   abbrev pub with_notice : EntryState W → Entry W → Entry W
   with_notice notice entry = record entry { notice = notice }
-
-  -- whether an entry is told
-  abbrev pub is_told : EntryState W → Bool
-  is_told Told = true
-  is_told (Untold _) = false
 
   -- the payload of a notice, where it is untold, beside a key
   abbrev payload_beside : Option ℕ → EntryState W → Option (W × Option ℕ)

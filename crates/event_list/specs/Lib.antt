@@ -1,4 +1,3 @@
-pub mod Keys
 pub mod Waiting
 pub mod Opens
 pub mod Entries

@@ -1,6 +1,8 @@
 -- What a contract sees of a waiting list, and what each call makes of it.
 use Rattle.std.specs.Prelude.{◌≡◌, ℕ, ◌+◌, ◌==◌, Bool, true, false, not, if◌then◌else◌, List, [], ◌∷◌, ◌++◌, map, filter, length, take, Option, Some, None}
-use Rattle.event_list.specs.Keys.{is_among}
+use Rattle.identity.specs.Keys.{is_among}
+use Rattle.event_list.specs.declared.entries.EntryState.{EntryState}
+use Rattle.event_list.specs.declared.entries.EntryState.TheVariants.{Told, Untold}
 
 -- Those who wait, in order of arrival: first the told ones, by their keys, and then the untold
 -- ones, each with its payload.
@@ -43,6 +45,16 @@ module _ {W : Type 0} where
   abbrev pub payload_in : ℕ → List (ℕ × W) → Option W
   payload_in key [] = None
   payload_in key (entry ∷ rest) = if entry.0 == key then Some entry.1 else payload_in key rest
+
+  -- whether an entry that left is told
+  abbrev pub is_told : EntryState W → Bool
+  is_told Told = true
+  is_told (Untold payload) = false
+
+  -- the payload of one that is untold
+  abbrev pub payload_of : EntryState W → Option W
+  payload_of Told = None
+  payload_of (Untold payload) = Some payload
 
   -- the key is in the list, untold, with this payload
   pub record IsWaiting (list : Waiting W) (key : ℕ) (payload : W) : Type 0 where

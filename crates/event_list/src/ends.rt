@@ -1,8 +1,9 @@
 //! The ends of a waiting list, and how an entry comes and goes.
 ghost use Rattle.std.specs.Prelude.{◌≡◌, ◌+◌, ◌^◌, ◌<◌, ◌≤◌, false, OnSome, IfNone};
+ghost use Rattle.std.specs.Option.{option_map, option_and_then};
 ghost use Rattle.slab.specs.Slab.{slab_len, HasRoomFor};
-ghost use Rattle.event_list.specs.Keys.{is_among};
-ghost use Rattle.event_list.specs.Waiting.{Waiting, keys, told_flag, joined, without};
+ghost use Rattle.identity.specs.Keys.{is_among};
+ghost use Rattle.event_list.specs.Waiting.{Waiting, keys, is_told, payload_of, told_flag, payload_in, joined, without};
 ghost use Rattle.event_list.specs.Entries.{ends_with, ends_without};
 ghost use Rattle.event_list.specs.Chain.{IsLinked};
 
@@ -10,7 +11,7 @@ use crate::entries::{Entries, Entry, EntryState};
 use crate::list::steps::Lookups;
 use std::sync::ledger::Ledger;
 
-/// The keys of the first entry, of the last, and of the first unnotified one.
+/// The keys of the first entry, of the last, and of the first untold one.
 #[derive(Clone, Copy)]
 pub struct Ends {
     /// The key of the entry that has waited longest.
@@ -37,7 +38,7 @@ impl Ends {
         }
     }
 
-    /// The ends, once a new unnotified entry has come last.
+    /// The ends, once a new untold entry has come last.
     fn with(self, key: usize) -> Ends
         ensures { result ≡ ends_with self key }
     {
@@ -49,17 +50,19 @@ impl Ends {
     }
 
     /// Takes an entry out, and lets its neighbours name one another. The answer is whether it was
-    /// told, if it was there.
+    /// told, or its payload, if it was there.
     pub fn take_out<W: Drop, L: Ledger>(
         &mut self,
         entries: &mut Entries<W>,
         key: usize,
         lookups: &mut Lookups<L>,
-    ) -> Option<bool>
+    ) -> Option<EntryState<W>>
         ensures leaves { (list : Waiting W) → IsLinked entries.old self.old list
             → IsLinked entries.new self.new (without list key) }
         ensures was_told { (list : Waiting W) → IsLinked entries.old self.old list
-            → result ≡ told_flag list key }
+            → option_map is_told result ≡ told_flag list key }
+        ensures payload { (list : Waiting W) → IsLinked entries.old self.old list
+            → option_and_then payload_of result ≡ payload_in key list.untold }
         ensures absent { IfNone result (entries.new ≡ entries.old) }
         ensures held { OnSome result (slab_len entries.new + 1 ≡ slab_len entries.old) }
         ensures next { OnSome result (entries.new.vacant_key ≡ key) }
@@ -71,10 +74,10 @@ impl Ends {
         entries.set_behind(entry.before, entry.behind, lookups);
         entries.set_before(entry.behind, entry.before, lookups);
         *self = self.without(key, entry.before, entry.behind);
-        Some(entry.notice.is_told())
+        Some(entry.notice)
     }
 
-    /// Puts a new unnotified entry behind the last one. The answer is its key.
+    /// Puts a new untold entry behind the last one. The answer is its key.
     pub fn put_last<W: Drop, L: Ledger>(
         &mut self,
         entries: &mut Entries<W>,

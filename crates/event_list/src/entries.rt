@@ -3,7 +3,8 @@ ghost use Rattle.std.specs.Prelude.{◌≡◌, ◌+◌, ◌^◌, ◌<◌, [], So
 ghost use Rattle.std.specs.Bool.{OnTrue};
 ghost use Rattle.std.specs.Option.{option_map, option_and_then};
 ghost use Rattle.slab.specs.Slab.{get, slab_len, HasRoomFor, Updates};
-ghost use Rattle.event_list.specs.Entries.{with_behind, with_before, with_notice, is_told, payload_at, Rewrites, MayRewrite};
+ghost use Rattle.event_list.specs.Waiting.{is_told, payload_of};
+ghost use Rattle.event_list.specs.Entries.{with_behind, with_before, with_notice, payload_at, Rewrites, MayRewrite};
 
 use crate::list::steps::Lookups;
 use slab::Slab;
@@ -12,19 +13,47 @@ use std::marker::Model;
 use std::sync::ledger::Ledger;
 
 /// Whether an entry is told, and its payload where it isn't.
+///
+/// # Examples
+///
+/// ```
+/// let mut list = WaitList::new(rt.alloc());
+/// let first = list.listen(10).map_err(|_| "no room")?;
+/// let second = list.listen(11).map_err(|_| "no room")?;
+/// list.tell_one(&mut Quiet);
+///
+/// let told = list.unregister(first).ok_or("an entry")?;
+/// assert!(rt; told.is_told());
+/// let untold = list.unregister(second).ok_or("an entry")?;
+/// assert!(rt; !untold.is_told());
+/// assert_eq!(rt; untold.into_payload(), Some(11));
+/// ```
 #[derive(Drop)]
 pub enum EntryState<W> {
+    /// The bell was rung with the payload.
     Told,
+    /// The payload is there still.
     Untold(W),
 }
 
 impl<W> EntryState<W> {
+    /// Whether the entry is told.
     pub fn is_told(&self) -> bool
         ensures { result ≡ is_told self.now }
     {
         match self {
             EntryState::Told => true,
             EntryState::Untold(_) => false,
+        }
+    }
+
+    /// The payload of an untold entry.
+    pub fn into_payload(self) -> Option<W>
+        ensures { result ≡ payload_of self }
+    {
+        match self {
+            EntryState::Told => None,
+            EntryState::Untold(payload) => Some(payload),
         }
     }
 }
@@ -87,7 +116,7 @@ impl<W: Drop> Entries<W> {
     {
         lookups.raise();
         let key = self.slab.insert_reserved(entry);
-        // The slab's number of entries is a `usize`, which the clause `fits` hands on.
+        // proof: the slab's number of entries is a `usize`, which the clause `fits` hands on
         let _len = self.slab.len();
         key
     }
@@ -144,19 +173,25 @@ impl<W: Drop> Entries<W> {
         }
     }
 
-    /// Makes an entry an unnotified one with this payload.
-    pub fn set_payload<L: Ledger>(&mut self, key: usize, payload: W, lookups: &mut Lookups<L>)
+    /// Makes an entry an untold one with this payload. The answer is the payload that it had.
+    pub fn set_payload<L: Ledger>(
+        &mut self,
+        key: usize,
+        payload: W,
+        lookups: &mut Lookups<L>,
+    ) -> Option<W>
+        ensures replaced { result ≡
+            option_and_then (λ entry. payload_of entry.notice) (get self.old key) }
         ensures rewrites { Rewrites self.old self.new key
             (option_map (with_notice (EntryState.Untold payload)) (get self.old key)) }
         ensures counted { lookups.new ≡ lookups.old + 1 }
     {
         lookups.raise();
-        if let Some(entry) = self.slab.get_mut(key) {
-            entry.notice = EntryState::Untold(payload);
-        }
+        let entry = self.slab.get_mut(key)?;
+        std::mem::replace(&mut entry.notice, EntryState::Untold(payload)).into_payload()
     }
 
-    /// Tells an entry. The answer is its payload, where it was unnotified, and its neighbour
+    /// Tells an entry. The answer is its payload, where it was untold, and its neighbour
     /// behind.
     pub fn tell<L: Ledger>(
         &mut self,

@@ -17,6 +17,7 @@ mod list;
 mod ticket;
 
 pub use bell::{Bell, Quiet};
+pub use entries::EntryState;
 pub use list::steps::Steps;
 pub use list::{NoRoom, WaitList};
 pub use ticket::Ticket;

@@ -1,6 +1,6 @@
 //! The entries of a waiting list with what is kept beside them, and all work on them.
 //!
-//! A new entry goes behind the last one, unnotified. Those told are the front of the list, and
+//! A new entry goes behind the last one, untold. Those told are the front of the list, and
 //! `cursor` is the first behind them: to tell one is to tell the entry at the cursor and to move
 //! the cursor to its neighbour behind. An entry leaves by letting its neighbours name one another,
 //! and an end or the cursor that named it names its neighbour. Who waits again leaves and comes
@@ -8,14 +8,14 @@
 //!
 //! Each look-up is counted on the ledger that a call is handed. No other can be opened here, and no
 //! entry is reached without one: see `steps`.
-ghost use Rattle.std.specs.Prelude.{◌≡◌, ◌+◌, ◌<◌, ◌≤◌, ◌↔◌, length, take, is_some, IsTrue, IfNone, IfOk, IfErr, OnErr, slice_get, false};
-ghost use Rattle.std.specs.Bool.{OnTrue, OnFalse};
-ghost use Rattle.event_list.specs.Keys.{is_among, AreDifferent};
-ghost use Rattle.event_list.specs.Waiting.{LosesOne, IsWaiting, nobody, keys, told_count, payloads, told_flag, joined, without, renewed, told_one, told_all, cancelled, rung_by_cancelling, RingsEach};
+ghost use Rattle.std.specs.Prelude.{◌≡◌, ◌+◌, ◌<◌, ◌≤◌, ◌↔◌, length, take, is_ok, is_some, IsTrue, IfNone, IfOk, IfErr, OnOk, OnErr, slice_get, false};
+ghost use Rattle.std.specs.Option.{option_map, option_and_then};
+ghost use Rattle.identity.specs.Keys.{is_among, AreDifferent};
+ghost use Rattle.event_list.specs.Waiting.{LosesOne, IsWaiting, nobody, keys, told_count, payloads, is_told, payload_of, told_flag, payload_in, joined, without, renewed, told_one, told_all, cancelled, rung_by_cancelling, RingsEach};
 
 use crate::bell::Bell;
 use crate::ends::Ends;
-use crate::entries::Entries;
+use crate::entries::{Entries, EntryState};
 use crate::list::NoRoom;
 use crate::list::steps::Lookups;
 use crate::ticket::Ticket;
@@ -28,7 +28,7 @@ use std::sync::ledger::Ledger;
 pub(crate) struct Links<W> {
     // Each with the keys of its neighbours.
     entries: Entries<W>,
-    // The keys of the first one, of the last, and of the first unnotified one.
+    // The keys of the first one, of the last, and of the first untold one.
     ends: Ends,
     // How many entries there are.
     len: usize,
@@ -65,7 +65,7 @@ impl<W: Drop> Links<W> {
         }
     }
 
-    /// A new entry goes last, unnotified, under a key that isn't in the list. At most 6 look-ups.
+    /// A new entry goes last, untold, under a key that isn't in the list. At most 6 look-ups.
     pub(crate) fn listen<L: Ledger>(
         &mut self,
         w: W,
@@ -88,31 +88,37 @@ impl<W: Drop> Links<W> {
         Ok(Ticket { key })
     }
 
-    /// The entry waits again with this payload. At most 6 look-ups.
-    pub(crate) fn again<L: Ledger>(&mut self, t: &Ticket, w: W, lookups: &mut Lookups<L>) -> bool
-        ensures found { result ≡ is_some (told_flag self.old t.now) }
+    /// The entry waits again with this payload, and gives the one that it had. At most 6 look-ups.
+    pub(crate) fn renew<L: Ledger>(
+        &mut self,
+        t: &Ticket,
+        w: W,
+        lookups: &mut Lookups<L>,
+    ) -> Result<Option<W>, W>
+        ensures found { is_ok result ≡ is_some (told_flag self.old t.now) }
+        ensures replaced { IfOk result (λ payload. payload ≡ payload_in t.now self.old.untold) }
+        ensures handed_back { IfErr result (λ payload. payload ≡ w) }
         ensures after { self.new ≡ renewed self.old t.now w }
-        ensures waits { OnTrue result (IsWaiting self.new t.now w) }
-        ensures unchanged { OnFalse result (self.new ≡ self.old) }
+        ensures waits { OnOk result (IsWaiting self.new t.now w) }
+        ensures unchanged { OnErr result (self.new ≡ self.old) }
         ensures different { AreDifferent (keys self.new) }
         ensures sizes { LosesOne self.old t.now }
         ensures counted { lookups.new ≤ lookups.old + 6 }
         ensures on_this_ledger { lookups.old < lookups.new }
     {
         let Some(was_told) = self.entries.is_told(t.key, lookups) else {
-            return false;
+            return Err(w);
         };
         if !was_told {
-            self.entries.set_payload(t.key, w, lookups);
-            return true;
+            return Ok(self.entries.set_payload(t.key, w, lookups));
         }
         self.ends.take_out(&mut self.entries, t.key, lookups);
         self.ends.put_last(&mut self.entries, w, lookups);
         self.told -= 1;
-        true
+        Ok(None)
     }
 
-    /// Tells the longest waiting unnotified entry. At most one look-up.
+    /// Tells the longest waiting untold entry. At most one look-up.
     pub(crate) fn tell_one<B: Bell<W>, L: Ledger>(
         &mut self,
         bell: &mut B,
@@ -136,7 +142,7 @@ impl<W: Drop> Links<W> {
         true
     }
 
-    /// Tells every unnotified entry. At most one look-up for each.
+    /// Tells every untold entry. At most one look-up for each.
     pub(crate) fn tell_all<B: Bell<W>, L: Ledger>(
         &mut self,
         bell: &mut B,
@@ -155,9 +161,14 @@ impl<W: Drop> Links<W> {
         untold
     }
 
-    /// The entry leaves. At most 6 look-ups.
-    pub(crate) fn remove<L: Ledger>(&mut self, t: Ticket, lookups: &mut Lookups<L>) -> Option<bool>
-        ensures was_told { result ≡ told_flag self.old t }
+    /// The entry leaves, and is the answer. At most 6 look-ups.
+    pub(crate) fn unregister<L: Ledger>(
+        &mut self,
+        t: Ticket,
+        lookups: &mut Lookups<L>,
+    ) -> Option<EntryState<W>>
+        ensures was_told { option_map is_told result ≡ told_flag self.old t }
+        ensures payload { option_and_then payload_of result ≡ payload_in t self.old.untold }
         ensures after { self.new ≡ without self.old t }
         ensures unchanged { IfNone result (self.new ≡ self.old) }
         ensures different { AreDifferent (keys self.new) }
@@ -165,21 +176,23 @@ impl<W: Drop> Links<W> {
         ensures counted { lookups.new ≤ lookups.old + 6 }
         ensures on_this_ledger { lookups.old < lookups.new }
     {
-        let was_told = self.ends.take_out(&mut self.entries, t.key, lookups)?;
+        let entry = self.ends.take_out(&mut self.entries, t.key, lookups)?;
         self.len -= 1;
-        if was_told {
+        if entry.is_told() {
             self.told -= 1;
         }
-        Some(was_told)
+        Some(entry)
     }
 
-    /// The entry leaves, and where it was told, one is told in its place. At most 12 look-ups.
-    pub(crate) fn cancel<B: Bell<W>, L: Ledger>(
+    /// The entry leaves, and where it was told, one is told in its place. The answer is the payload
+    /// of one that was untold. At most 12 look-ups.
+    pub(crate) fn withdraw<B: Bell<W>, L: Ledger>(
         &mut self,
         t: Ticket,
         bell: &mut B,
         lookups: &mut Lookups<L>,
-    )
+    ) -> Option<W>
+        ensures payload { result ≡ payload_in t self.old.untold }
         ensures after { self.new ≡ cancelled self.old t }
         ensures rung { RingsEach B.rings bell.old (rung_by_cancelling self.old t) bell.new }
         ensures different { AreDifferent (keys self.new) }
@@ -187,9 +200,11 @@ impl<W: Drop> Links<W> {
         ensures counted { lookups.new ≤ lookups.old + 12 }
         ensures on_this_ledger { lookups.old < lookups.new }
     {
-        if self.remove(t, lookups) == Some(true) {
+        let entry = self.unregister(t, lookups)?;
+        if entry.is_told() {
             self.tell_one(bell, lookups);
         }
+        entry.into_payload()
     }
 
     /// Whether the ticket's entry is told, or nothing where it isn't in the list. One look-up.
@@ -200,7 +215,7 @@ impl<W: Drop> Links<W> {
         self.entries.is_told(t.key, lookups)
     }
 
-    /// Whether somebody is unnotified.
+    /// Whether somebody is untold.
     #[inline(always)]
     pub(crate) fn has_untold(&self) -> bool
         ensures answer { IsTrue result ↔ (0 < length (payloads self.now)) }

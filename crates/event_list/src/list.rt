@@ -5,7 +5,7 @@
 //! of the first entry that isn't told.
 //!
 //! ```text
-//! told  <->  told  <->  unnotified  <->  unnotified
+//! told  <->  told  <->  untold  <->  untold
 //! first                 cursor           last
 //! ```
 //!
@@ -13,20 +13,22 @@
 //! to its neighbour behind; to tell all is to do this until the cursor is past the last one. Who is
 //! new goes behind the last one. Who leaves lets its neighbours name one another, and a key that
 //! named it names a neighbour. Who waits again after a notice leaves and goes last, under its old
-//! key; who waits again unnotified keeps its place, with a new payload. So no call walks along the
+//! key; who waits again untold keeps its place, with a new payload. So no call walks along the
 //! list, and the told front stays in one piece.
 //!
 //! A counted call hands the ledger that it is given to the call of the same name of `links`, where
 //! the work is done. A call of the plain name opens a ledger and runs the counted one on it.
-ghost use Rattle.std.specs.Prelude.{◌≡◌, ◌+◌, ◌<◌, ◌≤◌, ◌↔◌, length, take, is_some, IsTrue, IfNone, IfOk, IfErr, OnErr, slice_get, false};
+ghost use Rattle.std.specs.Prelude.{◌≡◌, ◌+◌, ◌<◌, ◌≤◌, ◌↔◌, length, take, is_ok, is_some, IsTrue, IfNone, IfOk, IfErr, OnOk, OnErr, slice_get, false};
 ghost use Rattle.std.specs.Bool.{OnTrue, OnFalse};
-ghost use Rattle.event_list.specs.Keys.{is_among, AreDifferent};
-ghost use Rattle.event_list.specs.Waiting.{LosesOne, IsWaiting, nobody, keys, told_count, payloads, told_flag, joined, without, renewed, told_one, told_all, cancelled, rung_by_cancelling, RingsEach};
+ghost use Rattle.std.specs.Option.{option_map, option_and_then};
+ghost use Rattle.identity.specs.Keys.{is_among, AreDifferent};
+ghost use Rattle.event_list.specs.Waiting.{LosesOne, IsWaiting, nobody, keys, told_count, payloads, is_told, payload_of, told_flag, payload_in, joined, without, renewed, told_one, told_all, cancelled, rung_by_cancelling, RingsEach};
 ghost use Rattle.event_list.specs.Opens.{Opens};
 
 pub(crate) mod steps;
 
 use crate::bell::Bell;
+use crate::entries::EntryState;
 use crate::links::Links;
 use crate::ticket::Ticket;
 use std::alloc::Global;
@@ -52,6 +54,9 @@ pub struct NoRoom<W>(pub W);
 /// it tells. The counted calls say how many: they have the contracts of the calls of the plain
 /// names, which run them on a ledger of their own. Each counts on the ledger that it is handed, at
 /// most that number and at least one where it reaches an entry.
+///
+/// `renew`, `unregister` and `withdraw` are `again`, `remove` and `cancel` that give back the payload
+/// which these drop: for payloads whose drop runs a caller's code, as that of a waker does.
 ///
 /// # Examples
 ///
@@ -100,7 +105,7 @@ impl<W: Drop> WaitList<W> {
         }
     }
 
-    /// A new entry goes last, unnotified, under a key that isn't in the list.
+    /// A new entry goes last, untold, under a key that isn't in the list.
     ///
     /// # Examples
     ///
@@ -149,7 +154,7 @@ impl<W: Drop> WaitList<W> {
         self.again_from::<Brand>(t, w, Blank::new(1))
     }
 
-    /// Tells the longest waiting unnotified entry. The answer is whether there was one.
+    /// Tells the longest waiting untold entry. The answer is whether there was one.
     ///
     /// # Examples
     ///
@@ -176,7 +181,7 @@ impl<W: Drop> WaitList<W> {
         self.tell_one_from::<B, Brand>(bell, Blank::new(1))
     }
 
-    /// Tells every unnotified entry, and answers how many there were.
+    /// Tells every untold entry, and answers how many there were.
     ///
     /// # Examples
     ///
@@ -246,6 +251,83 @@ impl<W: Drop> WaitList<W> {
         self.cancel_from::<B, Brand>(t, bell, Blank::new(1));
     }
 
+    /// `again`, which gives the payload that an untold entry had. Where the entry isn't in the list,
+    /// `w` comes back.
+    ///
+    /// # Examples
+    ///
+    /// ```
+    /// let mut list = WaitList::new(rt.alloc());
+    /// let ticket = list.listen(10).map_err(|_| "no room")?;
+    /// assert_eq!(rt; list.renew(&ticket, 11), Ok(Some(10)));
+    ///
+    /// // The bell has the payload of one that is told.
+    /// list.tell_one(&mut Quiet);
+    /// assert_eq!(rt; list.renew(&ticket, 12), Ok(None));
+    /// ```
+    pub fn renew(&mut self, t: &Ticket, w: W) -> Result<Option<W>, W>
+        ensures found { is_ok result ≡ is_some (told_flag self.old t.now) }
+        ensures replaced { IfOk result (λ payload. payload ≡ payload_in t.now self.old.untold) }
+        ensures handed_back { IfErr result (λ payload. payload ≡ w) }
+        ensures after { self.new ≡ renewed self.old t.now w }
+        ensures waits { OnOk result (IsWaiting self.new t.now w) }
+        ensures unchanged { OnErr result (self.new ≡ self.old) }
+        ensures different { AreDifferent (keys self.new) }
+        ensures sizes { LosesOne self.old t.now }
+    {
+        self.renew_from::<Brand>(t, w, Blank::new(1))
+    }
+
+    /// `remove`, which gives the entry: told, or untold with its payload.
+    ///
+    /// # Examples
+    ///
+    /// ```
+    /// let mut list = WaitList::new(rt.alloc());
+    /// let ticket = list.listen(10).map_err(|_| "no room")?;
+    /// let entry = list.unregister(ticket).ok_or("an entry")?;
+    /// assert_eq!(rt; entry.into_payload(), Some(10));
+    /// ```
+    pub fn unregister(&mut self, t: Ticket) -> Option<EntryState<W>>
+        ensures was_told { option_map is_told result ≡ told_flag self.old t }
+        ensures payload { option_and_then payload_of result ≡ payload_in t self.old.untold }
+        ensures after { self.new ≡ without self.old t }
+        ensures unchanged { IfNone result (self.new ≡ self.old) }
+        ensures different { AreDifferent (keys self.new) }
+        ensures sizes { LosesOne self.old t }
+    {
+        self.unregister_from::<Brand>(t, Blank::new(1))
+    }
+
+    /// `cancel`, which gives the payload of an untold entry.
+    ///
+    /// # Examples
+    ///
+    /// ```
+    /// let mut list = WaitList::new(rt.alloc());
+    /// let mut bell = Last(None);
+    /// let first = list.listen(10).map_err(|_| "no room")?;
+    /// let second = list.listen(11).map_err(|_| "no room")?;
+    /// let third = list.listen(12).map_err(|_| "no room")?;
+    /// assert_eq!(rt; list.withdraw(third, &mut bell), Some(12));
+    /// assert_eq!(rt; bell.0, None);
+    ///
+    /// // The notice goes on, and the bell has both payloads.
+    /// list.tell_one(&mut bell);
+    /// assert_eq!(rt; list.withdraw(first, &mut bell), None);
+    /// assert_eq!(rt; bell.0, Some(11));
+    /// assert_eq!(rt; list.is_told(&second), Some(true));
+    /// ```
+    pub fn withdraw<B: Bell<W>>(&mut self, t: Ticket, bell: &mut B) -> Option<W>
+        ensures payload { result ≡ payload_in t self.old.untold }
+        ensures after { self.new ≡ cancelled self.old t }
+        ensures rung { RingsEach B.rings bell.old (rung_by_cancelling self.old t) bell.new }
+        ensures different { AreDifferent (keys self.new) }
+        ensures sizes { LosesOne self.old t }
+    {
+        self.withdraw_from::<B, Brand>(t, bell, Blank::new(1))
+    }
+
     /// `listen`, which counts its look-ups: at most 6.
     ///
     /// # Examples
@@ -290,7 +372,7 @@ impl<W: Drop> WaitList<W> {
         ensures counted { steps.new ≤ steps.old + 6 }
         ensures on_this_ledger { steps.old < steps.new }
     {
-        self.links.again(t, w, &mut steps.lookups)
+        self.links.renew(t, w, &mut steps.lookups).is_ok()
     }
 
     /// `tell_one`, which counts its look-ups: one where one is told, and else none.
@@ -308,7 +390,7 @@ impl<W: Drop> WaitList<W> {
         self.links.tell_one(bell, &mut steps.lookups)
     }
 
-    /// `tell_all`, which counts its look-ups: one for each unnotified entry.
+    /// `tell_all`, which counts its look-ups: one for each untold entry.
     pub fn tell_all_counted<B: Bell<W>, L: Ledger>(
         &mut self,
         bell: &mut B,
@@ -333,7 +415,7 @@ impl<W: Drop> WaitList<W> {
         ensures counted { steps.new ≤ steps.old + 6 }
         ensures on_this_ledger { steps.old < steps.new }
     {
-        self.links.remove(t, &mut steps.lookups)
+        Some(self.links.unregister(t, &mut steps.lookups)?.is_told())
     }
 
     /// `cancel`, which counts its look-ups: at most 12.
@@ -350,7 +432,7 @@ impl<W: Drop> WaitList<W> {
         ensures counted { steps.new ≤ steps.old + 12 }
         ensures on_this_ledger { steps.old < steps.new }
     {
-        self.links.cancel(t, bell, &mut steps.lookups);
+        self.links.withdraw(t, bell, &mut steps.lookups);
     }
 
     /// How many wait.
@@ -390,8 +472,8 @@ impl<W: Drop> WaitList<W> {
     }
 }
 
-// What the calls of the plain names run: the counted ones, on the ledger of a blank. They stand
-// apart since a ledger gets its name where a call passes a blank on.
+// What the calls of the plain names run, on the ledger of a blank: the counted ones, where there are
+// any. They stand apart since a ledger gets its name where a call passes a blank on.
 impl<W: Drop> WaitList<W> {
     fn listen_from<L: Ledger>(&mut self, w: W, blank: Blank) -> Result<Ticket, NoRoom<W>>
         requires { Opens blank.name blank.parts L.name L.parts }
@@ -456,6 +538,51 @@ impl<W: Drop> WaitList<W> {
         ensures sizes { LosesOne self.old t }
     {
         self.cancel_counted(t, bell, &mut Steps::<L>::of(blank));
+    }
+
+    fn renew_from<L: Ledger>(&mut self, t: &Ticket, w: W, blank: Blank) -> Result<Option<W>, W>
+        requires { Opens blank.name blank.parts L.name L.parts }
+        ensures found { is_ok result ≡ is_some (told_flag self.old t.now) }
+        ensures replaced { IfOk result (λ payload. payload ≡ payload_in t.now self.old.untold) }
+        ensures handed_back { IfErr result (λ payload. payload ≡ w) }
+        ensures after { self.new ≡ renewed self.old t.now w }
+        ensures waits { OnOk result (IsWaiting self.new t.now w) }
+        ensures unchanged { OnErr result (self.new ≡ self.old) }
+        ensures different { AreDifferent (keys self.new) }
+        ensures sizes { LosesOne self.old t.now }
+    {
+        let mut steps = Steps::<L>::of(blank);
+        self.links.renew(t, w, &mut steps.lookups)
+    }
+
+    fn unregister_from<L: Ledger>(&mut self, t: Ticket, blank: Blank) -> Option<EntryState<W>>
+        requires { Opens blank.name blank.parts L.name L.parts }
+        ensures was_told { option_map is_told result ≡ told_flag self.old t }
+        ensures payload { option_and_then payload_of result ≡ payload_in t self.old.untold }
+        ensures after { self.new ≡ without self.old t }
+        ensures unchanged { IfNone result (self.new ≡ self.old) }
+        ensures different { AreDifferent (keys self.new) }
+        ensures sizes { LosesOne self.old t }
+    {
+        let mut steps = Steps::<L>::of(blank);
+        self.links.unregister(t, &mut steps.lookups)
+    }
+
+    fn withdraw_from<B: Bell<W>, L: Ledger>(
+        &mut self,
+        t: Ticket,
+        bell: &mut B,
+        blank: Blank,
+    ) -> Option<W>
+        requires { Opens blank.name blank.parts L.name L.parts }
+        ensures payload { result ≡ payload_in t self.old.untold }
+        ensures after { self.new ≡ cancelled self.old t }
+        ensures rung { RingsEach B.rings bell.old (rung_by_cancelling self.old t) bell.new }
+        ensures different { AreDifferent (keys self.new) }
+        ensures sizes { LosesOne self.old t }
+    {
+        let mut steps = Steps::<L>::of(blank);
+        self.links.withdraw(t, bell, &mut steps.lookups)
     }
 
     fn is_told_from<L: Ledger>(&self, t: &Ticket, blank: Blank) -> Option<bool>

@@ -1,5 +1,4 @@
-//! Maps a pure function over a list on all processors, and prints the answers at the places of
-//! their inputs.
+//! Maps a pure function over a list on all processors, and prints the answers in order.
 //!
 //! The answers are proved to be those of the plain map, whatever thread found them and in whatever
 //! order.

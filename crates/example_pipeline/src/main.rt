@@ -1,5 +1,4 @@
-//! Three stages in one task, each a future, joined by two channels: numbers are sent, squared and
-//! gathered.
+//! Three stages in one task, joined by two channels: numbers are sent, squared and gathered.
 //!
 //! Each channel has room for one message. So a stage that is ahead waits for the one after it, and
 //! the task goes on with whichever stage was woken.

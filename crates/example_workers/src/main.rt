@@ -1,5 +1,4 @@
-//! A pool of threads. Numbers go out to the workers through one channel, and answers come back
-//! through another.
+//! A pool of threads, which take numbers from one channel and send answers through another.
 //!
 //! Which worker takes which number is left to chance, so the answers are sorted before they are
 //! printed.

@@ -1,6 +1,6 @@
 //! The map of a list, by many threads.
 ghost use Rattle.std.specs.Prelude.{◌≡◌, ◌≢◌, ◌<◌, [], map, IsOk, IfOk, OnOk, Err, None};
-ghost use Rattle.channel_stamps.specs.Stamps.{next_stamp};
+ghost use Rattle.identity.specs.Stamps.{next_stamp};
 ghost use Rattle.parallel_map.specs.Stamps.{behind_two, DrewTwoAtMost};
 
 use crate::error::MapError;
@@ -8,7 +8,7 @@ use crate::gathering::gather;
 use crate::job::{Gate, Job};
 use crate::workers::{self, Ends};
 use async_channel::{StampMaker, bounded, unbounded};
-use exact::Exact;
+use identity::Exact;
 use std::alloc::Global;
 use std::sync::Wait;
 use std::thread;

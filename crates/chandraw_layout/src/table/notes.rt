@@ -1,8 +1,9 @@
 //! What the table notes of a step: names that begin and end, who waits, messages, and the closing.
 use crate::act::{Act, has_taken, is_done};
-use crate::lane::{Held, LANES, Lane, Trace, WaitingList};
+use crate::lane::{Held, LANES, Lane, Trace};
 use crate::name::{Name, NameKind, name_of, who_of};
 use crate::table::{Table, room};
+use channel_core::Group;
 use channel_model::{Notice, OutOfMemory, Reply, Who};
 use futures::task::Poll;
 
@@ -73,12 +74,12 @@ impl Table {
         Ok(())
     }
 
-    fn list_mut(&mut self, list: WaitingList) -> &mut Vec<Who> {
+    fn list_mut(&mut self, list: Group) -> &mut Vec<Who> {
         match list {
-            WaitingList::Sends => &mut self.sends,
-            WaitingList::Receives => &mut self.receives,
-            WaitingList::Streams => &mut self.streams,
-            WaitingList::Closeds => &mut self.closeds,
+            Group::Sends => &mut self.sends,
+            Group::Receives => &mut self.receives,
+            Group::Streams => &mut self.streams,
+            Group::Closeds => &mut self.closeds,
         }
     }
 

@@ -8,7 +8,7 @@
 //! looked for from then on.
 use crate::name::name_of;
 use crate::table::{Table, room};
-use channel_model::{Notice, OutOfMemory, Reply, Step, Who};
+use channel_model::{Notice, OutOfMemory, Reply, Who};
 use channel_run::Run;
 use std::collections::VecDeque;
 
@@ -46,14 +46,6 @@ fn told_in(run: &Run<u64>, list: &[Who], reach: usize) -> Option<Who> {
         .copied()
 }
 
-// The step that polls them.
-fn poll_of(who: Who) -> Step<u64> {
-    match who {
-        Who::Op(op) => Step::Poll(op),
-        Who::Receiver(receiver) => Step::PollNext(receiver),
-    }
-}
-
 impl Table {
     // Who is polled next by settling. They stand before the others where the order is kept.
     fn first_told(&self) -> Option<Who> {
@@ -79,7 +71,7 @@ impl Table {
         let Some(who) = self.first_told() else {
             return Ok(None);
         };
-        let is_ready = self.make(poll_of(who))?;
+        let is_ready = self.make(who.poll())?;
         if self.row_refused {
             self.settle_at_once()?;
         }

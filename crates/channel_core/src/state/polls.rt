@@ -1,8 +1,8 @@
 //! The polls of those who may wait, and what they leave where one gives up.
-ghost use Rattle.std.specs.Prelude.{◌≡◌, ◌==◌, Some, None, IfOk, OnErr};
+ghost use Rattle.std.specs.Prelude.{◌≡◌, ◌==◌, Some, None, IfOk, OnErr, MatchOption};
 ghost use Rattle.event_list.specs.Waiting.{RingsEach};
 ghost use Rattle.channel_model.specs.Tables.{OnReady, OnWait, send_poll, recv_poll, next_poll, closed_poll};
-ghost use Rattle.channel_core.specs.Tickets.{left, handed_on, rung_by_handing_on};
+ghost use Rattle.channel_core.specs.Tickets.{payload_held, payload_replaced, left, handed_on, rung_by_handing_on};
 ghost use Rattle.channel_core.specs.Channel.{is_channel_full, oldest, polled_receive, polled_stream, polled_send, SendWaits, RecvWaits, NextWaits, ClosedWaits, SendWants, RecvWants, NextWants, ClosedWants};
 
 use crate::state::Core;
@@ -16,7 +16,7 @@ impl<T: Drop, W: Drop> Core<T, W> {
     /// pending.
     ///
     /// A ready poll leaves neither message nor ticket. A pending one leaves the ticket of an
-    /// unnotified entry that holds `w`. Where memory was refused nothing has changed, the message
+    /// untold entry that holds `w`. Where memory was refused nothing has changed, the message
     /// and the ticket neither.
     ///
     /// # Examples
@@ -56,22 +56,80 @@ impl<T: Drop, W: Drop> Core<T, W> {
         ensures unpolled { OnErr result ((m.new ≡ m.old) × (t.new ≡ t.old)) }
         ensures wanted { OnErr result (SendWants m.old t.old self.old) }
     {
+        self.poll_send_with(m, t, &mut Some(w), bell, &mut None)
+    }
+
+    /// `poll_send`, which gives back each payload that isn't in the list after it.
+    ///
+    /// `w` is the payload to wait with. It stays where it isn't needed. Without one the poll only
+    /// looks: where it can't go on it is pending, and nothing changes. `back` gets the payload that
+    /// the send's entry held untold, once that has left its list or was replaced, and is none else.
+    ///
+    /// # Examples
+    ///
+    /// ```
+    /// let mut core: Core<u64, u64> = Core::bounded(rt.alloc(), 1)?;
+    /// assert_eq!(rt; core.try_send(1, &mut Quiet)?, Ok(()));
+    /// let (mut message, mut ticket, mut w, mut back) = (Some(2), None, Some(10), None);
+    /// let poll = core.poll_send_with(&mut message, &mut ticket, &mut w, &mut Quiet, &mut back)?;
+    /// assert!(rt; poll.is_pending());
+    /// assert_eq!(rt; (w, back), (None, None));
+    ///
+    /// assert!(rt; core.close(&mut Quiet));
+    /// w = Some(11);
+    /// let poll = core.poll_send_with(&mut message, &mut ticket, &mut w, &mut Quiet, &mut back)?;
+    /// assert!(rt; poll.is_ready());
+    /// assert_eq!(rt; (w, back), (Some(11), None));
+    /// ```
+    #[inline(always)]
+    pub fn poll_send_with<B: Bell<W>>(
+        &mut self,
+        m: &mut Option<T>,
+        t: &mut Option<Ticket>,
+        w: &mut Option<W>,
+        bell: &mut B,
+        back: &mut Option<W>,
+    ) -> Result<Poll<Result<(), SendError<T>>>, OutOfMemory>
+        ensures reply { IfOk result
+            (λ poll. poll ≡ send_poll m.old self.old.closed (is_channel_full self.old)) }
+        ensures after { OnReady result (self.new ≡ (polled_send m.old t.old self.old).channel) }
+        ensures rung { OnReady result
+            (RingsEach B.rings bell.old (polled_send m.old t.old self.old).rung bell.new) }
+        ensures finished { OnReady result ((m.new ≡ None) × (t.new ≡ None)) }
+        ensures spare { OnReady result (w.new ≡ w.old) }
+        ensures given_back { OnReady result (back.new ≡ payload_held t.old self.old.sends) }
+
+        ensures waits { OnWait result (MatchOption w.old
+            ((self.new ≡ self.old) × (t.new ≡ t.old))
+            (λ payload. SendWaits m.old t.old self.old payload t.new self.new)) }
+        ensures used { OnWait result (MatchOption m.old (w.new ≡ w.old) (λ _. w.new ≡ None)) }
+        ensures replaced { OnWait result (MatchOption m.old (back.new ≡ None)
+            (λ _. back.new ≡ payload_replaced w.old t.old self.old.sends)) }
+        ensures kept { OnWait result (m.new ≡ m.old) }
+        ensures silent { OnWait result (bell.new ≡ bell.old) }
+
+        ensures unchanged { OnErr result ((self.new ≡ self.old) × (bell.new ≡ bell.old)) }
+        ensures unpolled { OnErr result ((m.new ≡ m.old) × (t.new ≡ t.old)) }
+        ensures unused { OnErr result ((w.new ≡ w.old) × (back.new ≡ None)) }
+        ensures wanted { OnErr result (SendWants m.old t.old self.old) }
+    {
+        *back = None;
         let Some(message) = m.take() else {
             return Ok(Poll::Pending);
         };
         if self.closed {
-            leave(&mut self.lists.sends, t);
+            *back = leave(&mut self.lists.sends, t);
             return Ok(Poll::Ready(Err(SendError(message))));
         }
         match self.queue.push(message) {
             Ok(Ok(())) => {
-                leave(&mut self.lists.sends, t);
+                *back = leave(&mut self.lists.sends, t);
                 self.lists.tell_accepted(bell);
                 Ok(Poll::Ready(Ok(())))
             }
             Ok(Err(message)) => {
                 *m = Some(message);
-                wait(&mut self.lists.sends, t, w)?;
+                *back = wait(&mut self.lists.sends, t, w)?;
                 Ok(Poll::Pending)
             }
             Err(NoMemory(message)) => {
@@ -83,7 +141,7 @@ impl<T: Drop, W: Drop> Core<T, W> {
 
     /// Polls a receive, by its ticket.
     ///
-    /// A ready poll leaves no ticket. A pending one leaves the ticket of an unnotified entry that
+    /// A ready poll leaves no ticket. A pending one leaves the ticket of an untold entry that
     /// holds `w`. Where memory was refused nothing has changed, the ticket neither.
     ///
     /// # Examples
@@ -118,22 +176,78 @@ impl<T: Drop, W: Drop> Core<T, W> {
         ensures unpolled { OnErr result (t.new ≡ t.old) }
         ensures wanted { OnErr result (RecvWants t.old self.old) }
     {
+        self.poll_recv_with(t, &mut Some(w), bell, &mut None)
+    }
+
+    /// `poll_recv`, which gives back each payload that isn't in the list after it.
+    ///
+    /// `w` is the payload to wait with. It stays where it isn't needed. Without one the poll only
+    /// looks: where it can't go on it is pending, and nothing changes. `back` gets the payload that
+    /// the receive's entry held untold, once that has left its list or was replaced, and is none
+    /// else.
+    ///
+    /// # Examples
+    ///
+    /// ```
+    /// let mut core: Core<u64, u64> = Core::unbounded(rt.alloc());
+    /// let (mut ticket, mut w, mut back) = (None, None, None);
+    /// let poll = core.poll_recv_with(&mut ticket, &mut w, &mut Quiet, &mut back)?;
+    /// assert!(rt; poll.is_pending());
+    /// assert!(rt; ticket.is_none());
+    ///
+    /// for payload in [10, 11] {
+    ///     w = Some(payload);
+    ///     let poll = core.poll_recv_with(&mut ticket, &mut w, &mut Quiet, &mut back)?;
+    ///     assert!(rt; poll.is_pending());
+    /// }
+    /// assert_eq!(rt; back, Some(10));
+    /// ```
+    #[inline(always)]
+    pub fn poll_recv_with<B: Bell<W>>(
+        &mut self,
+        t: &mut Option<Ticket>,
+        w: &mut Option<W>,
+        bell: &mut B,
+        back: &mut Option<W>,
+    ) -> Result<Poll<Result<T, RecvError>>, OutOfMemory>
+        ensures reply { IfOk result (λ poll. poll ≡ recv_poll (oldest self.old) self.old.closed) }
+        ensures after { OnReady result (self.new ≡ (polled_receive t.old self.old).channel) }
+        ensures rung { OnReady result
+            (RingsEach B.rings bell.old (polled_receive t.old self.old).rung bell.new) }
+        ensures finished { OnReady result (t.new ≡ None) }
+        ensures spare { OnReady result (w.new ≡ w.old) }
+        ensures given_back { OnReady result (back.new ≡ payload_held t.old self.old.receives) }
+
+        ensures waits { OnWait result (MatchOption w.old
+            ((self.new ≡ self.old) × (t.new ≡ t.old))
+            (λ payload. RecvWaits t.old self.old payload t.new self.new)) }
+        ensures used { OnWait result (w.new ≡ None) }
+        ensures replaced { OnWait result
+            (back.new ≡ payload_replaced w.old t.old self.old.receives) }
+        ensures silent { OnWait result (bell.new ≡ bell.old) }
+
+        ensures unchanged { OnErr result ((self.new ≡ self.old) × (bell.new ≡ bell.old)) }
+        ensures unpolled { OnErr result (t.new ≡ t.old) }
+        ensures unused { OnErr result ((w.new ≡ w.old) × (back.new ≡ None)) }
+        ensures wanted { OnErr result (RecvWants t.old self.old) }
+    {
+        *back = None;
         if let Some(message) = self.queue.pop() {
-            leave(&mut self.lists.receives, t);
+            *back = leave(&mut self.lists.receives, t);
             self.lists.sends.tell_one(bell);
             return Ok(Poll::Ready(Ok(message)));
         }
         if self.closed {
-            leave(&mut self.lists.receives, t);
+            *back = leave(&mut self.lists.receives, t);
             return Ok(Poll::Ready(Err(RecvError)));
         }
-        wait(&mut self.lists.receives, t, w)?;
+        *back = wait(&mut self.lists.receives, t, w)?;
         Ok(Poll::Pending)
     }
 
     /// Polls the stream of a receiver, by its ticket.
     ///
-    /// A ready poll leaves no ticket. A pending one leaves the ticket of an unnotified entry that
+    /// A ready poll leaves no ticket. A pending one leaves the ticket of an untold entry that
     /// holds `w`. Where memory was refused nothing has changed, the ticket neither.
     ///
     /// # Examples
@@ -164,22 +278,75 @@ impl<T: Drop, W: Drop> Core<T, W> {
         ensures unpolled { OnErr result (t.new ≡ t.old) }
         ensures wanted { OnErr result (NextWants t.old self.old) }
     {
+        self.poll_next_with(t, &mut Some(w), bell, &mut None)
+    }
+
+    /// `poll_next`, which gives back each payload that isn't in the list after it.
+    ///
+    /// `w` is the payload to wait with. It stays where it isn't needed. Without one the poll only
+    /// looks: where it can't go on it is pending, and nothing changes. `back` gets the payload that
+    /// the stream's entry held untold, once that has left its list or was replaced, and is none
+    /// else.
+    ///
+    /// # Examples
+    ///
+    /// ```
+    /// let mut core: Core<u64, u64> = Core::unbounded(rt.alloc());
+    /// let (mut ticket, mut w, mut back) = (None, Some(10), None);
+    /// let poll = core.poll_next_with(&mut ticket, &mut w, &mut Quiet, &mut back)?;
+    /// assert!(rt; poll.is_pending());
+    ///
+    /// // The bell has the payload of one that is told.
+    /// core.close(&mut Quiet);
+    /// let poll = core.poll_next_with(&mut ticket, &mut w, &mut Quiet, &mut back)?;
+    /// assert!(rt; poll.is_ready());
+    /// assert_eq!(rt; back, None);
+    /// ```
+    pub fn poll_next_with<B: Bell<W>>(
+        &mut self,
+        t: &mut Option<Ticket>,
+        w: &mut Option<W>,
+        bell: &mut B,
+        back: &mut Option<W>,
+    ) -> Result<Poll<Option<T>>, OutOfMemory>
+        ensures reply { IfOk result (λ poll. poll ≡ next_poll (oldest self.old) self.old.closed) }
+        ensures after { OnReady result (self.new ≡ (polled_stream t.old self.old).channel) }
+        ensures rung { OnReady result
+            (RingsEach B.rings bell.old (polled_stream t.old self.old).rung bell.new) }
+        ensures finished { OnReady result (t.new ≡ None) }
+        ensures spare { OnReady result (w.new ≡ w.old) }
+        ensures given_back { OnReady result (back.new ≡ payload_held t.old self.old.streams) }
+
+        ensures waits { OnWait result (MatchOption w.old
+            ((self.new ≡ self.old) × (t.new ≡ t.old))
+            (λ payload. NextWaits t.old self.old payload t.new self.new)) }
+        ensures used { OnWait result (w.new ≡ None) }
+        ensures replaced { OnWait result
+            (back.new ≡ payload_replaced w.old t.old self.old.streams) }
+        ensures silent { OnWait result (bell.new ≡ bell.old) }
+
+        ensures unchanged { OnErr result ((self.new ≡ self.old) × (bell.new ≡ bell.old)) }
+        ensures unpolled { OnErr result (t.new ≡ t.old) }
+        ensures unused { OnErr result ((w.new ≡ w.old) × (back.new ≡ None)) }
+        ensures wanted { OnErr result (NextWants t.old self.old) }
+    {
+        *back = None;
         if let Some(message) = self.queue.pop() {
-            leave(&mut self.lists.streams, t);
+            *back = leave(&mut self.lists.streams, t);
             self.lists.sends.tell_one(bell);
             return Ok(Poll::Ready(Some(message)));
         }
         if self.closed {
-            leave(&mut self.lists.streams, t);
+            *back = leave(&mut self.lists.streams, t);
             return Ok(Poll::Ready(None));
         }
-        wait(&mut self.lists.streams, t, w)?;
+        *back = wait(&mut self.lists.streams, t, w)?;
         Ok(Poll::Pending)
     }
 
     /// Polls a closed operation, by its ticket. It is ready exactly where no receiver is left.
     ///
-    /// A ready poll leaves no ticket. A pending one leaves the ticket of an unnotified entry that
+    /// A ready poll leaves no ticket. A pending one leaves the ticket of an untold entry that
     /// holds `w`. Where memory was refused nothing has changed, the ticket neither.
     ///
     /// # Examples
@@ -204,11 +371,57 @@ impl<T: Drop, W: Drop> Core<T, W> {
         ensures unpolled { OnErr result (t.new ≡ t.old) }
         ensures wanted { OnErr result (ClosedWants t.old self.old) }
     {
+        self.poll_closed_with(t, &mut Some(w), &mut None)
+    }
+
+    /// `poll_closed`, which gives back each payload that isn't in the list after it.
+    ///
+    /// `w` is the payload to wait with. It stays where it isn't needed. Without one the poll only
+    /// looks: where it can't go on it is pending, and nothing changes. `back` gets the payload that
+    /// the operation's entry held untold, once that has left its list or was replaced, and is none
+    /// else.
+    ///
+    /// # Examples
+    ///
+    /// ```
+    /// let mut core: Core<u64, u64> = Core::unbounded(rt.alloc());
+    /// let (mut ticket, mut back) = (None, None);
+    /// assert!(rt; core.poll_closed_with(&mut ticket, &mut Some(10), &mut back)?.is_pending());
+    /// assert!(rt; core.poll_closed_with(&mut ticket, &mut Some(11), &mut back)?.is_pending());
+    /// assert_eq!(rt; back, Some(10));
+    /// ```
+    pub fn poll_closed_with(
+        &mut self,
+        t: &mut Option<Ticket>,
+        w: &mut Option<W>,
+        back: &mut Option<W>,
+    ) -> Result<Poll<()>, OutOfMemory>
+        ensures reply { IfOk result (λ poll. poll ≡ closed_poll (self.old.receivers == 0)) }
+        ensures after { OnReady result (self.new ≡ record self.old {
+          closeds = left t.old self.old.closeds;
+        }) }
+        ensures finished { OnReady result (t.new ≡ None) }
+        ensures spare { OnReady result (w.new ≡ w.old) }
+        ensures given_back { OnReady result (back.new ≡ payload_held t.old self.old.closeds) }
+
+        ensures waits { OnWait result (MatchOption w.old
+            ((self.new ≡ self.old) × (t.new ≡ t.old))
+            (λ payload. ClosedWaits t.old self.old payload t.new self.new)) }
+        ensures used { OnWait result (w.new ≡ None) }
+        ensures replaced { OnWait result
+            (back.new ≡ payload_replaced w.old t.old self.old.closeds) }
+
+        ensures unchanged { OnErr result (self.new ≡ self.old) }
+        ensures unpolled { OnErr result (t.new ≡ t.old) }
+        ensures unused { OnErr result ((w.new ≡ w.old) × (back.new ≡ None)) }
+        ensures wanted { OnErr result (ClosedWants t.old self.old) }
+    {
+        *back = None;
         if self.receivers == 0 {
-            leave(&mut self.lists.closeds, t);
+            *back = leave(&mut self.lists.closeds, t);
             return Ok(Poll::Ready(()));
         }
-        wait(&mut self.lists.closeds, t, w)?;
+        *back = wait(&mut self.lists.closeds, t, w)?;
         Ok(Poll::Pending)
     }
 
@@ -231,7 +444,29 @@ impl<T: Drop, W: Drop> Core<T, W> {
             (rung_by_handing_on t.old self.old.sends) bell.new }
         ensures ticket { t.new ≡ None }
     {
-        hand_on(&mut self.lists.sends, t, bell);
+        self.withdraw_send(t, bell);
+    }
+
+    /// `cancel_send`, which gives the payload that the entry held untold.
+    ///
+    /// # Examples
+    ///
+    /// ```
+    /// let mut core: Core<u64, u64> = Core::bounded(rt.alloc(), 1)?;
+    /// let (mut message, mut ticket) = (Some(2), None);
+    /// assert_eq!(rt; core.try_send(1, &mut Quiet)?, Ok(()));
+    /// let poll = core.poll_send(&mut message, &mut ticket, 10, &mut Quiet)?;
+    /// assert!(rt; poll.is_pending());
+    /// assert_eq!(rt; core.withdraw_send(&mut ticket, &mut Quiet), Some(10));
+    /// ```
+    pub fn withdraw_send<B: Bell<W>>(&mut self, t: &mut Option<Ticket>, bell: &mut B) -> Option<W>
+        ensures given_back { result ≡ payload_held t.old self.old.sends }
+        ensures after { self.new ≡ record self.old { sends = handed_on t.old self.old.sends } }
+        ensures rung { RingsEach B.rings bell.old
+            (rung_by_handing_on t.old self.old.sends) bell.new }
+        ensures ticket { t.new ≡ None }
+    {
+        hand_on(&mut self.lists.sends, t, bell)
     }
 
     /// Gives a receive's wait up. A notice that it had goes to the next receive.
@@ -258,7 +493,34 @@ impl<T: Drop, W: Drop> Core<T, W> {
             (rung_by_handing_on t.old self.old.receives) bell.new }
         ensures ticket { t.new ≡ None }
     {
-        hand_on(&mut self.lists.receives, t, bell);
+        self.withdraw_recv(t, bell);
+    }
+
+    /// `cancel_recv`, which gives the payload that the entry held untold.
+    ///
+    /// # Examples
+    ///
+    /// ```
+    /// let mut core: Core<u64, u64> = Core::unbounded(rt.alloc());
+    /// let (mut first, mut second) = (None, None);
+    /// assert!(rt; core.poll_recv(&mut first, 10, &mut Quiet)?.is_pending());
+    /// assert!(rt; core.poll_recv(&mut second, 11, &mut Quiet)?.is_pending());
+    /// assert_eq!(rt; core.try_send(1, &mut Quiet)?, Ok(()));
+    ///
+    /// // The first one was told, and the bell has its payload.
+    /// assert_eq!(rt; core.withdraw_recv(&mut first, &mut Quiet), None);
+    /// assert_eq!(rt; core.told(Group::Receives), 1);
+    /// ```
+    pub fn withdraw_recv<B: Bell<W>>(&mut self, t: &mut Option<Ticket>, bell: &mut B) -> Option<W>
+        ensures given_back { result ≡ payload_held t.old self.old.receives }
+        ensures after { self.new ≡ record self.old {
+          receives = handed_on t.old self.old.receives;
+        } }
+        ensures rung { RingsEach B.rings bell.old
+            (rung_by_handing_on t.old self.old.receives) bell.new }
+        ensures ticket { t.new ≡ None }
+    {
+        hand_on(&mut self.lists.receives, t, bell)
     }
 
     /// Gives a stream's wait up. Streams are told together, so that no notice is handed on.
@@ -276,7 +538,29 @@ impl<T: Drop, W: Drop> Core<T, W> {
         ensures after { self.new ≡ record self.old { streams = left t.old self.old.streams } }
         ensures ticket { t.new ≡ None }
     {
-        leave(&mut self.lists.streams, t);
+        self.withdraw_stream(t);
+    }
+
+    /// `cancel_stream`, which gives the payload that the entry held untold.
+    ///
+    /// Who gives a receiver up and wants the payload back makes this call first, and then
+    /// `drop_receiver` without a ticket.
+    ///
+    /// # Examples
+    ///
+    /// ```
+    /// let mut core: Core<u64, u64> = Core::unbounded(rt.alloc());
+    /// let mut ticket = None;
+    /// assert!(rt; core.poll_next(&mut ticket, 10, &mut Quiet)?.is_pending());
+    /// assert_eq!(rt; core.withdraw_stream(&mut ticket), Some(10));
+    /// assert!(rt; core.drop_receiver(&mut None, &mut Quiet));
+    /// ```
+    pub fn withdraw_stream(&mut self, t: &mut Option<Ticket>) -> Option<W>
+        ensures given_back { result ≡ payload_held t.old self.old.streams }
+        ensures after { self.new ≡ record self.old { streams = left t.old self.old.streams } }
+        ensures ticket { t.new ≡ None }
+    {
+        leave(&mut self.lists.streams, t)
     }
 
     /// Gives a closed operation's wait up. Closed operations are told together, so that no notice
@@ -295,6 +579,25 @@ impl<T: Drop, W: Drop> Core<T, W> {
         ensures after { self.new ≡ record self.old { closeds = left t.old self.old.closeds } }
         ensures ticket { t.new ≡ None }
     {
-        leave(&mut self.lists.closeds, t);
+        self.withdraw_closed(t);
+    }
+
+    /// `cancel_closed`, which gives the payload that the entry held untold.
+    ///
+    /// # Examples
+    ///
+    /// ```
+    /// let mut core: Core<u64, u64> = Core::unbounded(rt.alloc());
+    /// let mut ticket = None;
+    /// assert!(rt; core.poll_closed(&mut ticket, 10)?.is_pending());
+    /// assert_eq!(rt; core.withdraw_closed(&mut ticket), Some(10));
+    /// assert_eq!(rt; core.withdraw_closed(&mut ticket), None);
+    /// ```
+    pub fn withdraw_closed(&mut self, t: &mut Option<Ticket>) -> Option<W>
+        ensures given_back { result ≡ payload_held t.old self.old.closeds }
+        ensures after { self.new ≡ record self.old { closeds = left t.old self.old.closeds } }
+        ensures ticket { t.new ≡ None }
+    {
+        leave(&mut self.lists.closeds, t)
     }
 }

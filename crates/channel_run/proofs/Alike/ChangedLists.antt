@@ -4,13 +4,13 @@ use Rattle.std.specs.Prelude.{is_some}
 use Rattle.std.specs.Option.{option_map}
 use Rattle.std.proofs.lemmas.Bool.{eq-eqb}
 use Rattle.std.proofs.lemmas.List.Folds.{list_any-append}
-use Rattle.event_list.specs.Keys.{AreDifferent, is_among}
+use Rattle.identity.specs.Keys.{AreDifferent, is_among}
 use Rattle.channel_model.specs.Handles.{without}
-use Rattle.channel_model.specs.Operations.{Operation, names_of, finished, with_finished, without_operation}
+use Rattle.channel_model.specs.Operations.{Operation, finished, with_finished, without_operation}
 use Rattle.channel_model.specs.View.{AreSameNames, AreSameOperations}
 use Rattle.channel_model.proofs.NameLists.{length-without}
 use Rattle.channel_model.proofs.LookUps.{look_up, look_up-without, look_up-with_finished, look_up-cons}
-use Rattle.channel_run.proofs.Alike.LiveNames.{is_some-look_up, names_of-without_operation}
+use Rattle.channel_run.proofs.Alike.LiveNames.{is_some-look_up, names_of-without_operation, names_of}
 use Rattle.channel_run.proofs.Alike.SameNames.{is_among-without_is}
 use Rattle.std.proofs.lemmas.List.{length-map}
 use Rattle.channel_run.proofs.Alike.SameOperations.{SameLookUps, length-names_of, look_up-append, look_up-finished_same, look_up-without_same, by_name}

@@ -1,14 +1,14 @@
 -- The names in the live lists of a past that can come about.
-use Rattle.std.proofs.Common.{◌≡◌, ℕ, List, [], ◌∷◌, Bool, true, false, not, ◌||◌, ◌==◌, cond, Some, Option, refl, sym, ◌∙◌, ap, subst}
+use Rattle.std.proofs.Common.{◌≡◌, ℕ, List, [], ◌∷◌, Bool, true, false, not, ◌||◌, ◌==◌, cond, Some, Option, refl, sym, ◌∙◌, ap, subst, map}
 use Rattle.std.specs.Prelude.{is_some}
 use Rattle.futures.specs.declared.task.Poll.TheVariants.{Ready}
 use Rattle.channel_model.specs.declared.step.Kind.{Kind}
 use Rattle.channel_model.specs.declared.step.Step.TheVariants.{CloneSender, CloneReceiver, CloneWeakSender, CloneWeakReceiver, DowngradeSender, DowngradeReceiver, UpgradeSender, UpgradeReceiver, DropSender, DropReceiver, DropWeakSender, DropWeakReceiver, StartSend, StartRecv, StartClosed, Poll, DropOp}
 use Rattle.channel_model.specs.declared.step.Reply.TheVariants.{Upgraded, SendPolled}
-use Rattle.event_list.specs.Keys.{AreDifferent, is_among}
+use Rattle.identity.specs.Keys.{AreDifferent, is_among}
 use Rattle.channel_model.specs.Past.{Past}
-use Rattle.channel_model.specs.Handles.{live_receivers, live_senders, live_weak_receivers, live_weak_senders, without}
-use Rattle.channel_model.specs.Operations.{Operation, finished, live_operations, names_of, with_finished, without_operation}
+use Rattle.channel_model.specs.Handles.{live_names, Receivers, Senders, WeakReceivers, WeakSenders, without}
+use Rattle.channel_model.specs.Operations.{Operation, finished, live_operations, with_finished, without_operation}
 use Rattle.channel_model.specs.Legal.{IsLegal}
 use Rattle.channel_model.proofs.NameLists.{AreDifferent-without}
 use Rattle.channel_model.proofs.LookUps.{look_up, look_up-cons}
@@ -17,18 +17,18 @@ use Rattle.channel_model.proofs.AllowedSteps.{allowed}
 
 -- each sender's name stands once
 pub live_senders-AreDifferent : {T : Type 0} (kind : Kind) (past : Past T) → IsLegal kind past
-    → AreDifferent (live_senders past)
+    → AreDifferent (live_names Senders past)
 live_senders-AreDifferent kind [] legal = (refl, tt)
 live_senders-AreDifferent kind ((CloneSender of new, reply) ∷ past) legal =
     ((allowed (view_of kind past) (CloneSender of new) legal.2).fresh, live_senders-AreDifferent kind past legal.0)
 live_senders-AreDifferent kind ((UpgradeSender of new, Upgraded true) ∷ past) legal =
     ((allowed (view_of kind past) (UpgradeSender of new) legal.2).fresh, live_senders-AreDifferent kind past legal.0)
 live_senders-AreDifferent kind ((DropSender name, reply) ∷ past) legal =
-    AreDifferent-without name (live_senders past) (live_senders-AreDifferent kind past legal.0)
+    AreDifferent-without name (live_names Senders past) (live_senders-AreDifferent kind past legal.0)
 live_senders-AreDifferent kind ((step, reply) ∷ past) legal = live_senders-AreDifferent kind past legal.0
 
 pub live_receivers-AreDifferent : {T : Type 0} (kind : Kind) (past : Past T) → IsLegal kind past
-    → AreDifferent (live_receivers past)
+    → AreDifferent (live_names Receivers past)
 live_receivers-AreDifferent kind [] legal = (refl, tt)
 live_receivers-AreDifferent kind ((CloneReceiver of new, reply) ∷ past) legal =
     ((allowed (view_of kind past) (CloneReceiver of new) legal.2).fresh, live_receivers-AreDifferent kind past legal.0)
@@ -38,11 +38,11 @@ live_receivers-AreDifferent kind ((UpgradeReceiver of new, Upgraded true) ∷ pa
   live_receivers-AreDifferent kind past legal.0,
 )
 live_receivers-AreDifferent kind ((DropReceiver name, reply) ∷ past) legal =
-    AreDifferent-without name (live_receivers past) (live_receivers-AreDifferent kind past legal.0)
+    AreDifferent-without name (live_names Receivers past) (live_receivers-AreDifferent kind past legal.0)
 live_receivers-AreDifferent kind ((step, reply) ∷ past) legal = live_receivers-AreDifferent kind past legal.0
 
 pub live_weak_senders-AreDifferent : {T : Type 0} (kind : Kind) (past : Past T) → IsLegal kind past
-    → AreDifferent (live_weak_senders past)
+    → AreDifferent (live_names WeakSenders past)
 live_weak_senders-AreDifferent kind [] legal = tt
 live_weak_senders-AreDifferent kind ((CloneWeakSender of new, reply) ∷ past) legal = (
   (allowed (view_of kind past)
@@ -55,12 +55,12 @@ live_weak_senders-AreDifferent kind ((DowngradeSender of new, reply) ∷ past) l
   live_weak_senders-AreDifferent kind past legal.0,
 )
 live_weak_senders-AreDifferent kind ((DropWeakSender name, reply) ∷ past) legal =
-    AreDifferent-without name (live_weak_senders past) (live_weak_senders-AreDifferent kind past legal.0)
+    AreDifferent-without name (live_names WeakSenders past) (live_weak_senders-AreDifferent kind past legal.0)
 live_weak_senders-AreDifferent kind ((step, reply) ∷ past) legal = live_weak_senders-AreDifferent kind past legal.0
 
 pub live_weak_receivers-AreDifferent : {T : Type 0} (kind : Kind) (past : Past T)
     → IsLegal kind past
-    → AreDifferent (live_weak_receivers past)
+    → AreDifferent (live_names WeakReceivers past)
 live_weak_receivers-AreDifferent kind [] legal = tt
 live_weak_receivers-AreDifferent kind ((CloneWeakReceiver of new, reply) ∷ past) legal = (
   (allowed (view_of kind past)
@@ -73,10 +73,14 @@ live_weak_receivers-AreDifferent kind ((DowngradeReceiver of new, reply) ∷ pas
   live_weak_receivers-AreDifferent kind past legal.0,
 )
 live_weak_receivers-AreDifferent kind ((DropWeakReceiver name, reply) ∷ past) legal =
-    AreDifferent-without name (live_weak_receivers past) (live_weak_receivers-AreDifferent kind past legal.0)
+    AreDifferent-without name (live_names WeakReceivers past) (live_weak_receivers-AreDifferent kind past legal.0)
 live_weak_receivers-AreDifferent kind ((step, reply) ∷ past) legal = live_weak_receivers-AreDifferent kind past legal.0
 
 -- ---- operations
+
+-- their names
+abbrev pub names_of : {T : Type 0} → List (ℕ × Operation T) → List ℕ
+names_of operations = map (λ entry. entry.0) operations
 
 -- a name has an operation exactly where it is among the names
 pub is_some-look_up : {T : Type 0} (name : ℕ) (operations : List (ℕ × Operation T))

@@ -5,18 +5,28 @@ use Rattle.channel_model.specs.declared.step.Notice.{Notice}
 use Rattle.channel_model.specs.declared.step.Notice.TheVariants.{Absent, Untold, Told}
 use Rattle.channel_model.specs.declared.step.Who.{Who}
 use Rattle.channel_model.specs.declared.step.Who.TheVariants.{Op, Receiver}
-use Rattle.event_list.specs.Keys.{is_among}
+use Rattle.identity.specs.Keys.{is_among}
 use Rattle.channel_model.specs.Past.{Past}
-use Rattle.channel_model.specs.Operations.{Operation, awaiting_close, is_awaiting, is_receive, is_unsent, operation_of, receiving, sending}
+use Rattle.channel_model.specs.Operations.{Operation, awaiting_close, is_awaiting, is_receive, is_unsent, operation_in, operation_of, receiving, sending}
 use Rattle.channel_model.specs.Rosters.{Roster, Rosters, notice_in}
 use Rattle.channel_model.specs.Notices.{notice_of, rosters}
 use Rattle.channel_model.specs.Laws.{AreLive}
 use Rattle.channel_model.specs.View.{View}
 use Rattle.channel_run.specs.StandsFor.{StandsFor}
-use Rattle.channel_run.specs.RunSteps.{notice_of_operation, notice_shown}
 use Rattle.channel_model.proofs.NameLists.{is_among-take}
 use Rattle.channel_model.proofs.LookUps.{look_up}
 use Rattle.channel_model.proofs.WhoWaits.{AreLive-IsLegal}
+
+-- an operation waits in the roster of its kind, if anywhere
+abbrev pub notice_of_operation : {T : Type 0} → Rosters → ℕ → Option (Operation T) → Notice
+notice_of_operation all op None = Absent
+notice_of_operation all op (Some (sending sender message)) = notice_in op all.sends
+notice_of_operation all op (Some (receiving receiver)) = notice_in op all.receives
+notice_of_operation all op (Some (awaiting_close sender)) = notice_in op all.closeds
+
+abbrev pub notice_shown : {T : Type 0} → View T → Who → Notice
+notice_shown run (Op op) = notice_of_operation run.rosters op (operation_in run.operations op)
+notice_shown run (Receiver receiver) = notice_in receiver run.rosters.streams
 
 notice_absent : (name : ℕ) (roster : Roster) → is_among name roster.names ≡ false
     → notice_in name roster ≡ Absent

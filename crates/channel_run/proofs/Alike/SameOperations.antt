@@ -4,11 +4,11 @@ use Rattle.std.specs.Prelude.{is_some}
 use Rattle.std.specs.Option.{option_map}
 use Rattle.std.specs.List.{list_any}
 use Rattle.std.proofs.lemmas.Bool.{eqb-true, eq-eqb}
-use Rattle.event_list.specs.Keys.{AreDifferent, is_among}
-use Rattle.channel_model.specs.Operations.{Operation, finished, names_of, with_finished, without_operation}
+use Rattle.identity.specs.Keys.{AreDifferent, is_among}
+use Rattle.channel_model.specs.Operations.{Operation, finished, with_finished, without_operation}
 use Rattle.channel_model.specs.View.{AreSameNames, AreSameOperations}
 use Rattle.channel_model.proofs.LookUps.{look_up, look_up-cons, look_up-other, look_up-without, look_up-with_finished}
-use Rattle.channel_run.proofs.Alike.LiveNames.{is_some-look_up, names_of-without_operation}
+use Rattle.channel_run.proofs.Alike.LiveNames.{is_some-look_up, names_of-without_operation, names_of}
 use Rattle.channel_run.proofs.Alike.SameNames.{AreSameNames-without, AreDifferent-AreSameNames}
 use Rattle.std.proofs.lemmas.List.{length-map}
 

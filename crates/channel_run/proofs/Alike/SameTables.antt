@@ -12,9 +12,9 @@ use Rattle.channel_model.specs.declared.step.Step.{Step}
 use Rattle.channel_model.specs.declared.step.Step.TheVariants.{TrySend, ForceSend, TryRecv, Close, IsClosed, IsEmpty, IsFull, IsTerminated, Len, SenderCount, ReceiverCount, Capacity, CloneSender, CloneReceiver, CloneWeakSender, CloneWeakReceiver, DowngradeSender, DowngradeReceiver, UpgradeSender, UpgradeReceiver, DropSender, DropReceiver, DropWeakSender, DropWeakReceiver, StartSend, StartRecv, StartClosed, Poll, PollNext, DropOp}
 use Rattle.channel_model.specs.declared.step.Reply.{Reply}
 use Rattle.channel_model.specs.declared.step.Reply.TheVariants.{Count}
-use Rattle.event_list.specs.Keys.{AreDifferent}
+use Rattle.identity.specs.Keys.{AreDifferent}
 use Rattle.channel_model.specs.Past.{Past}
-use Rattle.channel_model.specs.Operations.{Operation, borrows_receiver, borrows_sender, is_finished_send, live_operations, names_of, operation_in, unsent_message}
+use Rattle.channel_model.specs.Operations.{Operation, borrows_receiver, borrows_sender, is_finished_send, live_operations, operation_in, unsent_message}
 use Rattle.channel_model.specs.Closing.{has_none}
 use Rattle.channel_model.specs.Replies.{due_reply, is_full_in, is_pending, poll_reply, reply_in}
 use Rattle.channel_model.specs.Tables.{handle_limit}
@@ -23,7 +23,7 @@ use Rattle.channel_model.specs.Rosters.{Rosters, waits_anywhere}
 use Rattle.channel_model.specs.Memory.{brings_message, makes_name, may_want_memory, may_want_memory_in, polls_newcomer}
 use Rattle.channel_model.specs.View.{AreAlike, View, view_of}
 use Rattle.channel_run.specs.StandsFor.{StandsFor}
-use Rattle.channel_run.proofs.Alike.LiveNames.{live_operations-AreDifferent}
+use Rattle.channel_run.proofs.Alike.LiveNames.{live_operations-AreDifferent, names_of}
 use Rattle.channel_run.proofs.Alike.SameNames.{has_none-same}
 use Rattle.channel_run.proofs.Alike.SameOperations.{AreDifferent-AreSameOperations, list_any-SameLookUps}
 
@@ -60,10 +60,10 @@ module _ {T : Type 0} (view other : View T) (alike : AreAlike view other) where
   reply_in-reordered (SenderCount side) = ap (λ count. Count count) alike.senders.count
   reply_in-reordered (ReceiverCount side) = ap (λ count. Count count) alike.receivers.count
   reply_in-reordered (Poll op) =
-      ap (λ (operation : Option (Operation T)). poll_reply operation other.closed (has_none view.receivers)
-      (is_full_in other) (slice_get other.messages 0)) (alike.operations.each op)
-      ∙ ap (λ none. poll_reply (operation_in other.operations op) other.closed none
-      (is_full_in other) (slice_get other.messages 0)) (has_none-same view.receivers other.receivers alike.receivers)
+      ap (λ (operation : Option (Operation T)). poll_reply other.closed (has_none view.receivers)
+      (is_full_in other) (slice_get other.messages 0) operation) (alike.operations.each op)
+      ∙ ap (λ none. poll_reply other.closed none
+      (is_full_in other) (slice_get other.messages 0) (operation_in other.operations op)) (has_none-same view.receivers other.receivers alike.receivers)
   reply_in-reordered step = refl
 
   pub reply_in-AreAlike : (step : Step T) → reply_in view step ≡ reply_in other step

@@ -25,8 +25,8 @@ pub made-poll_finished_send : {T : Type 0} (run : View T) (op sender : ℕ)
     → operation_in run.operations op ≡ Some (sending sender None) → IsMade run (Poll op) (SendPolled Pending) run
 made-poll_finished_send {T} run op sender p =
     is_made run (Poll op) (SendPolled Pending) run
-    (sym (ap (λ (operation : Option (Operation T)). poll_reply operation run.closed (has_none run.receivers)
-    (is_full_in run) (slice_get run.messages 0)) p))
+    (sym (ap (λ (operation : Option (Operation T)). poll_reply run.closed (has_none run.receivers)
+    (is_full_in run) (slice_get run.messages 0) operation) p))
     (told run run.closed run.closed run.rosters
     (cond (is_finished_send (operation_in run.operations op)) run.rosters
     (record run.rosters { sends = wait op run.rosters.sends })) refl
@@ -46,8 +46,8 @@ made-poll_send_closed {T} run op sender message p c =
       operations = with_finished op run.operations;
       rosters = record run.rosters { sends = leave op run.rosters.sends };
     })
-    (sym (ap (λ (operation : Option (Operation T)). poll_reply operation run.closed (has_none run.receivers)
-    (is_full_in run) (slice_get run.messages 0)) p
+    (sym (ap (λ (operation : Option (Operation T)). poll_reply run.closed (has_none run.receivers)
+    (is_full_in run) (slice_get run.messages 0) operation) p
     ∙ ap (λ closed. poll_send_reply (Some message) closed (is_full_in run)) c))
     (AreAlike-refl (record run {
       operations = with_finished op run.operations;
@@ -61,8 +61,8 @@ pub made-poll_send_full : {T : Type 0} (run : View T) (op sender : ℕ) (message
 made-poll_send_full {T} run op sender message p c f =
     is_made run (Poll op) (SendPolled Pending)
     (record run { rosters = record run.rosters { sends = wait op run.rosters.sends } })
-    (sym (ap (λ (operation : Option (Operation T)). poll_reply operation run.closed (has_none run.receivers)
-    (is_full_in run) (slice_get run.messages 0)) p
+    (sym (ap (λ (operation : Option (Operation T)). poll_reply run.closed (has_none run.receivers)
+    (is_full_in run) (slice_get run.messages 0) operation) p
     ∙ ap (λ closed. poll_send_reply (Some message) closed (is_full_in run)) c
     ∙ ap (λ full. poll_send_reply (Some message) false full) f))
     (told run run.closed run.closed (record run.rosters { sends = wait op run.rosters.sends })
@@ -109,8 +109,8 @@ made-poll_send_accepted {T} run op sender message p c f =
       operations = with_finished op run.operations;
       rosters = accepted_told (record run.rosters { sends = leave op run.rosters.sends });
     })
-    (sym (ap (λ (operation : Option (Operation T)). poll_reply operation run.closed (has_none run.receivers)
-    (is_full_in run) (slice_get run.messages 0)) p
+    (sym (ap (λ (operation : Option (Operation T)). poll_reply run.closed (has_none run.receivers)
+    (is_full_in run) (slice_get run.messages 0) operation) p
     ∙ ap (λ closed. poll_send_reply (Some message) closed (is_full_in run)) c
     ∙ ap (λ full. poll_send_reply (Some message) false full) f))
     (with_message run op message (ap (λ (operation : Option (Operation T)). option_and_then unsent_message operation)
@@ -131,8 +131,8 @@ made-poll_recv_taken {T} run op receiver oldest p o =
       messages = drop 1 run.messages;
       rosters = received_told (record run.rosters { receives = leave op run.rosters.receives });
     })
-    (sym (ap (λ (operation : Option (Operation T)). poll_reply operation run.closed (has_none run.receivers)
-    (is_full_in run) (slice_get run.messages 0)) p ∙ ap (λ (first : Option T). poll_recv_reply first run.closed) o))
+    (sym (ap (λ (operation : Option (Operation T)). poll_reply run.closed (has_none run.receivers)
+    (is_full_in run) (slice_get run.messages 0) operation) p ∙ ap (λ (first : Option T). poll_recv_reply first run.closed) o))
     (AreAlike-refl (record run {
       messages = drop 1 run.messages;
       rosters = received_told (record run.rosters { receives = leave op run.rosters.receives });
@@ -145,8 +145,8 @@ pub made-poll_recv_closed : {T : Type 0} (run : View T) (op receiver : ℕ)
 made-poll_recv_closed {T} run op receiver p c o =
     is_made run (Poll op) (RecvPolled (Ready (Err (record {}))))
     (record run { rosters = record run.rosters { receives = leave op run.rosters.receives } })
-    (sym (ap (λ (operation : Option (Operation T)). poll_reply operation run.closed (has_none run.receivers)
-    (is_full_in run) (slice_get run.messages 0)) p ∙ ap (λ (first : Option T). poll_recv_reply first run.closed) o
+    (sym (ap (λ (operation : Option (Operation T)). poll_reply run.closed (has_none run.receivers)
+    (is_full_in run) (slice_get run.messages 0) operation) p ∙ ap (λ (first : Option T). poll_recv_reply first run.closed) o
     ∙ ap (λ closed. poll_recv_reply None closed) c))
     (AreAlike-refl (record run { rosters = record run.rosters { receives = leave op run.rosters.receives } }))
 
@@ -157,8 +157,8 @@ pub made-poll_recv_pending : {T : Type 0} (run : View T) (op receiver : ℕ)
 made-poll_recv_pending {T} run op receiver p c o =
     is_made run (Poll op) (RecvPolled Pending)
     (record run { rosters = record run.rosters { receives = wait op run.rosters.receives } })
-    (sym (ap (λ (operation : Option (Operation T)). poll_reply operation run.closed (has_none run.receivers)
-    (is_full_in run) (slice_get run.messages 0)) p ∙ ap (λ (first : Option T). poll_recv_reply first run.closed) o
+    (sym (ap (λ (operation : Option (Operation T)). poll_reply run.closed (has_none run.receivers)
+    (is_full_in run) (slice_get run.messages 0) operation) p ∙ ap (λ (first : Option T). poll_recv_reply first run.closed) o
     ∙ ap (λ closed. poll_recv_reply None closed) c))
     (AreAlike-refl (record run { rosters = record run.rosters { receives = wait op run.rosters.receives } }))
 
@@ -171,8 +171,8 @@ pub made-poll_closed_ready : {T : Type 0} (run : View T) (op sender : ℕ)
 made-poll_closed_ready {T} run op sender p none =
     is_made run (Poll op) (ClosedPolled (Ready tt))
     (record run { rosters = record run.rosters { closeds = leave op run.rosters.closeds } })
-    (sym (ap (λ (operation : Option (Operation T)). poll_reply operation run.closed (has_none run.receivers)
-    (is_full_in run) (slice_get run.messages 0)) p ∙ ap (λ none. poll_closed_reply none) none))
+    (sym (ap (λ (operation : Option (Operation T)). poll_reply run.closed (has_none run.receivers)
+    (is_full_in run) (slice_get run.messages 0) operation) p ∙ ap (λ none. poll_closed_reply none) none))
     (AreAlike-refl (record run { rosters = record run.rosters { closeds = leave op run.rosters.closeds } }))
 
 pub made-poll_closed_pending : {T : Type 0} (run : View T) (op sender : ℕ)
@@ -182,8 +182,8 @@ pub made-poll_closed_pending : {T : Type 0} (run : View T) (op sender : ℕ)
 made-poll_closed_pending {T} run op sender p some =
     is_made run (Poll op) (ClosedPolled Pending)
     (record run { rosters = record run.rosters { closeds = wait op run.rosters.closeds } })
-    (sym (ap (λ (operation : Option (Operation T)). poll_reply operation run.closed (has_none run.receivers)
-    (is_full_in run) (slice_get run.messages 0)) p ∙ ap (λ none. poll_closed_reply none) some))
+    (sym (ap (λ (operation : Option (Operation T)). poll_reply run.closed (has_none run.receivers)
+    (is_full_in run) (slice_get run.messages 0) operation) p ∙ ap (λ none. poll_closed_reply none) some))
     (AreAlike-refl (record run { rosters = record run.rosters { closeds = wait op run.rosters.closeds } }))
 
 -- ---- polls of a stream

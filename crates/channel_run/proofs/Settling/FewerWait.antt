@@ -3,7 +3,7 @@ use Rattle.std.proofs.Common.{◌≡◌, ℕ, ◌+◌, ◌≤◌, ◌⊎◌, inl
 use Rattle.std.specs.Prelude.{if◌then◌else◌, MatchOption, slice_get}
 use Rattle.futures.specs.declared.task.Poll.{Poll as Answer}
 use Rattle.futures.specs.declared.task.Poll.TheVariants.{Ready, Pending}
-use Rattle.event_list.specs.Keys.{is_among}
+use Rattle.identity.specs.Keys.{is_among}
 use Rattle.channel_model.specs.declared.errors.RecvError.{RecvError}
 use Rattle.channel_model.specs.declared.errors.SendError.{SendError}
 use Rattle.channel_model.specs.declared.step.Refusal.{Refusal}
@@ -16,16 +16,16 @@ use Rattle.channel_model.specs.declared.step.Who.{Who}
 use Rattle.channel_model.specs.declared.step.Who.TheVariants.{Op, Receiver}
 use Rattle.channel_model.specs.Closing.{has_none}
 use Rattle.channel_model.specs.Messages.{received_by, accepted_by}
-use Rattle.channel_model.specs.Replies.{poll_reply, is_full_in, reply_in}
+use Rattle.channel_model.specs.Replies.{is_ready, poll_reply, is_full_in, reply_in}
 use Rattle.channel_model.specs.Tables.{send_poll, recv_poll, next_poll, closed_poll}
 use Rattle.channel_model.specs.Operations.{Operation, awaiting_close, is_finished_send, operation_in, receiving, sending}
 use Rattle.channel_model.specs.Notices.{after_accepting, after_receiving}
-use Rattle.channel_model.specs.Polling.{told_polls, waiting_in}
+use Rattle.channel_model.specs.Polling.{poll_of, told_polls, waiting_in}
 use Rattle.channel_model.specs.Rosters.{AreSound, Rosters, is_told, leave, wait}
 use Rattle.channel_model.specs.View.{View}
 use Rattle.channel_model.specs.Memory.{may_want_memory_in}
 use Rattle.channel_model.specs.Refusals.{refusal_in}
-use Rattle.channel_run.specs.RunSteps.{IsMade, IsRefused, PollsTo, StepsAsAllowed, StepsTo, is_ready, poll_of, rosters_after}
+use Rattle.channel_run.specs.RunSteps.{IsMade, IsRefused, PollsTo, StepsAsAllowed, StepsTo, rosters_after}
 use Rattle.channel_model.proofs.MeasureFalls.{PollsTold, a_closed, a_receive, a_send, a_stream, leave-told, polls_told, told_among, waiting-accepting, waiting-receiving}
 use Rattle.channel_model.proofs.AnyOrder.{first-Contains}
 use Rattle.channel_model.proofs.Measure.{wait-told}
@@ -131,10 +131,10 @@ module _ {T W : Type 0} (kept : Kept T W) (whole : Whole kept) where
   sound = AreSound-IsWhole kept whole
 
   given : (op : ℕ) (operation : Operation T) → operation_in run.operations op ≡ Some operation
-      → reply_in run (Poll op) ≡ poll_reply (Some operation) run.closed (has_none run.receivers) (is_full_in run)
-      (slice_get run.messages 0)
-  given op operation e = ap (λ (found : Option (Operation T)). poll_reply found run.closed (has_none run.receivers)
-      (is_full_in run) (slice_get run.messages 0)) e
+      → reply_in run (Poll op) ≡ poll_reply run.closed (has_none run.receivers) (is_full_in run)
+      (slice_get run.messages 0) (Some operation)
+  given op operation e = ap (λ (found : Option (Operation T)). poll_reply run.closed (has_none run.receivers)
+      (is_full_in run) (slice_get run.messages 0) found) e
 
   lowers-poll : (op : ℕ) (reply : Reply T) (after : View T)
       → PollsTold {T = T} run.rosters (Poll op)

@@ -15,6 +15,7 @@ use Rattle.channel_run.specs.RunSteps.{after_step}
 use Rattle.channel_model.proofs.Measure.{measure}
 use Rattle.channel_model.proofs.MeasureFalls.{PollsTold, polls_told, measure-falls}
 use Rattle.channel_model.proofs.AnyOrder.{told-allowed, first-Contains, IsFreePolling-IsSettling, EndsWell-IsFreePolling}
+use Rattle.channel_model.proofs.Settling.{nobody_polled}
 use Rattle.channel_run.proofs.Alike.SameTables.{reply_in-StandsFor}
 use Rattle.channel_run.proofs.Steps.LongerPasts.{StandsFor-step}
 
@@ -66,7 +67,7 @@ Settles-IsQuiet {T} kind past polls before run stood settling stands quiet =
       each = settling;
       counted = refl;
       listed = refl;
-      quiet = quiet_now;
+      quiet = nobody_polled (rosters (polls ++ past)) quiet_now;
       settled = ends.settled quiet_now;
       bounded = ends.bounded;
     }

@@ -9,13 +9,13 @@ use Rattle.channel_model.specs.declared.step.Who.TheVariants.{Op, Receiver}
 use Rattle.channel_model.specs.Past.{Past}
 use Rattle.channel_model.specs.Messages.{with_last}
 use Rattle.channel_model.specs.Notices.{rosters}
-use Rattle.channel_model.specs.Polling.{IsQuiet, IsSettling, finished_by, finished_polls, told_polls, waiting_in}
-use Rattle.channel_model.specs.Replies.{due_reply, is_pending}
+use Rattle.channel_model.specs.Polling.{IsQuiet, IsSettling, finished_by, finished_polls, poll_of, told_polls, waiting_in}
+use Rattle.channel_model.specs.Replies.{due_reply, is_pending, is_ready}
 use Rattle.channel_model.specs.Rosters.{Rosters}
 use Rattle.channel_model.specs.View.{View}
 use Rattle.channel_run.specs.Runs.{SettlesTo}
 use Rattle.channel_run.specs.StandsFor.{StandsFor}
-use Rattle.channel_run.specs.RunSteps.{IsMade, PollsTo, after_step, is_ready, poll_of}
+use Rattle.channel_run.specs.RunSteps.{IsMade, PollsTo, after_step}
 use Rattle.channel_model.proofs.AnyOrder.{EndsWell-IsFreePolling, IsFreePolling-IsSettling, first-Contains}
 use Rattle.channel_model.proofs.MeasureFalls.{PollsTold, polls_told}
 use Rattle.channel_run.proofs.Alike.SameTables.{reply_in-StandsFor}

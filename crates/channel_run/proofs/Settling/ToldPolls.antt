@@ -3,7 +3,7 @@ use Rattle.std.proofs.Common.{◌≡◌, ℕ, ◌<◌, ◌⊎◌, inl, inr, List
 use Rattle.std.specs.Prelude.{MatchOption, is_none, is_some, option_and_then}
 use Rattle.futures.specs.declared.task.Poll.{Poll as Answer}
 use Rattle.futures.specs.declared.task.Poll.TheVariants.{Ready, Pending}
-use Rattle.event_list.specs.Keys.{is_among}
+use Rattle.identity.specs.Keys.{is_among}
 use Rattle.channel_model.specs.declared.step.Kind.{Kind}
 use Rattle.channel_model.specs.declared.step.Kind.TheVariants.{Bounded, Unbounded}
 use Rattle.channel_model.specs.declared.step.Refusal.{Refusal}
@@ -14,8 +14,8 @@ use Rattle.channel_model.specs.declared.step.Reply.TheVariants.{SendPolled, Recv
 use Rattle.channel_model.specs.declared.step.Who.{Who}
 use Rattle.channel_model.specs.declared.step.Who.TheVariants.{Op, Receiver}
 use Rattle.channel_model.specs.Past.{Past}
-use Rattle.channel_model.specs.Capacity.{capacity_of, is_full}
-use Rattle.channel_model.specs.Handles.{live_receivers}
+use Rattle.channel_model.specs.Capacity.{capacity_of}
+use Rattle.channel_model.specs.Handles.{live_names, Receivers}
 use Rattle.channel_model.specs.Closing.{is_closed, has_none}
 use Rattle.channel_model.specs.Legal.{IsLegal}
 use Rattle.channel_model.specs.Memory.{may_want_memory, polls_newcomer, may_want_memory_in}
@@ -23,16 +23,18 @@ use Rattle.channel_model.specs.Messages.{oldest_message}
 use Rattle.channel_model.specs.Notices.{rosters}
 use Rattle.channel_model.specs.Operations.{Operation, awaiting_close, is_awaiting, is_finished_send, is_receive, message_of, operation_of, receiving, sending, unsent_message}
 use Rattle.channel_model.specs.Refusals.{refusal_of, refusal_in}
-use Rattle.channel_model.specs.Replies.{due_reply, is_pending, poll_reply}
+use Rattle.channel_model.specs.Polling.{poll_of}
+use Rattle.channel_model.specs.Replies.{due_reply, is_pending, is_ready, poll_reply}
 use Rattle.channel_model.specs.Rosters.{Rosters, waits_anywhere}
 use Rattle.channel_model.specs.View.{View, view_of}
 use Rattle.channel_run.specs.StandsFor.{StandsFor}
-use Rattle.channel_run.specs.RunSteps.{IsMade, IsRefused, PollsTo, StepsAsAllowed, StepsTo, is_ready, poll_of}
+use Rattle.channel_run.specs.RunSteps.{IsMade, IsRefused, PollsTo, StepsAsAllowed, StepsTo}
 use Rattle.channel_model.proofs.AnyOrder.{known_if, told-allowed}
 use Rattle.channel_model.proofs.MeasureFalls.{PollsTold, a_closed, a_receive, a_send, a_stream, told_among}
 use Rattle.channel_model.proofs.CoveredPasts.{IsCovered-IsLegal}
 use Rattle.channel_run.proofs.Alike.SameTables.{may_want_memory_in-StandsFor, refusal_in-StandsFor}
 use Rattle.channel_model.proofs.WhoWaits.{AreLive-IsLegal}
+use Rattle.channel_model.proofs.ReplyForms.{is_full}
 
 -- ---- it wants no memory
 
@@ -158,7 +160,7 @@ module _ {T : Type 0} (kind : Kind) (past : Past T) (legal : IsLegal kind past) 
   next_answered Pending = refl
 
   poll_answered : (operation : Option (Operation T)) (closed no_receiver full : Bool) (oldest : Option T)
-      → is_some operation ≡ true → Answered (poll_reply operation closed no_receiver full oldest)
+      → is_some operation ≡ true → Answered (poll_reply closed no_receiver full oldest operation)
   poll_answered None closed no_receiver full oldest known = cc
   poll_answered (Some (sending sender message)) closed no_receiver full oldest known = send_answered _
   poll_answered (Some (receiving receiver)) closed no_receiver full oldest known = recv_answered _
@@ -185,7 +187,7 @@ module _ {T : Type 0} (kind : Kind) (past : Past T) (legal : IsLegal kind past) 
 
   pub due_answered : (who : Who) → PollsTold {T = T} (rosters past) (poll_of who)
       → Answered (due_reply kind past (poll_of who))
-  due_answered (Op op) told = poll_answered (operation_of past op) (is_closed past) (has_none (live_receivers past))
+  due_answered (Op op) told = poll_answered (operation_of past op) (is_closed past) (has_none (live_names Receivers past))
       (is_full kind past) (oldest_message past) (known_told op told)
   due_answered (Receiver receiver) told = next_answered _
 

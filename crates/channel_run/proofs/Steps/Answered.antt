@@ -11,15 +11,23 @@ use Rattle.channel_model.specs.Past.{Past}
 use Rattle.channel_model.specs.Replies.{due_reply}
 use Rattle.channel_model.specs.Refusals.{refusal_of, refusal_in}
 use Rattle.channel_model.specs.Memory.{may_want_memory, may_want_memory_in}
-use Rattle.channel_model.specs.Answers.{IsAnswer, message_in, past_after}
+use Rattle.channel_model.specs.Messages.{message_in}
+use Rattle.channel_model.specs.Answers.{IsAnswer, past_after, refused_or}
 use Rattle.channel_model.specs.Legal.{IsAllowed}
 use Rattle.channel_model.specs.View.{View, view_of}
 use Rattle.channel_run.specs.StandsFor.{StandsFor}
-use Rattle.channel_run.specs.RunSteps.{Answers, IsMade, IsRefused, StepsTo, after_step}
+use Rattle.channel_run.specs.RunSteps.{IsMade, IsRefused, StepsTo, after_step}
 use Rattle.channel_model.proofs.LegalAnswers.{due-longer, allowed_if_none}
 use Rattle.channel_run.proofs.Alike.SameTables.{reply_in-StandsFor, refusal_in-StandsFor, may_want_memory_in-StandsFor}
 use Rattle.channel_run.proofs.Steps.LongerPasts.{allowed_step, StandsFor-step}
 use Rattle.channel_run.proofs.Alike.SameViews.{StandsFor-AreAlike}
+
+-- What a run promises of a step, after a past that stands for it: the reply is an answer, and the
+-- past after it stands for the run after it.
+pub record Answers {T : Type 0} (kind : Kind) (past : Past T) (step : Step T) (reply : Reply T)
+    (after : View T) : Type 0 where
+  pub answer : IsAnswer kind past step reply
+  pub stands : StandsFor kind (past_after past step reply) after
 
 -- A step that was made: the past longer by it stands for the run after it.
 pub StandsFor-IsMade : {T : Type 0} (kind : Kind) (past : Past T) (before after : View T) (step : Step T)
@@ -60,9 +68,8 @@ Answers-StepsTo {T} kind past before after step reply stands steps = go (refusal
         (λ refusal. IsRefused before step refusal reply after)
 
     answers : Option Refusal → Type 0
-    answers found = MatchOption found ((reply ≡ due_reply kind past step)
-        ⊎ ((may_want_memory kind past step ≡ true) × (reply ≡ Refused OutOfMemory (message_in step))))
-        (λ refusal. reply ≡ Refused refusal (message_in step))
+    answers found = (reply ≡ refused_or found step (due_reply kind past step))
+        ⊎ ((may_want_memory kind past step ≡ true) × (reply ≡ Refused OutOfMemory (message_in step)))
 
     same : (found : Option Refusal) → refusal_in before step ≡ found → answers found
         → IsAnswer kind past step reply
@@ -72,7 +79,7 @@ Answers-StepsTo {T} kind past before after step reply stands steps = go (refusal
     go : (found : Option Refusal) → refusal_in before step ≡ found → Cases found
         → Answers kind past step reply after
     go (Some refusal) e is = record {
-      answer = same (Some refusal) e is.replied;
+      answer = same (Some refusal) e (inl is.replied);
       stands = refused kind past before after step refusal reply stands is;
     }
     go None e (inl is) = record {

@@ -7,10 +7,10 @@ use Rattle.channel_model.specs.declared.step.Step.{Step}
 use Rattle.channel_model.specs.declared.step.Step.TheVariants.{Close, CloneSender, CloneReceiver, CloneWeakSender, CloneWeakReceiver, DowngradeSender, DowngradeReceiver, UpgradeSender, UpgradeReceiver, DropSender, DropReceiver, DropWeakSender, DropWeakReceiver, StartSend, StartRecv, StartClosed, Poll, PollNext, DropOp}
 use Rattle.channel_model.specs.declared.step.Reply.{Reply}
 use Rattle.channel_model.specs.declared.step.Reply.TheVariants.{Upgraded, SendPolled}
-use Rattle.event_list.specs.Keys.{is_among, AreDifferent}
+use Rattle.identity.specs.Keys.{is_among, AreDifferent}
 use Rattle.channel_model.specs.Past.{Past}
-use Rattle.channel_model.specs.Handles.{live_receivers, live_senders, live_weak_receivers, live_weak_senders, senders_after, receivers_after, weak_senders_after, weak_receivers_after}
-use Rattle.channel_model.specs.Operations.{Operation, awaiting_close, is_finished_send, live_operations, receiving, sending, unsent_message, names_of, operations_after}
+use Rattle.channel_model.specs.Handles.{live_names, Receivers, Senders, WeakReceivers, WeakSenders, names_after}
+use Rattle.channel_model.specs.Operations.{Operation, awaiting_close, is_finished_send, live_operations, receiving, sending, unsent_message, operations_after}
 use Rattle.channel_model.specs.Messages.{accepted_by, held_messages, received_by, taken_by, with_last}
 use Rattle.channel_model.specs.Closing.{closed_after, has_none, is_close, is_closed}
 use Rattle.channel_model.specs.Replies.{due_reply, reply_in}
@@ -28,7 +28,7 @@ use Rattle.channel_model.proofs.HeldMessages.{held_messages-after}
 use Rattle.channel_model.proofs.CoveredPasts.{IsCovered-IsLegal}
 use Rattle.channel_model.proofs.Unchanged.{is_closed-kept, after_closing-kept, after_last_receiver-kept}
 use Rattle.channel_model.proofs.AllowedSteps.{Allowed, allowed, known_if_borrowed}
-use Rattle.channel_run.proofs.Alike.LiveNames.{live_senders-AreDifferent, live_receivers-AreDifferent, live_weak_senders-AreDifferent, live_weak_receivers-AreDifferent, live_operations-AreDifferent}
+use Rattle.channel_run.proofs.Alike.LiveNames.{live_senders-AreDifferent, live_receivers-AreDifferent, live_weak_senders-AreDifferent, live_weak_receivers-AreDifferent, live_operations-AreDifferent, names_of}
 use Rattle.channel_run.proofs.Alike.SameNames.{AreSameNames-first, AreSameNames-without, has_none-same}
 use Rattle.channel_run.proofs.Alike.SameOperations.{AreSameOperations-first, AreSameOperations-finished, AreSameOperations-without}
 use Rattle.channel_run.proofs.Alike.SameTables.{reply_in-StandsFor}
@@ -62,28 +62,28 @@ messages-step {T} kind past run step reply stands =
 module _ {T : Type 0} (names others : List ℕ) (once : AreDifferent others)
     (same : AreSameNames names others) where
   senders_after-same : (step : Step T) (reply : Reply T)
-      → AreSameNames (senders_after step reply names) (senders_after step reply others)
+      → AreSameNames (names_after Senders step reply names) (names_after Senders step reply others)
   senders_after-same (CloneSender of new) reply = AreSameNames-first names others new same
   senders_after-same (UpgradeSender of new) (Upgraded true) = AreSameNames-first names others new same
   senders_after-same (DropSender name) reply = AreSameNames-without names others name once same
   senders_after-same step reply = same
 
   receivers_after-same : (step : Step T) (reply : Reply T)
-      → AreSameNames (receivers_after step reply names) (receivers_after step reply others)
+      → AreSameNames (names_after Receivers step reply names) (names_after Receivers step reply others)
   receivers_after-same (CloneReceiver of new) reply = AreSameNames-first names others new same
   receivers_after-same (UpgradeReceiver of new) (Upgraded true) = AreSameNames-first names others new same
   receivers_after-same (DropReceiver name) reply = AreSameNames-without names others name once same
   receivers_after-same step reply = same
 
   weak_senders_after-same : (step : Step T) (reply : Reply T)
-      → AreSameNames (weak_senders_after step reply names) (weak_senders_after step reply others)
+      → AreSameNames (names_after WeakSenders step reply names) (names_after WeakSenders step reply others)
   weak_senders_after-same (CloneWeakSender of new) reply = AreSameNames-first names others new same
   weak_senders_after-same (DowngradeSender of new) reply = AreSameNames-first names others new same
   weak_senders_after-same (DropWeakSender name) reply = AreSameNames-without names others name once same
   weak_senders_after-same step reply = same
 
   weak_receivers_after-same : (step : Step T) (reply : Reply T)
-      → AreSameNames (weak_receivers_after step reply names) (weak_receivers_after step reply others)
+      → AreSameNames (names_after WeakReceivers step reply names) (names_after WeakReceivers step reply others)
   weak_receivers_after-same (CloneWeakReceiver of new) reply = AreSameNames-first names others new same
   weak_receivers_after-same (DowngradeReceiver of new) reply = AreSameNames-first names others new same
   weak_receivers_after-same (DropWeakReceiver name) reply = AreSameNames-without names others name once same
@@ -125,42 +125,42 @@ senders_stay false (first ∷ senders) some = refl
 -- A step that may close does to a run what it does after the past, with names in any order.
 module _ {T : Type 0} (kind : Kind) (past : Past T) (run : View T) (step : Step T) (reply : Reply T)
     (stands : StandsFor kind past run) where
-  same_senders : has_none (senders_after step reply run.senders) ≡ has_none (live_senders ((step, reply) ∷ past))
-  same_senders = has_none-same (senders_after step reply run.senders) (senders_after step reply (live_senders past))
-      (senders_after-same run.senders (live_senders past)
+  same_senders : has_none (names_after Senders step reply run.senders) ≡ has_none (live_names Senders ((step, reply) ∷ past))
+  same_senders = has_none-same (names_after Senders step reply run.senders) (names_after Senders step reply (live_names Senders past))
+      (senders_after-same run.senders (live_names Senders past)
       (live_senders-AreDifferent kind past stands.legal) stands.shows.senders step reply)
 
-  same_receivers : has_none (receivers_after step reply run.receivers)
-      ≡ has_none (live_receivers ((step, reply) ∷ past))
+  same_receivers : has_none (names_after Receivers step reply run.receivers)
+      ≡ has_none (live_names Receivers ((step, reply) ∷ past))
   same_receivers =
-      has_none-same (receivers_after step reply run.receivers) (receivers_after step reply (live_receivers past))
-      (receivers_after-same run.receivers (live_receivers past)
+      has_none-same (names_after Receivers step reply run.receivers) (names_after Receivers step reply (live_names Receivers past))
+      (receivers_after-same run.receivers (live_names Receivers past)
       (live_receivers-AreDifferent kind past stands.legal) stands.shows.receivers step reply)
 
-  closed_after-same : closed_after run.closed step (senders_after step reply run.senders)
-      (receivers_after step reply run.receivers) ≡ is_closed ((step, reply) ∷ past)
+  closed_after-same : closed_after run.closed step (names_after Senders step reply run.senders)
+      (names_after Receivers step reply run.receivers) ≡ is_closed ((step, reply) ∷ past)
   closed_after-same =
-      ap (λ before. closed_after before step (senders_after step reply run.senders)
-      (receivers_after step reply run.receivers)) stands.shows.closed
+      ap (λ before. closed_after before step (names_after Senders step reply run.senders)
+      (names_after Receivers step reply run.receivers)) stands.shows.closed
       ∙ ap (λ none. ((is_closed past || is_close step) || none)
-      || has_none (receivers_after step reply run.receivers)) same_senders
-      ∙ ap (λ none. ((is_closed past || is_close step) || has_none (live_senders ((step, reply) ∷ past))) || none)
+      || has_none (names_after Receivers step reply run.receivers)) same_senders
+      ∙ ap (λ none. ((is_closed past || is_close step) || has_none (live_names Senders ((step, reply) ∷ past))) || none)
       same_receivers
 
   ending-same : (all : Rosters) → after_ending run.closed
-      (closed_after run.closed step (senders_after step reply run.senders)
-      (receivers_after step reply run.receivers)) run.receivers (receivers_after step reply run.receivers) all
-      ≡ after_ending (is_closed past) (is_closed ((step, reply) ∷ past)) (live_receivers past)
-      (live_receivers ((step, reply) ∷ past)) all
+      (closed_after run.closed step (names_after Senders step reply run.senders)
+      (names_after Receivers step reply run.receivers)) run.receivers (names_after Receivers step reply run.receivers) all
+      ≡ after_ending (is_closed past) (is_closed ((step, reply) ∷ past)) (live_names Receivers past)
+      (live_names Receivers ((step, reply) ∷ past)) all
   ending-same all =
-      ap (λ now. after_ending run.closed now run.receivers (receivers_after step reply run.receivers) all)
+      ap (λ now. after_ending run.closed now run.receivers (names_after Receivers step reply run.receivers) all)
       closed_after-same
       ∙ ap (λ before. after_ending before (is_closed ((step, reply) ∷ past)) run.receivers
-      (receivers_after step reply run.receivers) all) stands.shows.closed
-      ∙ ap (λ none. after_last_receiver none (has_none (receivers_after step reply run.receivers))
+      (names_after Receivers step reply run.receivers) all) stands.shows.closed
+      ∙ ap (λ none. after_last_receiver none (has_none (names_after Receivers step reply run.receivers))
       (after_closing (is_closed past) (is_closed ((step, reply) ∷ past)) all))
-      (has_none-same run.receivers (live_receivers past) stands.shows.receivers)
-      ∙ ap (λ none. after_last_receiver (has_none (live_receivers past)) none
+      (has_none-same run.receivers (live_names Receivers past) stands.shows.receivers)
+      ∙ ap (λ none. after_last_receiver (has_none (live_names Receivers past)) none
       (after_closing (is_closed past) (is_closed ((step, reply) ∷ past)) all)) same_receivers
 
 closed-step : {T : Type 0} (kind : Kind) (past : Past T) (run : View T) (step : Step T) (reply : Reply T)
@@ -173,13 +173,13 @@ closed-step kind past run (DropSender name) reply stands covered =
 closed-step kind past run (DropReceiver name) reply stands covered =
     closed_after-same kind past run (DropReceiver name) reply stands
 closed-step kind past run (CloneSender of new) reply stands covered = stands.shows.closed
-    ∙ receivers_stay (is_closed past) (live_receivers past) covered.open_receivers
+    ∙ receivers_stay (is_closed past) (live_names Receivers past) covered.open_receivers
 closed-step kind past run (UpgradeSender of new) (Upgraded true) stands covered = stands.shows.closed
-    ∙ receivers_stay (is_closed past) (live_receivers past) covered.open_receivers
+    ∙ receivers_stay (is_closed past) (live_names Receivers past) covered.open_receivers
 closed-step kind past run (CloneReceiver of new) reply stands covered = stands.shows.closed
-    ∙ senders_stay (is_closed past) (live_senders past) covered.open_senders
+    ∙ senders_stay (is_closed past) (live_names Senders past) covered.open_senders
 closed-step kind past run (UpgradeReceiver of new) (Upgraded true) stands covered = stands.shows.closed
-    ∙ senders_stay (is_closed past) (live_senders past) covered.open_senders
+    ∙ senders_stay (is_closed past) (live_names Senders past) covered.open_senders
 closed-step kind past run step reply stands covered = stands.shows.closed
     ∙ sym (is_closed-kept kind past step reply covered refl refl refl)
 
@@ -207,7 +207,7 @@ some_if_positive (first ∷ names) some = refl
 Closing : {T : Type 0} → Past T → View T → Step T → Reply T → Rosters → Type 0
 Closing past run step reply all =
     ending_in run step reply all ≡ after_ending (is_closed past) (is_closed ((step, reply) ∷ past))
-    (live_receivers past) (live_receivers ((step, reply) ∷ past)) all
+    (live_names Receivers past) (live_names Receivers ((step, reply) ∷ past)) all
 
 -- neither the one nor the other changed
 nothing_told : (none_before none_now closed_before closed_now : Bool) (all : Rosters)
@@ -226,7 +226,7 @@ upgrade_receiver-closing {T} kind past run of new true all c stands covered =
     nothing_told _ _ (is_closed past) _ all refl
     (sym (closed-step kind past run (UpgradeReceiver of new) (Upgraded false) stands covered) ∙ stands.shows.closed)
 upgrade_receiver-closing {T} kind past run of new false all c stands covered =
-    nothing_told _ _ (is_closed past) _ all (sym (some_if_positive (live_receivers past) (covered.open_receivers c)))
+    nothing_told _ _ (is_closed past) _ all (sym (some_if_positive (live_names Receivers past) (covered.open_receivers c)))
     (sym (closed-step kind past run (UpgradeReceiver of new) (Upgraded true) stands covered) ∙ stands.shows.closed)
 
 closing-step : {T : Type 0} (kind : Kind) (past : Past T) (run : View T) (step : Step T) (all : Rosters)
@@ -240,7 +240,7 @@ closing-step kind past run (DropSender name) all stands covered may =
 closing-step kind past run (DropReceiver name) all stands covered may =
     ending-same kind past run (DropReceiver name) (due_reply kind past (DropReceiver name)) stands all
 closing-step kind past run (CloneReceiver of new) all stands covered may =
-    nothing_told _ _ (is_closed past) _ all (sym (some_among of (live_receivers past) may.known))
+    nothing_told _ _ (is_closed past) _ all (sym (some_among of (live_names Receivers past) may.known))
     (sym (closed-step kind past run (CloneReceiver of new)
     (due_reply kind past (CloneReceiver of new)) stands covered) ∙ stands.shows.closed)
 closing-step kind past run (UpgradeReceiver of new) all stands covered may =
@@ -291,13 +291,13 @@ due-step kind past run step stands may =
         capacity = stands.shows.capacity;
         messages = messages-step kind past run step due stands;
         closed = closed-step kind past run step due stands covered;
-        senders = senders_after-same run.senders (live_senders past)
+        senders = senders_after-same run.senders (live_names Senders past)
             (live_senders-AreDifferent kind past stands.legal) stands.shows.senders step due;
-        receivers = receivers_after-same run.receivers (live_receivers past)
+        receivers = receivers_after-same run.receivers (live_names Receivers past)
             (live_receivers-AreDifferent kind past stands.legal) stands.shows.receivers step due;
-        weak_senders = weak_senders_after-same run.weak_senders (live_weak_senders past)
+        weak_senders = weak_senders_after-same run.weak_senders (live_names WeakSenders past)
             (live_weak_senders-AreDifferent kind past stands.legal) stands.shows.weak_senders step due;
-        weak_receivers = weak_receivers_after-same run.weak_receivers (live_weak_receivers past)
+        weak_receivers = weak_receivers_after-same run.weak_receivers (live_names WeakReceivers past)
             (live_weak_receivers-AreDifferent kind past stands.legal) stands.shows.weak_receivers step due;
         operations = operations_after-same run.operations (live_operations past) step due
             (live_operations-AreDifferent kind past stands.legal) stands.shows.operations;

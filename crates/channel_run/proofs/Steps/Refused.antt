@@ -9,7 +9,7 @@ use Rattle.channel_model.specs.declared.step.Reply.TheVariants.{Refused}
 use Rattle.channel_model.specs.Replies.{is_pending, reply_in}
 use Rattle.channel_model.specs.Refusals.{is_borrowed, is_known, is_one_too_many, is_taken, refusal_in}
 use Rattle.channel_model.specs.Memory.{brings_message, makes_name, may_want_memory_in, polls_newcomer}
-use Rattle.channel_model.specs.Answers.{message_in}
+use Rattle.channel_model.specs.Messages.{message_in}
 use Rattle.channel_model.specs.View.{View}
 use Rattle.channel_run.specs.RunSteps.{IsMade, IsRefused, StepsAsAllowed, StepsTo}
 use Rattle.channel_run.proofs.Steps.Wanting.{wants-wait}

@@ -4,7 +4,7 @@ use Rattle.std.specs.Prelude.{is_some}
 use Rattle.std.specs.Map.{keys_of}
 use Rattle.std.proofs.lemmas.Bool.{eq-eqb, eqb-true, false≢true, ne_eqb}
 use Rattle.std.proofs.lemmas.List.{length-map}
-use Rattle.event_list.specs.Keys.{AreDifferent, is_among}
+use Rattle.identity.specs.Keys.{AreDifferent, is_among}
 use Rattle.channel_run.specs.declared.operations.Operation.{Operation as Started}
 use Rattle.channel_core.specs.Channel.{Channel, ending, receiver_dropped_by, unchanged}
 use Rattle.channel_core.specs.Tickets.{left}
@@ -16,7 +16,7 @@ use Rattle.channel_run.proofs.Outcomes.Tellings.{closed_told, ended_told, own_le
 use Rattle.channel_run.proofs.Outcomes.Handles.{made-drop_last_receiver, made-drop_last_receiver_closed, made-drop_receiver}
 use Rattle.channel_run.proofs.Outcomes.Operations.{made-drop_op}
 use Rattle.channel_model.specs.Handles.{without}
-use Rattle.channel_model.specs.Operations.{names_of, without_operation}
+use Rattle.channel_model.specs.Operations.{without_operation}
 use Rattle.channel_model.specs.Rosters.{Rosters, hand_on, leave}
 use Rattle.channel_model.specs.declared.step.Reply.{Reply}
 use Rattle.channel_model.specs.declared.step.Reply.TheVariants.{Done}
@@ -33,6 +33,7 @@ use Rattle.channel_run.proofs.Tables.ShownOperations.{operations_shown, shown-he
 use Rattle.channel_run.proofs.Tables.Kept.{Kept, Whole, rosters_by, shown_by}
 use Rattle.channel_run.specs.RunShown.{dropped}
 use Rattle.channel_run.proofs.Tables.OneTicket.{held-handed_on, held-left}
+use Rattle.channel_run.proofs.Alike.LiveNames.{names_of}
 
 -- ---- a receiver is given up
 

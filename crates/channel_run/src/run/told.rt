@@ -3,7 +3,8 @@ ghost use Rattle.std.specs.Prelude.{◌≡◌, ◌+◌, ◌^◌, ◌<◌, ◌≤
 ghost use Rattle.std.specs.Vec.{vec_capacity};
 ghost use Rattle.channel_model.specs.Polling.{waiting_in};
 ghost use Rattle.channel_model.specs.Rosters.{told_names};
-ghost use Rattle.channel_run.specs.RunSteps.{is_ready, roster_in, IsNext, PollsTo};
+ghost use Rattle.channel_model.specs.Replies.{is_ready};
+ghost use Rattle.channel_run.specs.RunSteps.{roster_in, IsNext, PollsTo};
 
 use crate::holders::Holders;
 use crate::run::Run;
@@ -69,7 +70,7 @@ impl<T: Drop> Run<T> {
     fn waiting(&self) -> usize
         ensures { result ≡ waiting_in self.now.rosters }
     {
-        // no more wait than have names, so the sum fits
+        // proof: no more wait than have names, so that the sum fits
         let _operations = self.operations.by_name.len();
         let _receivers = self.receivers.len();
         self.core.waiting(Group::Sends)

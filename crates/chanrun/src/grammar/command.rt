@@ -21,7 +21,7 @@ use channel_model::{Step, Who};
 /// assert_eq!(rt; command, Ok(Command::Notice(Who::Receiver(0))));
 /// assert_eq!(rt; command_of(rt.alloc(), b"settle".as_slice())?, Ok(Command::Settle));
 /// ```
-#[derive(Debug, Drop, PartialEq, Eq)]
+#[derive(Clone, Copy, Debug, PartialEq, Eq)]
 pub enum Command {
     /// A step by some party.
     Make(Step<u64>),

@@ -1,5 +1,5 @@
 //! Lines: where each ends, its words, and what the first line and the others ask for.
-ghost use Rattle.std.specs.Prelude.{◌≡◌, ◌<◌, ◌==◌, ◌∷◌, length, map, position, IfOk};
+ghost use Rattle.std.specs.Prelude.{◌≡◌, ◌<◌, ◌≤◌, ◌==◌, ◌∷◌, length, map, position, IfOk};
 ghost use Rattle.std.specs.List.{slice_split};
 ghost use Rattle.channel_model.specs.Capacity.{HasPositiveCapacity};
 ghost use Rattle.chanrun.specs.Grammar.{lines_of, word_of, command_of, kind_of};
@@ -65,6 +65,29 @@ pub fn split_line(bytes: &[u8]) -> (&[u8], &[u8])
         Some(end) => (&bytes[..end], &bytes[end + 1..]),
         None => (bytes, &[]),
     }
+}
+
+/// The lines without their ends.
+///
+/// # Examples
+///
+/// ```
+/// let lines = lines_of(rt.alloc(), b"unbounded\nlen s0".as_slice())?;
+/// assert_eq!(rt; lines.len(), 2);
+/// assert_eq!(rt; lines[1], b"len s0".as_slice());
+/// ```
+pub fn lines_of(alloc: Global, bytes: &[u8]) -> Result<Vec<&[u8]>, AllocError>
+    ensures lines { IfOk result (λ lines. map (λ line. line.now) lines.items ≡ lines_of bytes.now) }
+    ensures few { IfOk result (λ lines. length lines.items ≤ length bytes.now) }
+{
+    let mut lines = Vec::new(alloc);
+    let mut rest = bytes;
+    while !rest.is_empty() {
+        let (line, others) = split_line(rest);
+        lines.push(line)?;
+        rest = others;
+    }
+    Ok(lines)
 }
 
 /// What a line behind the first one asks for, or its first fault.

@@ -1,7 +1,7 @@
 use Rattle.std.proofs.Common.{◌≡◌, ℕ, List, ◌++◌, length}
 use Rattle.std.specs.List.{flat_map}
 use Rattle.std.specs.Vec.Iter.{into_iter_items, into_iter_len}
-use Rattle.chandraw.specs.Pieces.{text_line}
+use Rattle.chanrun.specs.Replayed.{text_line}
 use Rattle.chandraw.specs.Picture.{AreRows}
 use Rattle.chandraw.proofs.draw.add_rows.Given as goal
 

@@ -5,4 +5,4 @@ use Rattle.chanexplore.proofs.plan.prepare_all.Goals as goal
 pub loop-command-preserved : goal.loop-command-preserved
 loop-command-preserved c =
     let i = c.loop-command.invariant in
-    (_, c.in_ok-prepare.ensures c.args.kind i.0 i.1, one_prepared c.args.kind i.0 c.args.before.now c.loop-command.command-index _ c.loop-command-test.true ∙ i.2)
+    (_, (c.in_ok-_answer.ensures c.args.kind i.0 i.1).1, one_prepared c.args.kind i.0 c.args.before.now c.loop-command.command-index _ c.loop-command-test.true ∙ i.2)

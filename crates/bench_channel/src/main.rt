@@ -1,0 +1,126 @@
+//! Measures what a waiting list, a channel and a map by many threads cost.
+//!
+//! | Arguments | What is printed |
+//! |---|---|
+//! | `measure` | each of the three tables |
+//! | `measure waiters`, `measure channel`, `measure map` | one of them |
+//! | a name and digits | the rows of those groups as fields between tabs, for a program that compares several channels |
+//! | others | one line |
+//!
+//! | Group | Rows |
+//! |---|---|
+//! | 1 | a message in and out at once, and the same on a locked queue alone |
+//! | 2 | many messages in, and then out |
+//! | 3 | one thread to one, and there and back |
+//! | 4 | four threads to four |
+//! | 5 | tasks on an executor |
+//! | 6 | a copied handle, and the number of messages |
+#![tactic(auto)]
+
+mod job;
+mod maps;
+mod memory;
+mod one_thread;
+mod report;
+mod tasks;
+mod threads;
+mod waiters;
+mod ways;
+
+use anyhow::Result;
+use report::Form;
+use std::alloc::AllocGlobal;
+use std::env;
+use std::random::RandomSource;
+use std::rt::{Clock, Env, Files};
+use std::sync::Wait;
+use std::thread::Threads;
+
+/// Prints the rows of the groups whose digits stand in a text.
+fn measure<R>(rt: &R, form: Form<'_>, groups: &str) -> Result<()>
+where
+    R: Threads + Wait + Clone + Drop + AllocGlobal + Clock + RandomSource + Print + Send + Sync,
+{
+    if groups.contains('1') {
+        one_thread::pairs(rt, form)?;
+    }
+    if groups.contains('2') {
+        one_thread::fills(rt, form)?;
+    }
+    if groups.contains('3') {
+        threads::singles(rt, form)?;
+    }
+    if groups.contains('4') {
+        threads::crowds(rt, form)?;
+    }
+    if groups.contains('5') {
+        tasks::all(rt, form)?;
+    }
+    if groups.contains('6') {
+        one_thread::calls(rt, form)?;
+    }
+    Ok(())
+}
+
+/// Prints the table of the channel.
+fn channel<R>(rt: &R) -> Result<()>
+where
+    R: Threads
+        + Wait
+        + Clone
+        + Drop
+        + AllocGlobal
+        + Clock
+        + RandomSource
+        + Files
+        + Print
+        + Send
+        + Sync,
+{
+    println!(rt; "| Work | ns |")?;
+    println!(rt; "|---|---|")?;
+    measure(rt, Form::Table, "123456")?;
+    memory::report(rt)
+}
+
+/// Prints the table of a name, or all of them.
+fn tables<R>(rt: &R, name: Option<&str>) -> Result<()>
+where
+    R: Threads
+        + Wait
+        + Clone
+        + Drop
+        + AllocGlobal
+        + Clock
+        + RandomSource
+        + Files
+        + Print
+        + Send
+        + Sync,
+{
+    if matches!(name, None | Some("waiters")) {
+        waiters::report(rt)?;
+    }
+    if matches!(name, None | Some("channel")) {
+        channel(rt)?;
+    }
+    if matches!(name, None | Some("map")) {
+        maps::report(rt)?;
+    }
+    Ok(())
+}
+
+fn main(rt: HostRuntime) -> Result<()> {
+    let mut arguments = env::args(&rt)?;
+    let _program = arguments.next();
+    let word = arguments.next();
+    let second = arguments.next();
+    match (word.as_deref(), second.as_deref()) {
+        (Some("measure"), table) => tables(&rt, table),
+        (Some(name), Some(groups)) => measure(&rt, Form::Fields(name), groups),
+        _ => {
+            println!(rt; "bench_channel measures with the argument measure, or a name and groups")?;
+            Ok(())
+        }
+    }
+}

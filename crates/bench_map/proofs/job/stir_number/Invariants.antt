@@ -1,7 +1,0 @@
-use Rattle.std.proofs.Common.{◌≡◌}
-use Rattle.bench_map.specs.Stirring.{stirred}
-use Rattle.bench_map.proofs.job.stir_number.Given as goal
-
--- so far the number was changed once a round
-abbrev pub invariant-loop : goal.invariant-loop
-invariant-loop g l = l.state ≡ stirred l.counter l.fn.number

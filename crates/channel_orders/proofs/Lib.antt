@@ -1,3 +1,0 @@
-pub mod Scenes
-pub mod Trails
-pub mod HandedOver

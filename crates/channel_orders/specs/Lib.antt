@@ -1,4 +1,0 @@
-pub mod Lines
-pub mod Orders
-pub mod Trail
-pub mod Searches

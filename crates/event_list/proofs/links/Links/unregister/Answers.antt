@@ -1,0 +1,90 @@
+use Rattle.std.proofs.Common.{◌≡◌, ◌∙◌, sym, ap, Some, None, true, false}
+use Rattle.std.specs.Option.{option_map}
+use Rattle.event_list.specs.Waiting.{is_told, told_flag, without}
+use Rattle.event_list.proofs.KeepLemmas.{opened, shows, closed, loses, some_told, keeps_without_told, keeps_without_untold, keeps_untouched, without_none}
+use Rattle.event_list.proofs.links.Links.unregister.Goals.{then-is_told, else-is_told}
+use Rattle.event_list.proofs.links.Links.unregister.Goals as goal
+
+pub invariant_of-self : goal.invariant_of-self
+invariant_of-self g c =
+    let keeps = opened c.self.invariant c.self.view_is in
+    let marked : told_flag c.args.self.now c.t.inside.key ≡ None =
+    sym (c.take_out.ensures.was_told c.args.self.now keeps.links) ∙ ap (option_map is_told) c.in_err-entry.was in
+    let left = keeps_untouched c.t.inside.key keeps marked
+    (c.take_out.ensures.leaves c.args.self.now keeps.links) c.in_err-entry.ensures.absent in
+    closed left
+
+pub returns-in_err-entry-clause-after : goal.returns-in_err-entry-clause-after
+returns-in_err-entry-clause-after g c =
+    let keeps = opened c.self.invariant c.self.view_is in
+    let marked : told_flag c.args.self.now c.t.inside.key ≡ None =
+    sym (c.take_out.ensures.was_told c.args.self.now keeps.links) ∙ ap (option_map is_told) c.in_err-entry.was in
+    let left = keeps_untouched c.t.inside.key keeps marked
+    (c.take_out.ensures.leaves c.args.self.now keeps.links) c.in_err-entry.ensures.absent in
+    shows left ∙ sym (without_none c.t.inside.key marked) ∙ ap (without c.args.self.now) c.t.view_is
+
+pub returns-in_err-entry-clause-unchanged : goal.returns-in_err-entry-clause-unchanged
+returns-in_err-entry-clause-unchanged g c =
+    let keeps = opened c.self.invariant c.self.view_is in
+    let marked : told_flag c.args.self.now c.t.inside.key ≡ None =
+    sym (c.take_out.ensures.was_told c.args.self.now keeps.links) ∙ ap (option_map is_told) c.in_err-entry.was in
+    let left = keeps_untouched c.t.inside.key keeps marked
+    (c.take_out.ensures.leaves c.args.self.now keeps.links) c.in_err-entry.ensures.absent in
+    rw c.from_residual.ensures (shows left)
+
+pub overflow_sub-self-then-is_told : goal.overflow_sub-self-then-is_told
+overflow_sub-self-then-is_told g c =
+    let keeps = opened c.self.invariant c.self.view_is in
+    let marked : told_flag c.args.self.now c.t.inside.key ≡ Some true =
+    sym (c.take_out.ensures.was_told c.args.self.now keeps.links)
+    ∙ ap (option_map is_told) c.in_ok-entry.was ∙ ap Some (sym c.is_told.ensures ∙ c.if-is_told.true) in
+    some_told c.t.inside.key keeps marked
+
+pub invariant_of-self-then-is_told : goal.invariant_of-self-then-is_told
+invariant_of-self-then-is_told g c =
+    let keeps = opened c.self.invariant c.self.view_is in
+    let marked : told_flag c.args.self.now c.t.inside.key ≡ Some true =
+    sym (c.take_out.ensures.was_told c.args.self.now keeps.links)
+    ∙ ap (option_map is_told) c.in_ok-entry.was ∙ ap Some (sym c.is_told.ensures ∙ c.if-is_told.true) in
+    let left = keeps_without_told c.t.inside.key keeps marked
+    (c.take_out.ensures.leaves c.args.self.now keeps.links) c.in_ok-entry.ensures.held in
+    closed left
+
+pub invariant_of-self-else-is_told : goal.invariant_of-self-else-is_told
+invariant_of-self-else-is_told g c =
+    let keeps = opened c.self.invariant c.self.view_is in
+    let marked : told_flag c.args.self.now c.t.inside.key ≡ Some false =
+    sym (c.take_out.ensures.was_told c.args.self.now keeps.links)
+    ∙ ap (option_map is_told) c.in_ok-entry.was ∙ ap Some (sym c.is_told.ensures ∙ c.if-is_told.false) in
+    let left = keeps_without_untold c.t.inside.key keeps marked
+    (c.take_out.ensures.leaves c.args.self.now keeps.links) c.in_ok-entry.ensures.held in
+    closed left
+
+pub returns-in_err-entry-clause-different : goal.returns-in_err-entry-clause-different
+returns-in_err-entry-clause-different g c = (invariant_of-self g c).links.different
+
+pub returns-in_err-entry-clause-sizes : goal.returns-in_err-entry-clause-sizes
+returns-in_err-entry-clause-sizes g c = loses c.args.t (opened c.self.invariant c.self.view_is)
+
+pub returns-clause-after : goal.returns-clause-after
+returns-clause-after g c =
+    let keeps = opened c.self.invariant c.self.view_is in
+    let leaves = c.take_out.ensures.leaves c.args.self.now keeps.links in
+    let marked : told_flag c.args.self.now c.t.inside.key ≡ Some c.is_told.result =
+    sym (c.take_out.ensures.was_told c.args.self.now keeps.links)
+    ∙ ap (option_map is_told) c.in_ok-entry.was ∙ ap Some (sym c.is_told.ensures) in
+    elim c.if-is_told.branch [
+      | then-is_told w ↦ w.self-is ∙ shows (keeps_without_told c.t.inside.key keeps (marked ∙ ap Some w.if-is_told.true)
+          leaves c.in_ok-entry.ensures.held) ∙ ap (without c.args.self.now) c.t.view_is
+      | else-is_told w ↦ w.self-is ∙ shows (keeps_without_untold c.t.inside.key keeps (marked ∙ ap Some w.if-is_told.false)
+          leaves c.in_ok-entry.ensures.held) ∙ ap (without c.args.self.now) c.t.view_is
+    ]
+
+pub returns-clause-different : goal.returns-clause-different
+returns-clause-different g c =
+    let keeps = opened c.self.invariant c.self.view_is in
+    let leaves = c.take_out.ensures.leaves c.args.self.now keeps.links in
+    rw (returns-clause-after g c, ← c.t.view_is) leaves.different
+
+pub returns-clause-sizes : goal.returns-clause-sizes
+returns-clause-sizes g c = loses c.args.t (opened c.self.invariant c.self.view_is)

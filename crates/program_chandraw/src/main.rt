@@ -1,0 +1,27 @@
+//! Draws a script that is read from standard input.
+#![tactic(auto)]
+
+use chandraw::program::Chandraw;
+use chanrun::standard::run_buffered;
+use std::env;
+use std::process::ExitCode;
+use std::rt::Env;
+
+/// The arguments behind the program's own name, where they can be read.
+fn arguments_of<R: Env + AllocGlobal>(rt: &R) -> Option<Vec<String>> {
+    let arguments = env::args(rt).ok()?;
+    arguments.skip(1).collect(rt.alloc()).ok()
+}
+
+fn main(rt: HostRuntime) -> ExitCode {
+    let arguments = arguments_of(&rt);
+    let words = arguments.as_ref().map(|words| words.as_slice());
+    let (input, output, errors) = (rt.stdin(), rt.stdout(), rt.stderr());
+    match run_buffered(rt.alloc(), Chandraw, words, input, output, errors) {
+        Ok(status) => ExitCode::from(status),
+        Err(error) => {
+            let _ = rt.eprintln(error);
+            ExitCode::FAILURE
+        }
+    }
+}

@@ -1,0 +1,106 @@
+//! Scripts over memory: what is written, and how they end.
+use crate::devices::OneByte;
+use crate::rows::TOPICS;
+use chanrun::device::FromStd;
+use chanrun::grammar::Fault;
+use chanrun::script::{ScriptError, run_script};
+use std::alloc::Global;
+use std::process::Abort;
+use std::test::Fail;
+
+/// Runs a script over memory, and again with devices that pass one byte a call.
+pub fn gives(
+    rt: &impl Abort,
+    alloc: Global,
+    script: &[u8],
+    text: &[u8],
+    end: Result<(), ScriptError>,
+) {
+    let mut reader = FromStd::new(script);
+    let mut writer = FromStd::new(Vec::new(alloc));
+    let given = run_script(alloc, &mut reader, &mut writer);
+    let written = writer.into_inner();
+    assert!(rt; given == end, "{given:?} in place of {end:?}");
+    assert!(rt; written.as_slice() == text, "another text was written");
+
+    let mut reader = OneByte(FromStd::new(script));
+    let mut writer = OneByte(FromStd::new(Vec::new(alloc)));
+    let given = run_script(alloc, &mut reader, &mut writer);
+    let OneByte(device) = writer;
+    let written = device.into_inner();
+    assert!(rt;
+        given == end,
+        "{given:?} in place of {end:?}, a byte a call"
+    );
+    assert!(rt;
+        written.as_slice() == text,
+        "another text was written, a byte a call"
+    );
+}
+
+#[test]
+fn rows_as_scripts(rt: HostRuntime) -> Result<(), Fail> {
+    let alloc = rt.alloc();
+    for row in TOPICS.into_iter().flatten() {
+        let name = row.name;
+        println!(rt; "{name}")?;
+        let script = row.script(alloc)?;
+        let text = row.replies(alloc)?;
+        gives(&rt, alloc, script.as_bytes(), text.as_bytes(), Ok(()));
+    }
+    Ok(())
+}
+
+fn at(line: u64, fault: Fault) -> Result<(), ScriptError> {
+    Err(ScriptError::Fault { line, fault })
+}
+
+#[test]
+fn ends_of_scripts(rt: HostRuntime) -> Result<(), Fail> {
+    use Fault::*;
+    let alloc = rt.alloc();
+    let examples: [(&str, &str, Result<(), ScriptError>); 19] = [
+        // script with capacity zero
+        ("bounded 0", "", at(1, CapacityZero)),
+        // a cut script
+        (
+            "unbounded\ntry_send s0 5\ntry_re",
+            "ok\n",
+            at(3, UnknownCommand),
+        ),
+        // empty input
+        ("", "", at(1, ChannelMissing)),
+        // largest message
+        (
+            "unbounded\ntry_send s0 18446744073709551615\n",
+            "ok\n",
+            Ok(()),
+        ),
+        (
+            "unbounded\ntry_send s0 18446744073709551615\ntry_send s0 18446744073709551616\n",
+            "ok\n",
+            at(3, BadNumber),
+        ),
+        // the ends of single lines
+        ("unbounded\n", "", Ok(())),
+        ("bounded 2\ncapacity r0\n", "some 2\n", Ok(())),
+        ("bounded 02\n", "", at(1, BadNumber)),
+        ("bounded\n", "", at(1, WrongWordCount)),
+        ("bounded 1000001\n", "", at(1, CapacityTooLarge)),
+        ("bounded 1000000\ncapacity s0\n", "some 1000000\n", Ok(())),
+        ("unbounded\n\n", "", at(2, UnknownCommand)),
+        ("unbounded\nlen  s0\n", "", at(2, WrongWordCount)),
+        ("unbounded\nlen s0\nlen x0\n", "0\n", at(3, BadName)),
+        ("unbounded\nclone s0 r1\n", "", at(2, BadName)),
+        ("unbounded\ntry_recv r0\r\n", "", at(2, BadName)),
+        ("unbounded\nunbounded\n", "", at(2, UnknownCommand)),
+        // the first words of the first line
+        ("\n", "", at(1, ChannelMissing)),
+        ("unbounded 1\n", "", at(1, WrongWordCount)),
+    ];
+    for (script, text, end) in examples {
+        println!(rt; "{script:?}")?;
+        gives(&rt, alloc, script.as_bytes(), text.as_bytes(), end);
+    }
+    Ok(())
+}

@@ -1,0 +1,15 @@
+//! Tests of recorded channels and of the parallel map, by public calls alone.
+#![tactic(auto)]
+
+#[cfg(test)]
+mod maps;
+#[cfg(test)]
+mod names;
+#[cfg(test)]
+mod pieces;
+#[cfg(test)]
+mod records;
+#[cfg(test)]
+mod square;
+#[cfg(test)]
+mod texts;

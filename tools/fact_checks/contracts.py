@@ -1,0 +1,103 @@
+"""The index of contracts in docs/PROOFS.md, and what its tables cite.
+
+A citation is a call, as `Core::len` or `run_all`; a call with names of its clauses, as
+`Core::try_send: reply, after`; the same of the calls of a type, as `Core::*: rung`, where each
+clause stands at one or more; a law of a type or a trait, as `Core: invariant`; or an
+implementation, as `Visitor for Outcomes`. It stands in the last column of a table, or before the
+colon of a point, below a heading that names its crate, or begins with its crate, as
+`identity::Exact: same`. A text with other signs after a citation has to stand in the contract of
+that call; `..` leaves something out of it.
+"""
+import re
+
+from .sources import ROOT, Crate, listed_crates
+
+PROOFS = ROOT / 'docs' / 'PROOFS.md'
+NAMES = re.compile(r'`([^`]+)`')
+CITATION = re.compile(r'[\w:]+(::\*)?(: \w+(, \w+)*)?|\w+ for \w+')
+UNNAMED = 'ensures'
+
+
+def all_crates():
+    return {name: Crate(name) for name in listed_crates()}
+
+
+def words(clauses):
+    """The names of a call's clauses, as a table has them."""
+    return ', '.join(f'`{name}`' if name else UNNAMED for name in clauses)
+
+
+def index(crates):
+    """The index: each public call with a clause. Those of one type with the same share a row."""
+    lines = ['| Crate | Call | Clauses |', '|---|---|---|']
+    for crate in crates.values():
+        rows = {}
+        for call in crate.public_calls():
+            rows.setdefault((call.owner, tuple(call.clauses)), []).append(call)
+        for (_, clauses), calls in rows.items():
+            places = ', '.join(f'`{call.place()}`' for call in calls)
+            lines.append(f'| `{crate.name}` | {places} | {words(clauses)} |')
+    return lines
+
+
+def cited_rows(text):
+    """Each row or point below a heading that names crates: its line, the crates, what it cites."""
+    crates, listed, rows = [], listed_crates(), []
+    is_generated = False
+    for number, line in enumerate(text.split('\n'), 1):
+        if line.startswith('#'):
+            crates = [name for name in NAMES.findall(line) if name in listed]
+        if line.startswith('<!--'):
+            is_generated = 'facts' in line and 'end' not in line
+        if not crates or is_generated:
+            continue
+        if line.startswith('| '):
+            rows.append((number, crates, line.rstrip(' |').rpartition(' | ')[2]))
+        elif line.startswith('- `'):
+            rows.append((number, crates, line.partition(': ')[0]))
+    return rows
+
+
+def is_there(crate, place, clauses):
+    """Whether the crate has what is cited."""
+    owner, _, name = place.rpartition('::')
+    calls = [call for call in crate.calls if call.owner == owner and name in ('*', call.name)]
+    if name == '*':
+        return all(any(clause in call.clauses for call in calls) for clause in clauses)
+    if clauses and all((place, clause) in crate.laws for clause in clauses):
+        return True
+    is_call = any(call.clauses and set(clauses) <= set(call.clauses) for call in calls)
+    return is_call or place in crate.impls
+
+
+def is_quoted(text, calls):
+    """Whether the contract of one of these calls has the text."""
+    parts = [' '.join(part.split()) for part in text.split('..')]
+    return any(all(part in call.text for part in parts) for call in calls)
+
+
+def cell_faults(cell, crates, named):
+    """What of a cell no source has."""
+    place = ''
+    for cited in NAMES.findall(cell):
+        if not CITATION.fullmatch(cited):
+            calls = [it for name in named for it in crates[name].calls if it.place() == place]
+            if not is_quoted(cited, calls):
+                yield cited
+            continue
+        place, _, labels = cited.partition(': ')
+        first, _, rest = place.partition('::')
+        where, place = ([first], rest) if first in crates else (named, place)
+        clauses = labels.split(', ') if labels else []
+        if not any(is_there(crates[name], place, clauses) for name in where):
+            yield cited
+
+
+def faults(crates):
+    """The citations of docs/PROOFS.md that no source has."""
+    for number, named, cell in cited_rows(PROOFS.read_text('utf-8')):
+        for cited in cell_faults(cell, crates, named):
+            yield (
+                f'docs/PROOFS.md:{number}: `{cited}` is no contract of {" or ".join(named)}: '
+                'cite a call and its clauses as the index has them'
+            )

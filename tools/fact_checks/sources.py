@@ -1,0 +1,150 @@
+"""The calls of the crates, as the sources have them, with the clauses that stand at each."""
+import importlib.machinery
+import importlib.util
+import re
+from pathlib import Path
+
+ROOT = Path(__file__).resolve().parent.parent.parent
+FUNCTION = re.compile(r'( *)(pub(?:\([^)]*\))? )?(?:const )?fn (\w+)')
+LAW = re.compile(r'    ghost (\w+)(?: =|:)')
+CLAUSE = re.compile(r'ensures(?: (\w+))? \{')
+
+
+def examples():
+    """The script tools/examples, which knows what is public, as a module."""
+    path = str(ROOT / 'tools' / 'examples')
+    spec = importlib.util.spec_from_loader(
+        'examples', importlib.machinery.SourceFileLoader('examples', path)
+    )
+    module = importlib.util.module_from_spec(spec)
+    spec.loader.exec_module(module)
+    return module
+
+
+EXAMPLES = examples()
+
+
+class Owner:
+    """What a block of functions belongs to: a type or a trait, or a trait of a type."""
+
+    def __init__(self, name, trait, is_trait):
+        self.name, self.trait, self.is_trait = name, trait, is_trait
+
+
+class Call:
+    """A function or method, the names of the clauses that it ensures, and their text."""
+
+    def __init__(self, path, line, owner, name, is_said_public):
+        self.path, self.line, self.name = path, line, name
+        self.owner = owner.name if owner else ''
+        self.trait = owner.trait if owner else None
+        self.is_open = is_said_public or bool(owner and (owner.is_trait or owner.trait))
+        self.clauses, self.text = [], ''
+
+    def place(self):
+        return f'{self.owner}::{self.name}' if self.owner else self.name
+
+
+class Crate:
+    """A crate of the repository: its calls, and the laws and implementations of its types."""
+
+    def __init__(self, name):
+        self.name = name
+        self.folder = ROOT / 'crates' / name
+        self.calls, self.impls, self.laws = [], set(), set()
+        for path in sorted((self.folder / 'src').rglob('*.rt')):
+            self.read(path)
+
+    def read(self, path):
+        """Takes in the calls of a file."""
+        lines = path.read_text('utf-8').split('\n')
+        owner = None
+        for number, line in enumerate(lines, 1):
+            if line.startswith(('impl', 'pub trait ', 'trait ')):
+                owner = owner_of(lines[number - 1 :])
+                if owner.trait:
+                    self.impls.add(f'{owner.trait} for {owner.name}')
+            if line.startswith('}') or line.endswith('{}'):
+                owner = None
+            law = LAW.match(line)
+            if owner and law:
+                self.laws.add((owner.name, law[1]))
+            found = FUNCTION.match(line)
+            if found and bool(found[1]) == bool(owner):
+                call = Call(path, number, owner, found[3], found[2] == 'pub ')
+                call.clauses, call.text = contract(lines[number - 1 :], found[1])
+                self.calls.append(call)
+
+    def public_calls(self):
+        """The calls with a clause that another crate can name."""
+        if not (self.folder / 'src' / 'lib.rt').is_file():
+            return []
+        names = EXAMPLES.public_names(self.name)
+        return [
+            call for call in self.calls
+            if call.clauses and call.is_open and (call.owner or call.name) in names
+        ]
+
+    def at(self, path, line):
+        """The call whose text stands at this line of a file, or None."""
+        before = [call for call in self.calls if call.path == path and call.line <= line]
+        return max(before, key=lambda call: call.line, default=None)
+
+
+def owner_of(lines):
+    """What the block that begins here belongs to."""
+    last = next(at for at, line in enumerate(lines) if line.endswith(('{', '{}')))
+    head = ' '.join(lines[: last + 1])
+    if not head.startswith('impl'):
+        return Owner(re.search(r'trait (\w+)', head)[1], None, True)
+    rest = without_generics(head.removeprefix('impl')).strip()
+    trait, is_for, type_name = rest.partition(' for ')
+    first = re.match(r'[\w:]+', trait)[0].split('::')[-1]
+    if not is_for:
+        return Owner(first, None, False)
+    name = re.search(r'\w+', type_name)
+    return Owner(name[0] if name else '()', first, False)
+
+
+def without_generics(text):
+    """The text without the `<..>` that it begins with."""
+    depth = 0
+    for at, letter in enumerate(text):
+        depth += {'<': 1, '>': -1}.get(letter, 0)
+        if depth == 0:
+            return text[at + (letter == '>') :]
+    return text
+
+
+def contract(lines, indent):
+    """The names of the clauses of the function that begins here, and its contract's text.
+
+    A clause without a name is the empty word.
+    """
+    names, text, depth = [], '', 0
+    for line in lines:
+        bare = line.split(' // ')[0].strip()
+        if line in (indent + '{', indent + '{}'):
+            break
+        begins = re.match(r'(ensures|requires|may_|decreases)', bare) and not depth
+        if not text and not begins:
+            if bare.endswith(('{', '{}', ';', '}')):
+                break
+            continue
+        if found := CLAUSE.match(bare):
+            names.append(found[1] or '')
+        text += bare + ' '
+        depth += bare.count('{') - bare.count('}')
+        if depth == 0 and bare.endswith(';'):
+            break
+    return names, ' '.join(text.split())
+
+
+def listed_crates():
+    """The crates of crates.txt in their order, each with the libraries that it stands on."""
+    listed = {}
+    for line in (ROOT / 'crates.txt').read_text('utf-8').split('\n'):
+        if ':' in line and not line.startswith('#'):
+            head, _, below = line.partition(':')
+            listed[head.split()[0]] = below.split()
+    return listed
