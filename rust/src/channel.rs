@@ -1,12 +1,12 @@
 //! A channel that threads and tasks share: one lock round the proved core.
 //!
-//! Each call makes one step of the core under the lock. A poll of an operation that doesn't wait
-//! yet is the call at once, `try_send` or `try_recv`, and waits where that finds no room or no
-//! message.
+//! Each call makes one step of the core under the lock.
 //!
 //! What can be seen of the core without the lock, how many messages there are and whether it is
-//! closed, stands in one word, which is written under the lock after each step. The questions read it,
-//! and so does a thread that would have to wait.
+//! closed, stands in one word, which is written under the lock after each step. The questions read
+//! it. So does an operation before its first step, to choose that step: the plain call, `try_send`
+//! or `try_recv`, if it seems to go on, and else the poll that waits. A thread looks for a while
+//! before it waits.
 //!
 //! The numbers of handles are kept beside the lock, so that a copy needs none: to the core there
 //! is one sender as long as there is any, and one receiver likewise. The core is told when the last
@@ -77,11 +77,11 @@ impl<T> Channel<T> {
 
     /// Makes a poll by the owner of a ticket.
     ///
-    /// One that is ready needs no waker. A first one was tried before, but for a closed operation's,
-    /// and waits most likely: so the waker is copied at once, and dropped here if it isn't needed
-    /// after all. Any other looks without one. If it can't go on, it keeps the waker that waits for
-    /// it if that wakes the same task. Else the caller's is copied without the lock, and the poll is
-    /// made again.
+    /// One that is ready needs no waker. A first one waits most likely, but for a closed operation's:
+    /// so the waker is copied at once, and dropped here if it isn't needed after all. Any other
+    /// looks without one. If it can't go on, and the waker that waits for it
+    /// doesn't wake the same task, the caller's is copied without the lock, and the poll is made
+    /// again.
     #[inline]
     fn poll<A>(
         &self,
@@ -90,26 +90,17 @@ impl<T> Channel<T> {
         context: &Context<'_>,
         mut poll: impl FnMut(&mut Core<T>, &mut Option<Ticket>, &mut Marks, &mut Told) -> Poll<A>,
     ) -> Poll<A> {
-        let was_tried = ticket.is_none() && group != Group::Closeds;
-        let mut marks = Marks { own: was_tried.then(|| Mark::of(context)), back: None };
+        let will_wait = ticket.is_none() && group != Group::Closeds;
+        let mut marks = Marks { own: will_wait.then(|| Mark::of(context)), back: None };
         loop {
             let answer = self.step(|core, told| {
                 let only_looks = marks.own.is_none();
                 let answer = poll(core, ticket, &mut marks, told);
-                if answer.is_ready() || !only_looks {
-                    return Some(answer);
-                }
-                if core.is_told(group, ticket.as_ref()?) != Some(false) {
-                    return None;
-                }
-                // The entry is without its waker for a moment, in which nobody can tell it.
-                marks.own = Some(Mark::default());
-                let _pending = poll(core, ticket, &mut marks, told);
-                let left = marks.back.take();
-                let is_same = left.as_ref().map_or(false, |left| left.will_wake(context));
-                marks.own = left;
-                let answer = poll(core, ticket, &mut marks, told);
-                is_same.then_some(answer)
+                let is_done = answer.is_ready() || !only_looks || {
+                    let left = ticket.as_ref().and_then(|ticket| core.payload(group, ticket));
+                    left.map_or(false, |left| left.will_wake(context))
+                };
+                is_done.then_some(answer)
             });
             match answer {
                 Some(answer) => return answer,
@@ -143,7 +134,8 @@ impl<T> Channel<T> {
         ticket: &mut Option<Ticket>,
         context: &Context<'_>,
     ) -> Poll<Result<(), SendError<T>>> {
-        if let Some(sent) = ticket.is_none().then(|| message.take()).flatten() {
+        let may_go_on = ticket.is_none() && self.has_room();
+        if let Some(sent) = may_go_on.then(|| message.take()).flatten() {
             match self.try_send(sent) {
                 Ok(()) => return Poll::Ready(Ok(())),
                 Err(TrySendError::Closed(sent)) => return Poll::Ready(Err(SendError(sent))),
@@ -162,7 +154,7 @@ impl<T> Channel<T> {
         ticket: &mut Option<Ticket>,
         context: &Context<'_>,
     ) -> Poll<Result<T, RecvError>> {
-        if ticket.is_none() {
+        if ticket.is_none() && self.has_message() {
             match self.try_recv() {
                 Ok(message) => return Poll::Ready(Ok(message)),
                 Err(TryRecvError::Closed) => return Poll::Ready(Err(RecvError)),
@@ -181,7 +173,7 @@ impl<T> Channel<T> {
         ticket: &mut Option<Ticket>,
         context: &Context<'_>,
     ) -> Poll<Option<T>> {
-        if ticket.is_none() {
+        if ticket.is_none() && self.has_message() {
             match self.try_recv() {
                 Ok(message) => return Poll::Ready(Some(message)),
                 Err(TryRecvError::Closed) => return Poll::Ready(None),
@@ -248,14 +240,28 @@ impl<T> Channel<T> {
         self.seen.load(Ordering::SeqCst)
     }
 
-    /// Lets others run for a while, at most until a send can be made.
-    pub(crate) fn await_room(&self) {
-        await_turn(|| !self.is_full() || self.is_closed());
+    /// Whether a send seems to go on: there is room, or the channel is closed.
+    #[inline]
+    fn has_room(&self) -> bool {
+        !self.is_full() || self.is_closed()
     }
 
-    /// Lets others run for a while, at most until a receive can be made.
+    /// Whether a receive seems to go on: there is a message, or the channel is closed.
+    #[inline]
+    fn has_message(&self) -> bool {
+        self.seen() != 0
+    }
+
+    /// Lets others run for a while, at most until a send seems to go on.
+    #[inline]
+    pub(crate) fn await_room(&self) {
+        await_turn(|| self.has_room());
+    }
+
+    /// Lets others run for a while, at most until a receive seems to go on.
+    #[inline]
     pub(crate) fn await_message(&self) {
-        await_turn(|| self.seen() != 0);
+        await_turn(|| self.has_message());
     }
 
     #[inline]
@@ -363,6 +369,7 @@ impl<T> Channel<T> {
 
 /// Looks whether a thread may go on, and lets others run in between. That is cheaper than to sleep
 /// where another thread is about to make it so.
+#[inline]
 fn await_turn(may_go_on: impl Fn() -> bool) {
     for _look in 0..LOOKS {
         if may_go_on() {

@@ -3,30 +3,28 @@
 //! A waker is the caller's: to copy, to wake or to drop it may run any code, even a call of the
 //! same channel, or panic. So none of it happens under the channel's lock. A poll that has to wait
 //! lets the lock go before it copies its waker. Those that a step tells are gathered by its bell
-//! and woken once the lock is let go. One that leaves its list
-//! untold comes back from the step, and is dropped then.
+//! and woken once the lock is let go. One that leaves its list untold comes back from the step, and
+//! is dropped then.
 
 use crate::proved::event_list::Bell;
 use std::mem;
 use std::panic::{catch_unwind, resume_unwind, AssertUnwindSafe};
 use std::task::{Context, Waker};
 
-/// What a waiter leaves in a waiting list: the waker of its task. It has none for a moment, in which
-/// its poll looks at the one that was there.
-#[derive(Default)]
-pub(crate) struct Mark(Option<Waker>);
+/// What a waiter leaves in a waiting list: the waker of its task.
+pub(crate) struct Mark(Waker);
 
 impl Mark {
     /// A copy of the caller's waker.
     #[inline]
     pub(crate) fn of(context: &Context<'_>) -> Self {
-        Mark(Some(context.waker().clone()))
+        Mark(context.waker().clone())
     }
 
     /// Whether it wakes the task that polls now.
     #[inline]
     pub(crate) fn will_wake(&self, context: &Context<'_>) -> bool {
-        self.0.as_ref().map_or(false, |waker| waker.will_wake(context.waker()))
+        self.0.will_wake(context.waker())
     }
 }
 
@@ -84,8 +82,6 @@ fn wake_all(wakers: Vec<Waker>) {
 
 impl Bell<Mark> for Told {
     fn ring(&mut self, mark: Mark) {
-        if let Some(waker) = mark.0 {
-            self.add(waker);
-        }
+        self.add(mark.0);
     }
 }

@@ -120,13 +120,11 @@ impl<T> Receiver<T> {
     /// ```
     #[cfg(not(target_family = "wasm"))]
     pub fn recv_blocking(&self) -> Result<T, RecvError> {
+        self.channel.await_message();
         match self.try_recv() {
             Ok(msg) => Ok(msg),
             Err(TryRecvError::Closed) => Err(RecvError),
-            Err(TryRecvError::Empty) => {
-                self.channel.await_message();
-                crate::blocking::block_on(self.recv())
-            }
+            Err(TryRecvError::Empty) => crate::blocking::block_on(self.recv()),
         }
     }
 

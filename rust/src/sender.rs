@@ -124,13 +124,11 @@ impl<T> Sender<T> {
     /// ```
     #[cfg(not(target_family = "wasm"))]
     pub fn send_blocking(&self, msg: T) -> Result<(), SendError<T>> {
+        self.channel.await_room();
         match self.try_send(msg) {
             Ok(()) => Ok(()),
             Err(TrySendError::Closed(msg)) => Err(SendError(msg)),
-            Err(TrySendError::Full(msg)) => {
-                self.channel.await_room();
-                crate::blocking::block_on(self.send(msg))
-            }
+            Err(TrySendError::Full(msg)) => crate::blocking::block_on(self.send(msg)),
         }
     }
 

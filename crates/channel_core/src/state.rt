@@ -21,8 +21,9 @@
 //! told, so that it never tells itself.
 ghost use Rattle.std.specs.Prelude.{◌≡◌, ◌<◌, ◌==◌, ◌&&◌, ◌++◌, not, length, Some, None, IfOk, true, slice_get, []};
 ghost use Rattle.std.specs.Bool.{OnTrue, OnFalse};
+ghost use Rattle.std.specs.Option.{option_copied};
 ghost use Rattle.identity.specs.Keys.{AreDifferent};
-ghost use Rattle.event_list.specs.Waiting.{RingsEach, keys, payloads, told_count, told_all, told_flag};
+ghost use Rattle.event_list.specs.Waiting.{RingsEach, keys, payloads, payload_in, told_count, told_all, told_flag};
 ghost use Rattle.channel_core.specs.Channel.{new_channel, is_channel_full, list_of};
 
 use crate::queue::Queue;
@@ -337,5 +338,25 @@ impl<T: Drop, W: Drop> Core<T, W> {
         ensures { result ≡ told_flag (list_of g self.now) t.now }
     {
         self.lists.of(g).is_told(t)
+    }
+
+    /// What a waiting operation left to be told by, or nothing where it is told or doesn't wait.
+    ///
+    /// # Examples
+    ///
+    /// ```
+    /// let mut core: Core<u64, u64> = Core::unbounded(rt.alloc());
+    /// let mut ticket = None;
+    /// assert!(rt; core.poll_recv(&mut ticket, 7, &mut Quiet)?.is_pending());
+    /// let ticket = ticket.ok_or("a ticket")?;
+    /// assert_eq!(rt; core.payload(Group::Receives, &ticket).copied(), Some(7));
+    ///
+    /// assert_eq!(rt; core.try_send(1, &mut Quiet)?, Ok(()));
+    /// assert_eq!(rt; core.payload(Group::Receives, &ticket).copied(), None);
+    /// ```
+    pub fn payload(&self, g: Group, t: &Ticket) -> Option<&W>
+        ensures { option_copied result ≡ payload_in t.now (list_of g self.now).untold }
+    {
+        self.lists.of(g).payload(t)
     }
 }

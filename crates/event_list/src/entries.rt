@@ -1,7 +1,7 @@
 //! The entries of a waiting list. A call reaches at most one of them.
 ghost use Rattle.std.specs.Prelude.{◌≡◌, ◌+◌, ◌^◌, ◌<◌, [], Some, None, OnSome, IfNone};
 ghost use Rattle.std.specs.Bool.{OnTrue};
-ghost use Rattle.std.specs.Option.{option_map, option_and_then};
+ghost use Rattle.std.specs.Option.{option_map, option_and_then, option_copied};
 ghost use Rattle.slab.specs.Slab.{get, slab_len, HasRoomFor, Updates};
 ghost use Rattle.event_list.specs.Waiting.{is_told, payload_of};
 ghost use Rattle.event_list.specs.Entries.{with_behind, with_before, with_notice, payload_at, Rewrites, MayRewrite};
@@ -44,6 +44,16 @@ impl<W> EntryState<W> {
         match self {
             EntryState::Told => true,
             EntryState::Untold(_) => false,
+        }
+    }
+
+    /// The payload of an untold entry, which stays.
+    fn payload(&self) -> Option<&W>
+        ensures { option_copied result ≡ payload_of self.now }
+    {
+        match self {
+            EntryState::Told => None,
+            EntryState::Untold(payload) => Some(payload),
         }
     }
 
@@ -218,5 +228,15 @@ impl<W: Drop> Entries<W> {
     {
         lookups.raise();
         self.slab.get(key).map(|entry| entry.notice.is_told())
+    }
+
+    /// The payload of an untold entry, if it is there.
+    pub fn payload<L: Ledger>(&self, key: usize, lookups: &mut Lookups<L>) -> Option<&W>
+        ensures value { option_copied result ≡
+            option_and_then (λ entry. payload_of entry.notice) (get self.now key) }
+        ensures counted { lookups.new ≡ lookups.old + 1 }
+    {
+        lookups.raise();
+        self.slab.get(key)?.notice.payload()
     }
 }

@@ -9,7 +9,7 @@
 //! Each look-up is counted on the ledger that a call is handed. No other can be opened here, and no
 //! entry is reached without one: see `steps`.
 ghost use Rattle.std.specs.Prelude.{◌≡◌, ◌+◌, ◌<◌, ◌≤◌, ◌↔◌, length, take, is_ok, is_some, IsTrue, IfNone, IfOk, IfErr, OnOk, OnErr, slice_get, false};
-ghost use Rattle.std.specs.Option.{option_map, option_and_then};
+ghost use Rattle.std.specs.Option.{option_map, option_and_then, option_copied};
 ghost use Rattle.identity.specs.Keys.{is_among, AreDifferent};
 ghost use Rattle.event_list.specs.Waiting.{LosesOne, IsWaiting, nobody, keys, told_count, payloads, is_told, payload_of, told_flag, payload_in, joined, without, renewed, told_one, told_all, cancelled, rung_by_cancelling, RingsEach};
 
@@ -213,6 +213,14 @@ impl<W: Drop> Links<W> {
         ensures counted { lookups.new ≡ lookups.old + 1 }
     {
         self.entries.is_told(t.key, lookups)
+    }
+
+    /// The payload of the ticket's entry, where it is untold. One look-up.
+    pub(crate) fn payload<L: Ledger>(&self, t: &Ticket, lookups: &mut Lookups<L>) -> Option<&W>
+        ensures value { option_copied result ≡ payload_in t.now self.now.untold }
+        ensures counted { lookups.new ≡ lookups.old + 1 }
+    {
+        self.entries.payload(t.key, lookups)
     }
 
     /// Whether somebody is untold.

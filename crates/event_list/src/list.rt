@@ -20,7 +20,7 @@
 //! the work is done. A call of the plain name opens a ledger and runs the counted one on it.
 ghost use Rattle.std.specs.Prelude.{◌≡◌, ◌+◌, ◌<◌, ◌≤◌, ◌↔◌, length, take, is_ok, is_some, IsTrue, IfNone, IfOk, IfErr, OnOk, OnErr, slice_get, false};
 ghost use Rattle.std.specs.Bool.{OnTrue, OnFalse};
-ghost use Rattle.std.specs.Option.{option_map, option_and_then};
+ghost use Rattle.std.specs.Option.{option_map, option_and_then, option_copied};
 ghost use Rattle.identity.specs.Keys.{is_among, AreDifferent};
 ghost use Rattle.event_list.specs.Waiting.{LosesOne, IsWaiting, nobody, keys, told_count, payloads, is_told, payload_of, told_flag, payload_in, joined, without, renewed, told_one, told_all, cancelled, rung_by_cancelling, RingsEach};
 ghost use Rattle.event_list.specs.Opens.{Opens};
@@ -464,6 +464,24 @@ impl<W: Drop> WaitList<W> {
         self.is_told_from::<Brand>(t, Blank::new(1))
     }
 
+    /// The payload of the ticket's entry, or nothing where it is told or isn't in the list.
+    ///
+    /// # Examples
+    ///
+    /// ```
+    /// let mut list = WaitList::new(rt.alloc());
+    /// let ticket = list.listen(10).map_err(|_| "no room")?;
+    /// assert_eq!(rt; list.payload(&ticket).copied(), Some(10));
+    ///
+    /// list.tell_one(&mut Quiet);
+    /// assert_eq!(rt; list.payload(&ticket).copied(), None);
+    /// ```
+    pub fn payload(&self, t: &Ticket) -> Option<&W>
+        ensures { option_copied result ≡ payload_in t.now self.now.untold }
+    {
+        self.payload_from::<Brand>(t, Blank::new(1))
+    }
+
     /// The key of the first entry, where somebody is told.
     pub fn first_told(&self) -> Option<usize>
         ensures { result ≡ slice_get self.now.told 0 }
@@ -591,5 +609,13 @@ impl<W: Drop> WaitList<W> {
     {
         let mut steps = Steps::<L>::of(blank);
         self.links.is_told(t, &mut steps.lookups)
+    }
+
+    fn payload_from<L: Ledger>(&self, t: &Ticket, blank: Blank) -> Option<&W>
+        requires { Opens blank.name blank.parts L.name L.parts }
+        ensures { option_copied result ≡ payload_in t.now self.now.untold }
+    {
+        let mut steps = Steps::<L>::of(blank);
+        self.links.payload(t, &mut steps.lookups)
     }
 }

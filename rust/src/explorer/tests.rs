@@ -221,6 +221,31 @@ fn a_poll_again_beside_a_send() {
     });
 }
 
+/// A task that nobody runs.
+struct Idle;
+
+impl Wake for Idle {
+    fn wake(self: Arc<Self>) {}
+}
+
+#[test]
+fn a_poll_by_another_task_beside_a_send() {
+    explore(TWO, || {
+        let (s, r) = unbounded();
+        let receive = move || {
+            let mut receive = r.recv();
+            let idle = Waker::from(Arc::new(Idle));
+            let first = Pin::new(&mut receive).poll(&mut Context::from_waker(&idle));
+            let taken = match first {
+                Poll::Ready(taken) => taken,
+                Poll::Pending => block_on(receive),
+            };
+            assert_eq!(taken, Ok(7));
+        };
+        (threads![move || s.try_send(7).unwrap(), receive], nothing())
+    });
+}
+
 #[test]
 fn two_closes() {
     explore(TWO, || {

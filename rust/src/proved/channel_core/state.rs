@@ -190,4 +190,10 @@ impl<T, W> Core<T, W> {
     pub fn is_told(&self, g: Group, t: &Ticket) -> Option<bool> {
         self.lists.of(g).is_told(t)
     }
+
+    /// What a waiting operation left to be told by, or nothing where it is told or doesn't wait.
+    #[inline]
+    pub fn payload(&self, g: Group, t: &Ticket) -> Option<&W> {
+        self.lists.of(g).payload(t)
+    }
 }

@@ -24,6 +24,15 @@ impl<W> EntryState<W> {
         }
     }
 
+    /// The payload of an untold entry, which stays.
+    #[inline]
+    fn payload(&self) -> Option<&W> {
+        match self {
+            EntryState::Told => None,
+            EntryState::Untold(payload) => Some(payload),
+        }
+    }
+
     /// The payload of an untold entry.
     #[inline]
     pub fn into_payload(self) -> Option<W> {
@@ -149,5 +158,12 @@ impl<W> Entries<W> {
     pub fn is_told<L: Ledger>(&self, key: usize, lookups: &mut Lookups<L>) -> Option<bool> {
         lookups.raise();
         self.slab.get(key).map(|entry| entry.notice.is_told())
+    }
+
+    /// The payload of an untold entry, if it is there.
+    #[inline]
+    pub fn payload<L: Ledger>(&self, key: usize, lookups: &mut Lookups<L>) -> Option<&W> {
+        lookups.raise();
+        self.slab.get(key)?.notice.payload()
     }
 }

@@ -152,6 +152,12 @@ impl<W> Links<W> {
         self.entries.is_told(t.key, lookups)
     }
 
+    /// The payload of the ticket's entry, where it is untold. One look-up.
+    #[inline]
+    pub(crate) fn payload<L: Ledger>(&self, t: &Ticket, lookups: &mut Lookups<L>) -> Option<&W> {
+        self.entries.payload(t.key, lookups)
+    }
+
     /// Whether somebody is untold.
     #[inline(always)]
     pub(crate) fn has_untold(&self) -> bool {

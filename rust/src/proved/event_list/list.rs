@@ -196,6 +196,12 @@ impl<W> WaitList<W> {
         self.is_told_from::<Brand>(t, Blank::new(1))
     }
 
+    /// The payload of the ticket's entry, or nothing where it is told or isn't in the list.
+    #[inline]
+    pub fn payload(&self, t: &Ticket) -> Option<&W> {
+        self.payload_from::<Brand>(t, Blank::new(1))
+    }
+
     /// The key of the first entry, where somebody is told.
     #[inline]
     pub fn first_told(&self) -> Option<usize> {
@@ -263,5 +269,11 @@ impl<W> WaitList<W> {
     fn is_told_from<L: Ledger>(&self, t: &Ticket, blank: Blank) -> Option<bool> {
         let mut steps = Steps::<L>::of(blank);
         self.links.is_told(t, &mut steps.lookups)
+    }
+
+    #[inline]
+    fn payload_from<L: Ledger>(&self, t: &Ticket, blank: Blank) -> Option<&W> {
+        let mut steps = Steps::<L>::of(blank);
+        self.links.payload(t, &mut steps.lookups)
     }
 }
