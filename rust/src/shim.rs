@@ -81,16 +81,33 @@ impl<K: Ord, V> BTreeMap<K, V> {
         Ok(self.0.insert(key, value))
     }
 }
+/// A value with memory of its own.
+pub struct Box<T>(std::boxed::Box<T>);
+
+impl<T> Box<T> {
+    pub fn new(_: Global, value: T) -> Result<Self, Refused<T>> {
+        Ok(Box(std::boxed::Box::new(value)))
+    }
+}
+impl<T> std::ops::Deref for Box<T> {
+    type Target = T;
+    fn deref(&self) -> &T {
+        &self.0
+    }
+}
+impl<T> std::ops::DerefMut for Box<T> {
+    fn deref_mut(&mut self) -> &mut T {
+        &mut self.0
+    }
+}
 /// Values under keys. It takes no memory before the first one, and the key that was left last is
-/// the next one's.
-pub struct Slab<V>(Option<Box<Places<V>>>);
-/// The places of a slab's values: the first one's key, and what lies there. A place that was left
-/// has nothing to drop, so that all of them can be given back at once.
-struct Places<V>(usize, slab::Slab<ManuallyDrop<V>>);
+/// the next one's. Beside them stands the key of the first place. A place that was left has nothing
+/// to drop, so that all of them can be given back at once.
+pub struct Slab<V>(usize, slab::Slab<ManuallyDrop<V>>);
 
 impl<V> Slab<V> {
     pub fn new(_: Global) -> Self {
-        Slab(None)
+        Slab(0, slab::Slab::new())
     }
     /// An insertion takes the room that it needs, so none is made before.
     pub fn reserve(&mut self, _more: usize) -> Result<(), Refused<()>> {
@@ -98,38 +115,35 @@ impl<V> Slab<V> {
     }
     #[inline]
     pub fn insert_reserved(&mut self, value: V) -> usize {
-        let empty = || Box::new(Places(0, slab::Slab::new()));
-        let Places(first, values) = &mut **self.0.get_or_insert_with(empty);
-        first.wrapping_add(values.insert(ManuallyDrop::new(value)))
+        self.0.wrapping_add(self.1.insert(ManuallyDrop::new(value)))
     }
     #[inline]
     pub fn try_remove(&mut self, key: usize) -> Option<V> {
-        let Places(first, values) = self.0.as_deref_mut()?;
-        let value = values.try_remove(key.wrapping_sub(*first))?;
-        if values.is_empty() && values.capacity() > kept::<V>() {
+        let value = self.1.try_remove(key.wrapping_sub(self.0))?;
+        if self.1.is_empty() && self.1.capacity() > kept::<V>() {
             // The next key is this one still.
-            (*first, *values) = (key, slab::Slab::new());
+            *self = Slab(key, slab::Slab::new());
         }
         Some(ManuallyDrop::into_inner(value))
     }
     #[inline]
     pub fn get(&self, key: usize) -> Option<&V> {
-        let Places(first, values) = self.0.as_deref()?;
-        values.get(key.wrapping_sub(*first)).map(|value| &**value)
+        self.1.get(key.wrapping_sub(self.0)).map(|value| &**value)
     }
     #[inline]
     pub fn get_mut(&mut self, key: usize) -> Option<&mut V> {
-        let Places(first, values) = self.0.as_deref_mut()?;
-        values.get_mut(key.wrapping_sub(*first)).map(|value| &mut **value)
+        self.1.get_mut(key.wrapping_sub(self.0)).map(|value| &mut **value)
     }
     #[inline]
     pub fn len(&self) -> usize {
-        self.0.as_deref().map_or(0, |places| places.1.len())
+        self.1.len()
     }
 }
-impl<V> Drop for Places<V> {
+impl<V> Drop for Slab<V> {
     fn drop(&mut self) {
-        self.1.drain().map(ManuallyDrop::into_inner).for_each(drop);
+        if !self.1.is_empty() {
+            self.1.drain().map(ManuallyDrop::into_inner).for_each(drop);
+        }
     }
 }
 impl<T> Vec<T> {

@@ -49,6 +49,24 @@ fn taken() -> (isize, usize) {
 }
 
 #[test]
+fn an_idle_channel_takes_little() {
+    let held = |make: fn() -> (vamorilesh::Sender<u64>, vamorilesh::Receiver<u64>)| {
+        let before = taken().0;
+        let _channel = make();
+        taken().0 - before
+    };
+    for capacity in [1, 10, 1_000] {
+        let channel = match capacity {
+            1 => held(|| bounded(1)),
+            10 => held(|| bounded(10)),
+            _ => held(|| bounded(1_000)),
+        };
+        assert!(channel - 8 * capacity <= 200);
+    }
+    assert!(held(unbounded) <= 200);
+}
+
+#[test]
 fn a_drained_queue_keeps_a_few_kilobytes() {
     const MESSAGES: u64 = 1_000_000;
     let (s, r) = unbounded();

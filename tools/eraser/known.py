@@ -26,7 +26,7 @@ PATHS = {
     'slab::Slab': 'crate::shim::Slab',
 }
 # Types that need no `use` in the source, and have another name in Rust.
-EVERYWHERE = {'Vec': 'crate::shim::Vec'}
+EVERYWHERE = {'Box': 'crate::shim::Box', 'Vec': 'crate::shim::Vec'}
 
 DERIVES = {'Clone', 'Copy', 'Debug', 'Eq', 'PartialEq'}
 BOUNDS = {'Bell', 'Ledger'}

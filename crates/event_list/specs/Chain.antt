@@ -1,9 +1,10 @@
 -- The list that the entries of a slab make: each names the one before and the one behind it.
 -- No public clause cites this module.
 use Rattle.std.specs.Prelude.{◌≡◌, ℕ, zero, suc, ◌+◌, ◌-◌, List, [], ◌∷◌, ◌++◌, map, length, Option, Some, None, false}
+use Rattle.std.specs.Global.{Box}
 use Rattle.slab.specs.Slab.{Slab, get, slab_len}
 use Rattle.identity.specs.Keys.{is_among, AreDifferent}
-use Rattle.event_list.specs.Waiting.{Waiting, keys}
+use Rattle.event_list.specs.Waiting.{Waiting, nobody, keys}
 use Rattle.event_list.specs.declared.entries.Entry.{Entry}
 use Rattle.event_list.specs.declared.ends.Ends.{Ends}
 use Rattle.event_list.specs.declared.entries.EntryState.{EntryState}
@@ -101,3 +102,8 @@ module _ {W : Type 0} where
   -- The fields of a `WaitList` keep the list that they show.
   abbrev pub KeepShown : Slab (Entry W) → Ends → ℕ → ℕ → Type 0
   KeepShown slab ends len told = Keeps slab ends len told (shown slab ends len told)
+
+  -- The list that is kept in memory of its own: without that memory nobody waits.
+  abbrev pub kept_list : Option (Box (Waiting W)) → Waiting W
+  kept_list None = nobody
+  kept_list (Some kept) = kept.value

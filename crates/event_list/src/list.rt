@@ -18,12 +18,16 @@
 //!
 //! A counted call hands the ledger that it is given to the call of the same name of `links`, where
 //! the work is done. A call of the plain name opens a ledger and runs the counted one on it.
-ghost use Rattle.std.specs.Prelude.{◌≡◌, ◌+◌, ◌<◌, ◌≤◌, ◌↔◌, length, take, is_ok, is_some, IsTrue, IfNone, IfOk, IfErr, OnOk, OnErr, slice_get, false};
+//!
+//! The first who waits takes the memory in which `links` stand. Until then a list is a pointer, and
+//! a call that looks for an entry counts one look-up and finds none.
+ghost use Rattle.std.specs.Prelude.{◌≡◌, ◌+◌, ◌<◌, ◌≤◌, ◌↔◌, length, take, is_ok, is_some, IsTrue, IfNone, IfSome, IfOk, IfErr, OnOk, OnErr, slice_get, false};
 ghost use Rattle.std.specs.Bool.{OnTrue, OnFalse};
 ghost use Rattle.std.specs.Option.{option_map, option_and_then, option_copied};
 ghost use Rattle.identity.specs.Keys.{is_among, AreDifferent};
 ghost use Rattle.event_list.specs.Waiting.{LosesOne, IsWaiting, nobody, keys, told_count, payloads, is_told, payload_of, told_flag, payload_in, joined, without, renewed, told_one, told_all, cancelled, rung_by_cancelling, RingsEach};
 ghost use Rattle.event_list.specs.Opens.{Opens};
+ghost use Rattle.event_list.specs.Chain.{kept_list};
 
 pub(crate) mod steps;
 
@@ -34,7 +38,7 @@ use crate::ticket::Ticket;
 use std::alloc::Global;
 use std::marker::{Brand, Model};
 use std::sync::ledger::{Blank, Ledger};
-use steps::Steps;
+use steps::{Lookups, Steps};
 
 /// There was no memory for another entry. It hands the payload back.
 ///
@@ -54,6 +58,8 @@ pub struct NoRoom<W>(pub W);
 /// it tells. The counted calls say how many: they have the contracts of the calls of the plain
 /// names, which run them on a ledger of their own. Each counts on the ledger that it is handed, at
 /// most that number and at least one where it reaches an entry.
+///
+/// A list takes memory with the first who waits, and keeps it for those who come later.
 ///
 /// `renew`, `unregister` and `withdraw` are `again`, `remove` and `cancel` that give back the payload
 /// which these drop: for payloads whose drop runs a caller's code, as that of a waker does.
@@ -75,8 +81,10 @@ pub struct NoRoom<W>(pub W);
 /// ```
 #[derive(Drop)]
 pub struct WaitList<W> {
-    // The entries, and all work on them.
-    links: Links<W>,
+    // The entries, and all work on them. Nothing before somebody waits.
+    links: Option<Box<Links<W>>>,
+    // Where their memory comes from.
+    alloc: Global,
 }
 
 impl<W> Model for WaitList<W> {
@@ -84,7 +92,9 @@ impl<W> Model for WaitList<W> {
 
     ghost Value = { Waiting W };
 
-    ghost view = { λ list. list.links };
+    ghost use Rattle.event_list.specs.Chain.{kept_list};
+
+    ghost view = { λ list. kept_list list.links };
 }
 
 impl<W: Drop> WaitList<W> {
@@ -100,9 +110,7 @@ impl<W: Drop> WaitList<W> {
     pub fn new(alloc: Global) -> Self
         ensures { result ≡ nobody }
     {
-        WaitList {
-            links: Links::new(alloc),
-        }
+        WaitList { links: None, alloc }
     }
 
     /// A new entry goes last, untold, under a key that isn't in the list.
@@ -175,7 +183,7 @@ impl<W: Drop> WaitList<W> {
         ensures rung { RingsEach B.rings bell.old (take 1 (payloads self.old)) bell.new }
         ensures different { AreDifferent (keys self.new) }
     {
-        if !self.links.has_untold() {
+        if !self.has_untold() {
             return false;
         }
         self.tell_one_from::<B, Brand>(bell, Blank::new(1))
@@ -202,7 +210,7 @@ impl<W: Drop> WaitList<W> {
         ensures rung { RingsEach B.rings bell.old (payloads self.old) bell.new }
         ensures different { AreDifferent (keys self.new) }
     {
-        if !self.links.has_untold() {
+        if !self.has_untold() {
             return 0;
         }
         self.tell_all_from::<B, Brand>(bell, Blank::new(1))
@@ -358,7 +366,13 @@ impl<W: Drop> WaitList<W> {
         ensures counted { steps.new ≤ steps.old + 6 }
         ensures on_this_ledger { steps.old < steps.new }
     {
-        self.links.listen(w, &mut steps.lookups)
+        let Some(mut links) = made(self.alloc, self.links.take()) else {
+            steps.lookups.raise();
+            return Err(NoRoom(w));
+        };
+        let answer = links.listen(w, &mut steps.lookups);
+        self.links = Some(links);
+        answer
     }
 
     /// `again`, which counts its look-ups: at most 6.
@@ -372,7 +386,7 @@ impl<W: Drop> WaitList<W> {
         ensures counted { steps.new ≤ steps.old + 6 }
         ensures on_this_ledger { steps.old < steps.new }
     {
-        self.links.renew(t, w, &mut steps.lookups).is_ok()
+        self.renew_by(t, w, &mut steps.lookups).is_ok()
     }
 
     /// `tell_one`, which counts its look-ups: one where one is told, and else none.
@@ -387,7 +401,10 @@ impl<W: Drop> WaitList<W> {
         ensures different { AreDifferent (keys self.new) }
         ensures counted { steps.new ≡ steps.old + length (take 1 (payloads self.old)) }
     {
-        self.links.tell_one(bell, &mut steps.lookups)
+        match &mut self.links {
+            Some(links) => links.tell_one(bell, &mut steps.lookups),
+            None => false,
+        }
     }
 
     /// `tell_all`, which counts its look-ups: one for each untold entry.
@@ -402,7 +419,10 @@ impl<W: Drop> WaitList<W> {
         ensures different { AreDifferent (keys self.new) }
         ensures counted { steps.new ≡ steps.old + length (payloads self.old) }
     {
-        self.links.tell_all(bell, &mut steps.lookups)
+        match &mut self.links {
+            Some(links) => links.tell_all(bell, &mut steps.lookups),
+            None => 0,
+        }
     }
 
     /// `remove`, which counts its look-ups: at most 6.
@@ -415,7 +435,7 @@ impl<W: Drop> WaitList<W> {
         ensures counted { steps.new ≤ steps.old + 6 }
         ensures on_this_ledger { steps.old < steps.new }
     {
-        Some(self.links.unregister(t, &mut steps.lookups)?.is_told())
+        Some(self.unregister_by(t, &mut steps.lookups)?.is_told())
     }
 
     /// `cancel`, which counts its look-ups: at most 12.
@@ -432,7 +452,7 @@ impl<W: Drop> WaitList<W> {
         ensures counted { steps.new ≤ steps.old + 12 }
         ensures on_this_ledger { steps.old < steps.new }
     {
-        self.links.withdraw(t, bell, &mut steps.lookups);
+        self.withdraw_by(t, bell, &mut steps.lookups);
     }
 
     /// How many wait.
@@ -440,14 +460,20 @@ impl<W: Drop> WaitList<W> {
         ensures count { result ≡ length (keys self.now) }
         ensures different { AreDifferent (keys self.now) }
     {
-        self.links.len()
+        match &self.links {
+            Some(links) => links.len(),
+            None => 0,
+        }
     }
 
     /// How many are told.
     pub fn told(&self) -> usize
         ensures { result ≡ told_count self.now }
     {
-        self.links.told()
+        match &self.links {
+            Some(links) => links.told(),
+            None => 0,
+        }
     }
 
     /// Whether the ticket's entry is in the list.
@@ -486,7 +512,102 @@ impl<W: Drop> WaitList<W> {
     pub fn first_told(&self) -> Option<usize>
         ensures { result ≡ slice_get self.now.told 0 }
     {
-        self.links.first_told()
+        match &self.links {
+            Some(links) => links.first_told(),
+            None => None,
+        }
+    }
+}
+
+// What several calls have in common.
+impl<W: Drop> WaitList<W> {
+    /// Whether somebody is untold.
+    #[inline(always)]
+    fn has_untold(&self) -> bool
+        ensures answer { IsTrue result ↔ (0 < length (payloads self.now)) }
+        ensures different { AreDifferent (keys self.now) }
+    {
+        match &self.links {
+            Some(links) => links.has_untold(),
+            None => false,
+        }
+    }
+
+    fn renew_by<L: Ledger>(
+        &mut self,
+        t: &Ticket,
+        w: W,
+        lookups: &mut Lookups<L>,
+    ) -> Result<Option<W>, W>
+        ensures found { is_ok result ≡ is_some (told_flag self.old t.now) }
+        ensures replaced { IfOk result (λ payload. payload ≡ payload_in t.now self.old.untold) }
+        ensures handed_back { IfErr result (λ payload. payload ≡ w) }
+        ensures after { self.new ≡ renewed self.old t.now w }
+        ensures waits { OnOk result (IsWaiting self.new t.now w) }
+        ensures unchanged { OnErr result (self.new ≡ self.old) }
+        ensures different { AreDifferent (keys self.new) }
+        ensures sizes { LosesOne self.old t.now }
+        ensures counted { lookups.new ≤ lookups.old + 6 }
+        ensures on_this_ledger { lookups.old < lookups.new }
+    {
+        let Some(links) = &mut self.links else {
+            lookups.raise();
+            return Err(w);
+        };
+        links.renew(t, w, lookups)
+    }
+
+    fn unregister_by<L: Ledger>(
+        &mut self,
+        t: Ticket,
+        lookups: &mut Lookups<L>,
+    ) -> Option<EntryState<W>>
+        ensures was_told { option_map is_told result ≡ told_flag self.old t }
+        ensures payload { option_and_then payload_of result ≡ payload_in t self.old.untold }
+        ensures after { self.new ≡ without self.old t }
+        ensures unchanged { IfNone result (self.new ≡ self.old) }
+        ensures different { AreDifferent (keys self.new) }
+        ensures sizes { LosesOne self.old t }
+        ensures counted { lookups.new ≤ lookups.old + 6 }
+        ensures on_this_ledger { lookups.old < lookups.new }
+    {
+        let Some(links) = &mut self.links else {
+            lookups.raise();
+            return None;
+        };
+        links.unregister(t, lookups)
+    }
+
+    fn withdraw_by<B: Bell<W>, L: Ledger>(
+        &mut self,
+        t: Ticket,
+        bell: &mut B,
+        lookups: &mut Lookups<L>,
+    ) -> Option<W>
+        ensures payload { result ≡ payload_in t self.old.untold }
+        ensures after { self.new ≡ cancelled self.old t }
+        ensures rung { RingsEach B.rings bell.old (rung_by_cancelling self.old t) bell.new }
+        ensures different { AreDifferent (keys self.new) }
+        ensures sizes { LosesOne self.old t }
+        ensures counted { lookups.new ≤ lookups.old + 12 }
+        ensures on_this_ledger { lookups.old < lookups.new }
+    {
+        let Some(links) = &mut self.links else {
+            lookups.raise();
+            return None;
+        };
+        links.withdraw(t, bell, lookups)
+    }
+}
+
+/// The entries, for which memory is taken where there are none yet.
+fn made<W: Drop>(alloc: Global, links: Option<Box<Links<W>>>) -> Option<Box<Links<W>>>
+    ensures kept { IfSome result (λ made. made.value ≡ kept_list links) }
+    ensures refused { IfNone result (kept_list links ≡ nobody) }
+{
+    match links {
+        Some(links) => Some(links),
+        None => Box::new(alloc, Links::new(alloc)).ok(),
     }
 }
 
@@ -570,7 +691,7 @@ impl<W: Drop> WaitList<W> {
         ensures sizes { LosesOne self.old t.now }
     {
         let mut steps = Steps::<L>::of(blank);
-        self.links.renew(t, w, &mut steps.lookups)
+        self.renew_by(t, w, &mut steps.lookups)
     }
 
     fn unregister_from<L: Ledger>(&mut self, t: Ticket, blank: Blank) -> Option<EntryState<W>>
@@ -583,7 +704,7 @@ impl<W: Drop> WaitList<W> {
         ensures sizes { LosesOne self.old t }
     {
         let mut steps = Steps::<L>::of(blank);
-        self.links.unregister(t, &mut steps.lookups)
+        self.unregister_by(t, &mut steps.lookups)
     }
 
     fn withdraw_from<B: Bell<W>, L: Ledger>(
@@ -600,7 +721,7 @@ impl<W: Drop> WaitList<W> {
         ensures sizes { LosesOne self.old t }
     {
         let mut steps = Steps::<L>::of(blank);
-        self.links.withdraw(t, bell, &mut steps.lookups)
+        self.withdraw_by(t, bell, &mut steps.lookups)
     }
 
     fn is_told_from<L: Ledger>(&self, t: &Ticket, blank: Blank) -> Option<bool>
@@ -608,7 +729,10 @@ impl<W: Drop> WaitList<W> {
         ensures { result ≡ told_flag self.now t.now }
     {
         let mut steps = Steps::<L>::of(blank);
-        self.links.is_told(t, &mut steps.lookups)
+        match &self.links {
+            Some(links) => links.is_told(t, &mut steps.lookups),
+            None => None,
+        }
     }
 
     fn payload_from<L: Ledger>(&self, t: &Ticket, blank: Blank) -> Option<&W>

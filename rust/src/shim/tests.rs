@@ -40,7 +40,7 @@ fn a_slab_that_was_large_gives_its_room_back_and_the_key_that_was_left_last() {
     for turn in 0..3 {
         let last = [9_999, 5_000, 0][turn];
         let keys: std::vec::Vec<_> = (0..10_000).filter(|key| *key != last).collect();
-        let first = slab.0.as_ref().unwrap().0;
+        let first = slab.0;
         for key in keys.into_iter().chain([last]) {
             assert_eq!(slab.try_remove(first.wrapping_add(key)), Some(7));
         }
@@ -64,7 +64,7 @@ fn a_slab_keeps_a_little_room() {
 
 /// How many values there is room for.
 fn room(slab: &Slab<u64>) -> usize {
-    slab.0.as_ref().unwrap().1.capacity()
+    slab.1.capacity()
 }
 
 #[test]

@@ -19,6 +19,11 @@
 //!
 //! A counted call hands the ledger that it is given to the call of the same name of `links`, where
 //! the work is done. A call of the plain name opens a ledger and runs the counted one on it.
+//!
+//! The first who waits takes the memory in which `links` stand. Until then a list is a pointer, and
+//! a call that looks for an entry counts one look-up and finds none.
+
+use crate::shim::Box;
 
 pub(crate) mod steps;
 
@@ -29,7 +34,7 @@ use crate::proved::event_list::ticket::Ticket;
 use crate::shim::Global;
 use crate::shim::Brand;
 use crate::shim::{Blank, Ledger};
-use steps::Steps;
+use steps::{Lookups, Steps};
 
 /// There was no memory for another entry. It hands the payload back.
 pub struct NoRoom<W>(pub W);
@@ -42,20 +47,22 @@ pub struct NoRoom<W>(pub W);
 /// names, which run them on a ledger of their own. Each counts on the ledger that it is handed, at
 /// most that number and at least one where it reaches an entry.
 ///
+/// A list takes memory with the first who waits, and keeps it for those who come later.
+///
 /// `renew`, `unregister` and `withdraw` are `again`, `remove` and `cancel` that give back the payload
 /// which these drop: for payloads whose drop runs a caller's code, as that of a waker does.
 pub struct WaitList<W> {
-    // The entries, and all work on them.
-    links: Links<W>,
+    // The entries, and all work on them. Nothing before somebody waits.
+    links: Option<Box<Links<W>>>,
+    // Where their memory comes from.
+    alloc: Global,
 }
 
 impl<W> WaitList<W> {
     /// A list where nobody waits. It takes no memory.
     #[inline]
     pub fn new(alloc: Global) -> Self {
-        WaitList {
-            links: Links::new(alloc),
-        }
+        WaitList { links: None, alloc }
     }
 
     /// A new entry goes last, untold, under a key that isn't in the list.
@@ -73,7 +80,7 @@ impl<W> WaitList<W> {
     /// Tells the longest waiting untold entry. The answer is whether there was one.
     #[inline(always)]
     pub fn tell_one<B: Bell<W>>(&mut self, bell: &mut B) -> bool {
-        if !self.links.has_untold() {
+        if !self.has_untold() {
             return false;
         }
         self.tell_one_from::<B, Brand>(bell, Blank::new(1))
@@ -82,7 +89,7 @@ impl<W> WaitList<W> {
     /// Tells every untold entry, and answers how many there were.
     #[inline(always)]
     pub fn tell_all<B: Bell<W>>(&mut self, bell: &mut B) -> usize {
-        if !self.links.has_untold() {
+        if !self.has_untold() {
             return 0;
         }
         self.tell_all_from::<B, Brand>(bell, Blank::new(1))
@@ -126,13 +133,19 @@ impl<W> WaitList<W> {
         w: W,
         steps: &mut Steps<L>,
     ) -> Result<Ticket, NoRoom<W>> {
-        self.links.listen(w, &mut steps.lookups)
+        let Some(mut links) = made(self.alloc, self.links.take()) else {
+            steps.lookups.raise();
+            return Err(NoRoom(w));
+        };
+        let answer = links.listen(w, &mut steps.lookups);
+        self.links = Some(links);
+        answer
     }
 
     /// `again`, which counts its look-ups: at most 6.
     #[inline]
     pub fn again_counted<L: Ledger>(&mut self, t: &Ticket, w: W, steps: &mut Steps<L>) -> bool {
-        self.links.renew(t, w, &mut steps.lookups).is_ok()
+        self.renew_by(t, w, &mut steps.lookups).is_ok()
     }
 
     /// `tell_one`, which counts its look-ups: one where one is told, and else none.
@@ -142,7 +155,10 @@ impl<W> WaitList<W> {
         bell: &mut B,
         steps: &mut Steps<L>,
     ) -> bool {
-        self.links.tell_one(bell, &mut steps.lookups)
+        match &mut self.links {
+            Some(links) => links.tell_one(bell, &mut steps.lookups),
+            None => false,
+        }
     }
 
     /// `tell_all`, which counts its look-ups: one for each untold entry.
@@ -152,13 +168,16 @@ impl<W> WaitList<W> {
         bell: &mut B,
         steps: &mut Steps<L>,
     ) -> usize {
-        self.links.tell_all(bell, &mut steps.lookups)
+        match &mut self.links {
+            Some(links) => links.tell_all(bell, &mut steps.lookups),
+            None => 0,
+        }
     }
 
     /// `remove`, which counts its look-ups: at most 6.
     #[inline]
     pub fn remove_counted<L: Ledger>(&mut self, t: Ticket, steps: &mut Steps<L>) -> Option<bool> {
-        Some(self.links.unregister(t, &mut steps.lookups)?.is_told())
+        Some(self.unregister_by(t, &mut steps.lookups)?.is_told())
     }
 
     /// `cancel`, which counts its look-ups: at most 12.
@@ -169,19 +188,25 @@ impl<W> WaitList<W> {
         bell: &mut B,
         steps: &mut Steps<L>,
     ) {
-        self.links.withdraw(t, bell, &mut steps.lookups);
+        self.withdraw_by(t, bell, &mut steps.lookups);
     }
 
     /// How many wait.
     #[inline]
     pub fn len(&self) -> usize {
-        self.links.len()
+        match &self.links {
+            Some(links) => links.len(),
+            None => 0,
+        }
     }
 
     /// How many are told.
     #[inline]
     pub fn told(&self) -> usize {
-        self.links.told()
+        match &self.links {
+            Some(links) => links.told(),
+            None => 0,
+        }
     }
 
     /// Whether the ticket's entry is in the list.
@@ -205,7 +230,72 @@ impl<W> WaitList<W> {
     /// The key of the first entry, where somebody is told.
     #[inline]
     pub fn first_told(&self) -> Option<usize> {
-        self.links.first_told()
+        match &self.links {
+            Some(links) => links.first_told(),
+            None => None,
+        }
+    }
+}
+
+// What several calls have in common.
+impl<W> WaitList<W> {
+    /// Whether somebody is untold.
+    #[inline(always)]
+    fn has_untold(&self) -> bool {
+        match &self.links {
+            Some(links) => links.has_untold(),
+            None => false,
+        }
+    }
+
+    #[inline]
+    fn renew_by<L: Ledger>(
+        &mut self,
+        t: &Ticket,
+        w: W,
+        lookups: &mut Lookups<L>,
+    ) -> Result<Option<W>, W> {
+        let Some(links) = &mut self.links else {
+            lookups.raise();
+            return Err(w);
+        };
+        links.renew(t, w, lookups)
+    }
+
+    #[inline]
+    fn unregister_by<L: Ledger>(
+        &mut self,
+        t: Ticket,
+        lookups: &mut Lookups<L>,
+    ) -> Option<EntryState<W>> {
+        let Some(links) = &mut self.links else {
+            lookups.raise();
+            return None;
+        };
+        links.unregister(t, lookups)
+    }
+
+    #[inline]
+    fn withdraw_by<B: Bell<W>, L: Ledger>(
+        &mut self,
+        t: Ticket,
+        bell: &mut B,
+        lookups: &mut Lookups<L>,
+    ) -> Option<W> {
+        let Some(links) = &mut self.links else {
+            lookups.raise();
+            return None;
+        };
+        links.withdraw(t, bell, lookups)
+    }
+}
+
+/// The entries, for which memory is taken where there are none yet.
+#[inline]
+fn made<W>(alloc: Global, links: Option<Box<Links<W>>>) -> Option<Box<Links<W>>> {
+    match links {
+        Some(links) => Some(links),
+        None => Box::new(alloc, Links::new(alloc)).ok(),
     }
 }
 
@@ -245,13 +335,13 @@ impl<W> WaitList<W> {
     #[inline]
     fn renew_from<L: Ledger>(&mut self, t: &Ticket, w: W, blank: Blank) -> Result<Option<W>, W> {
         let mut steps = Steps::<L>::of(blank);
-        self.links.renew(t, w, &mut steps.lookups)
+        self.renew_by(t, w, &mut steps.lookups)
     }
 
     #[inline]
     fn unregister_from<L: Ledger>(&mut self, t: Ticket, blank: Blank) -> Option<EntryState<W>> {
         let mut steps = Steps::<L>::of(blank);
-        self.links.unregister(t, &mut steps.lookups)
+        self.unregister_by(t, &mut steps.lookups)
     }
 
     #[inline]
@@ -262,13 +352,16 @@ impl<W> WaitList<W> {
         blank: Blank,
     ) -> Option<W> {
         let mut steps = Steps::<L>::of(blank);
-        self.links.withdraw(t, bell, &mut steps.lookups)
+        self.withdraw_by(t, bell, &mut steps.lookups)
     }
 
     #[inline]
     fn is_told_from<L: Ledger>(&self, t: &Ticket, blank: Blank) -> Option<bool> {
         let mut steps = Steps::<L>::of(blank);
-        self.links.is_told(t, &mut steps.lookups)
+        match &self.links {
+            Some(links) => links.is_told(t, &mut steps.lookups),
+            None => None,
+        }
     }
 
     #[inline]
