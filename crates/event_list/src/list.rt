@@ -740,6 +740,9 @@ impl<W: Drop> WaitList<W> {
         ensures { option_copied result ≡ payload_in t.now self.now.untold }
     {
         let mut steps = Steps::<L>::of(blank);
-        self.links.payload(t, &mut steps.lookups)
+        match &self.links {
+            Some(links) => links.payload(t, &mut steps.lookups),
+            None => None,
+        }
     }
 }
