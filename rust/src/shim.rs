@@ -160,6 +160,9 @@ impl<T> VecDeque<T, Global> {
         self.0.push_back(value);
         Ok(())
     }
+    pub fn push_front_reserved(&mut self, value: T) {
+        self.0.push_front(value);
+    }
     #[inline]
     pub fn pop_front(&mut self) -> Option<T> {
         let value = self.0.pop_front();

@@ -1,3 +1,4 @@
 mod Refusals
 mod Logging
 mod Ready
+mod Rounds

@@ -29,8 +29,10 @@
 mod blocking;
 mod handles;
 pub mod inspect;
+mod iter;
 mod locked;
 mod log;
+mod many;
 mod mark;
 mod ops;
 mod polls;
@@ -46,6 +48,8 @@ pub use channel_core::{
 };
 pub use handles::{Receiver, Sender, bounded, unbounded};
 pub use identity::{Stamp, StampMaker};
+pub use iter::TryIter;
+pub use many::ROUND_LIMIT;
 pub use ops::{Closed, Recv, Send};
 pub use tag::Tag;
 pub use weak::{WeakReceiver, WeakSender};

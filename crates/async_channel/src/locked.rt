@@ -3,10 +3,12 @@
 //! Whoever takes the lock gets a [`Locked`]: the channel, and the bell with which its steps tell
 //! others. Each call of it is one step of the channel. Where it is dropped, the lock is free
 //! first, and then who was told first is woken.
-ghost use Rattle.std.specs.Prelude.{◌≡◌, ◌==◌, ◌&&◌, length, [], None, IfOk, IfErr, OnOk, OnErr, not};
+ghost use Rattle.std.specs.Prelude.{◌≡◌, ◌==◌, ◌&&◌, ◌+◌, ◌++◌, ◌<◌, ◌≤◌, drop, length, take, [], None, IfOk, IfErr, OnOk, OnErr, not};
+ghost use Rattle.std.specs.Vec.{vec_len, vec_capacity};
 ghost use Rattle.event_list.specs.Waiting.{keys, told_count};
 ghost use Rattle.channel_model.specs.Tables.{try_send_answer, force_send_answer, try_recv_answer};
 ghost use Rattle.channel_core.specs.Channel.{is_channel_full, list_of, oldest, GrowsWithMessages, sent, force_sent, received, closing, sender_dropped, receiver_dropped_by};
+ghost use Rattle.channel_core.specs.Batches.{CanSendNoMore, counted, moved_count, received_many, sent_many, taken_count};
 ghost use Rattle.channel_core.specs.Counts.{may_add, count_added, upgrade_answer, count_upgraded};
 ghost use Rattle.channel_core.specs.Tickets.{left};
 ghost use Rattle.async_channel.specs.Held.{then, send_cancelled, recv_cancelled};
@@ -15,7 +17,11 @@ use crate::inspect::Waiters;
 use crate::mark::Mark;
 use crate::ringer::Ringer;
 use crate::shared::Shared;
-use channel_core::{Core, Group, NoMemory, SendError, Ticket, TryRecvError, TrySendError, Upgrade};
+use channel_core::{
+    Core, Group, NoMemory, OutOfMemory, SendError, Ticket, TryRecvError, TrySendError, Upgrade,
+};
+use std::alloc::Global;
+use std::collections::VecDeque;
 use std::marker::Model;
 use std::sync::{MutexGuard, Wait};
 
@@ -96,6 +102,44 @@ impl<T: Drop, R: Wait> Locked<'_, T, R> {
         ensures after { self.new ≡ then received self.old }
     {
         self.core.try_recv(&mut self.bell)
+    }
+
+    pub(crate) fn try_send_many(
+        &mut self,
+        from: &mut VecDeque<T, Global>,
+        limit: usize,
+    ) -> Result<Result<usize, TrySendError<()>>, OutOfMemory>
+        ensures reply { IfOk result (λ answer. answer ≡ counted (moved_count result)
+            (try_send_answer self.old.channel.closed (is_channel_full self.old.channel) tt)) }
+        ensures limit { moved_count result ≤ limit }
+        ensures within { moved_count result ≤ length from.old.items }
+        ensures rest { from.new.items ≡ drop (moved_count result) from.old.items }
+        ensures after { self.new
+            ≡ then (sent_many (take (moved_count result) from.old.items)) self.old }
+        ensures stops { moved_count result < limit
+            → CanSendNoMore from.new.items self.new.channel }
+        ensures wanted { OnErr result (GrowsWithMessages self.old.channel) }
+    {
+        self.core.try_send_many(from, limit, &mut self.bell)
+    }
+
+    pub(crate) fn try_recv_many(
+        &mut self,
+        into: &mut Vec<T>,
+        limit: usize,
+    ) -> Result<Result<usize, TryRecvError>, OutOfMemory>
+        ensures reply { IfOk result
+            (λ answer. answer ≡ counted (taken_count limit self.old.channel)
+            (try_recv_answer (oldest self.old.channel) self.old.channel.closed)) }
+        ensures taken { into.new.items
+            ≡ into.old.items ++ take (moved_count result) self.old.channel.messages }
+        ensures after { self.new ≡ then (received_many (moved_count result)) self.old }
+        ensures limit { moved_count result ≤ limit }
+        ensures count { length into.new.items ≡ length into.old.items + moved_count result }
+        ensures wanted { OnErr result
+            (vec_capacity into.old < vec_len into.old + taken_count limit self.old.channel) }
+    {
+        self.core.try_recv_many(into, limit, &mut self.bell)
     }
 
     pub(crate) fn close(&mut self) -> bool

@@ -1,3 +1,4 @@
 pub mod Rings
 mod Forced
 mod Replaced
+mod Turns

@@ -3,3 +3,4 @@ pub mod Queue
 pub mod Store
 pub mod Tickets
 pub mod Channel
+pub mod Batches

@@ -33,6 +33,7 @@ use event_list::{Bell, Ticket};
 use std::alloc::Global;
 use std::marker::Model;
 
+mod batches;
 mod calls;
 mod handles;
 mod polls;

@@ -7,7 +7,8 @@ use async_channel::{
 use futures::Stream;
 use futures::task::Poll;
 use futures::test::MockTask;
-use std::alloc::AllocGlobal;
+use std::alloc::{AllocGlobal, Global};
+use std::collections::VecDeque;
 use std::process::Abort;
 use std::random::RandomSource;
 use std::sync::Wait;
@@ -26,10 +27,14 @@ pub enum Kind {
 #[derive(Clone, Copy, Debug)]
 pub enum Call {
     TrySend(u64),
+    /// Of the messages from the first number up to the second.
+    TrySendMany(u64, u64),
     ForceSend(u64),
     Send(u64),
     SendBlocking(u64),
     TryRecv,
+    /// Up to so many.
+    TryRecvMany(usize),
     Recv,
     Next,
     RecvBlocking,
@@ -49,9 +54,13 @@ pub enum Call {
 pub enum Answer {
     Pending,
     TrySent(Result<(), TrySendError<u64>>),
+    /// How many were sent, and how many are left.
+    SentMany(Result<usize, TrySendError<()>>, usize),
     Forced(Result<Option<u64>, SendError<u64>>),
     Sent(Result<(), SendError<u64>>),
     Received(Result<u64, TryRecvError>),
+    /// The messages in order, with 0 in each place that is left.
+    ReceivedMany(Result<usize, TryRecvError>, [u64; 4]),
     Got(Result<u64, RecvError>),
     Item(Option<u64>),
     Flag(bool),
@@ -155,7 +164,12 @@ impl<R: Wait + Clone + Drop + RandomSource + AllocGlobal> Ends<R> {
             Call::DropSender => self.sender = None,
             Call::DropReceiver => self.receiver = None,
             Call::CopyAndDrop => return self.copy_and_drop(),
-            Call::TryRecv | Call::Recv | Call::Next | Call::RecvBlocking | Call::CloseReceiver => {
+            Call::TryRecv
+            | Call::TryRecvMany(_)
+            | Call::Recv
+            | Call::Next
+            | Call::RecvBlocking
+            | Call::CloseReceiver => {
                 let receiver = self.receiver.as_mut().ok_or("a receiver")?;
                 return received(rt, receiver, call);
             }
@@ -211,6 +225,36 @@ fn next_once<R: Wait + Clone + Drop + RandomSource + AllocGlobal>(
     next(&task, receiver)
 }
 
+/// Attempts to send the messages from the first number up to the last.
+fn sent_many<R: Wait + Clone + Drop>(
+    alloc: Global,
+    sender: &Sender<u64, R>,
+    first: u64,
+    last: u64,
+) -> Result<Answer, Fail> {
+    let mut from = VecDeque::new(alloc);
+    for message in first..=last {
+        from.push_back(message)?;
+    }
+    let answer = sender.try_send_many(&mut from)?;
+    Ok(Answer::SentMany(answer, from.len()))
+}
+
+/// Attempts to receive up to so many messages.
+fn received_many<R: Wait + Clone + Drop>(
+    alloc: Global,
+    receiver: &Receiver<u64, R>,
+    limit: usize,
+) -> Result<Answer, Fail> {
+    let mut into = Vec::new(alloc);
+    let answer = receiver.try_recv_many(&mut into, limit)?;
+    let mut messages = [0; 4];
+    for (place, message) in messages.iter_mut().zip(&into) {
+        *place = *message;
+    }
+    Ok(Answer::ReceivedMany(answer, messages))
+}
+
 fn sent<R: Wait + Clone + Drop + RandomSource + AllocGlobal>(
     rt: &R,
     sender: &Sender<u64, R>,
@@ -218,6 +262,7 @@ fn sent<R: Wait + Clone + Drop + RandomSource + AllocGlobal>(
 ) -> Result<Answer, Fail> {
     Ok(match call {
         Call::TrySend(m) => Answer::TrySent(sender.try_send(m)?),
+        Call::TrySendMany(first, last) => sent_many(rt.alloc(), sender, first, last)?,
         Call::ForceSend(m) => Answer::Forced(sender.force_send(m)?),
         Call::Send(m) => polled_once(rt, Waiter::Sending(sender.send(m)))?,
         Call::SendBlocking(m) => Answer::Sent(sender.send_blocking(m)?),
@@ -233,6 +278,7 @@ fn received<R: Wait + Clone + Drop + RandomSource + AllocGlobal>(
 ) -> Result<Answer, Fail> {
     Ok(match call {
         Call::TryRecv => Answer::Received(receiver.try_recv()),
+        Call::TryRecvMany(limit) => received_many(rt.alloc(), receiver, limit)?,
         Call::Recv => polled_once(rt, Waiter::Receiving(receiver.recv()))?,
         Call::Next => next_once(rt, receiver)?,
         Call::RecvBlocking => Answer::Got(receiver.recv_blocking()?),

@@ -148,6 +148,28 @@ fn an_unbounded_queue_keeps_the_order() {
 }
 
 #[test]
+fn what_left_a_queue_may_go_back_to_its_front() {
+    let mut queue = VecDeque::<u64, Global>::new(Global);
+    for message in [1, 2] {
+        assert!(queue.push_back(message).is_ok());
+    }
+    assert_eq!(queue.pop_front(), Some(1));
+    queue.push_front_reserved(1);
+    assert_eq!((queue.pop_front(), queue.pop_front(), queue.pop_front()), (Some(1), Some(2), None));
+}
+
+#[test]
+fn a_list_has_the_room_that_was_asked_for() {
+    let mut list = Vec::new(Global);
+    assert!(list.try_reserve(3).is_ok());
+    let room = list.capacity();
+    assert!(room >= 3 && (0..3).all(|value| list.push(value).is_ok()));
+    assert_eq!(list.capacity(), room);
+    assert!(list.try_reserve(usize::MAX).is_err());
+    assert_eq!(list.len(), 3);
+}
+
+#[test]
 fn a_list_keeps_the_order() {
     let mut list = Vec::with_capacity(Global, 2).ok().unwrap();
     assert!(list.push(1).is_ok());

@@ -1,5 +1,5 @@
 //! The calls that never wait: a message in, a message out, and the end of the channel.
-ghost use Rattle.std.specs.Prelude.{◌≡◌, not, Some, None, IfOk, OnOk, OnErr, IfErr};
+ghost use Rattle.std.specs.Prelude.{◌≡◌, not, Some, None, Err, IfOk, OnOk, OnErr, IfErr};
 ghost use Rattle.event_list.specs.Waiting.{RingsEach};
 ghost use Rattle.channel_model.specs.Tables.{try_send_answer, force_send_answer, try_recv_answer};
 ghost use Rattle.channel_core.specs.Channel.{is_channel_full, oldest, GrowsWithMessages, sent, force_sent, received, closing};
@@ -109,8 +109,19 @@ impl<T: Drop, W: Drop> Core<T, W> {
                 self.lists.sends.tell_one(bell);
                 Ok(message)
             }
-            None if self.closed => Err(TryRecvError::Closed),
-            None => Err(TryRecvError::Empty),
+            None => Err(self.why_empty()),
+        }
+    }
+
+    // Why a channel without a message has none: none will come, or none is there yet.
+    #[inline(always)]
+    pub(crate) fn why_empty(&self) -> TryRecvError
+        ensures { Err result ≡ try_recv_answer {T = T} None self.now.closed }
+    {
+        if self.closed {
+            TryRecvError::Closed
+        } else {
+            TryRecvError::Empty
         }
     }
 

@@ -27,6 +27,7 @@ use crate::proved::channel_model::OutOfMemory;
 use crate::proved::event_list::{Bell, Ticket};
 use crate::shim::Global;
 
+mod batches;
 mod calls;
 mod handles;
 mod polls;

@@ -57,8 +57,17 @@ impl<T, W> Core<T, W> {
                 self.lists.sends.tell_one(bell);
                 Ok(message)
             }
-            None if self.closed => Err(TryRecvError::Closed),
-            None => Err(TryRecvError::Empty),
+            None => Err(self.why_empty()),
+        }
+    }
+
+    // Why a channel without a message has none: none will come, or none is there yet.
+    #[inline(always)]
+    pub(crate) fn why_empty(&self) -> TryRecvError {
+        if self.closed {
+            TryRecvError::Closed
+        } else {
+            TryRecvError::Empty
         }
     }
 
