@@ -367,6 +367,9 @@ impl<W> WaitList<W> {
     #[inline]
     fn payload_from<L: Ledger>(&self, t: &Ticket, blank: Blank) -> Option<&W> {
         let mut steps = Steps::<L>::of(blank);
-        self.links.payload(t, &mut steps.lookups)
+        match &self.links {
+            Some(links) => links.payload(t, &mut steps.lookups),
+            None => None,
+        }
     }
 }
