@@ -2,9 +2,9 @@
 //! say what the proofs rely on.
 //!
 //! Memory isn't refused here. Where there is none the program ends, as with every collection of
-//! `std`, so that an answer which tells of a refusal can't be made. A collection that gets empty gives
-//! its memory back but for [`KEPT`] bytes: nothing has to be moved for that, and it takes more anew
-//! only after as many insertions as fit into what it kept.
+//! `std`, so that an answer which tells of a refusal can't be made. A slab that gets empty gives its
+//! memory back where that is more than [`KEPT`] bytes: no place is visited for that, and it takes as
+//! much anew only after as many insertions.
 
 use std::mem::{size_of, ManuallyDrop};
 
@@ -36,10 +36,10 @@ impl<L> Book<L> {
     pub fn add(&mut self, _share: &mut Share<L>, _amount: u64) {}
 }
 
-/// How many bytes an empty queue or slab keeps at the most, if one value doesn't take more.
+/// How many bytes an empty slab keeps at the most, if one value doesn't take more.
 const KEPT: usize = 4096;
 
-/// How many values an empty collection keeps room for.
+/// How many values an empty slab keeps room for.
 fn kept<V>() -> usize {
     KEPT.checked_div(size_of::<V>()).map_or(usize::MAX, |count| count.max(1))
 }
@@ -163,13 +163,8 @@ impl<T> VecDeque<T, Global> {
     pub fn push_front_reserved(&mut self, value: T) {
         self.0.push_front(value);
     }
-    #[inline]
-    pub fn pop_front(&mut self) -> Option<T> {
-        let value = self.0.pop_front();
-        if self.0.is_empty() && self.0.capacity() > kept::<T>() {
-            self.0.shrink_to(kept::<T>());
-        }
-        value
+    pub fn allocator(&self) -> &Global {
+        &self.1
     }
 }
 impl<T> HeapCircularBuffer<T> {

@@ -78,6 +78,40 @@ fn a_drained_queue_keeps_a_few_kilobytes() {
 }
 
 #[test]
+fn a_drained_queue_gives_back_what_is_more_than_it_keeps() {
+    let (s, r) = unbounded();
+    let before = taken().0;
+    for count in [10_000, 600, 513] {
+        (0..count).for_each(|message: u64| s.try_send(message).unwrap());
+        assert!((0..count - 1).all(|message| r.try_recv() == Ok(message)));
+        assert!(taken().0 - before >= 8 * count as isize);
+        assert_eq!(r.try_recv(), Ok(count - 1));
+        assert_eq!(taken().0, before);
+    }
+}
+
+#[test]
+fn a_drained_queue_keeps_room_for_four_large_messages_or_any_number_without_a_size() {
+    const LARGE: usize = 8 << 10;
+    let (s, r) = unbounded();
+    let before = taken().0;
+    let round = |count| {
+        (0..count).for_each(|_| s.try_send([0_u8; LARGE]).unwrap());
+        (0..count).for_each(|_| assert!(r.try_recv().is_ok()));
+        taken().0 - before
+    };
+    assert!((1..=4).contains(&(round(3) / LARGE as isize)));
+    let kept = taken();
+    round(3);
+    assert_eq!(taken(), kept);
+    assert_eq!(round(5), 0);
+    let (s, r) = unbounded();
+    (0..10_000).for_each(|_| s.try_send(()).unwrap());
+    assert!((0..10_000).all(|_| r.try_recv() == Ok(())));
+    assert!(r.try_recv().is_err());
+}
+
+#[test]
 fn a_queue_that_fills_and_drains_a_little_asks_for_no_memory() {
     let (s, r) = unbounded();
     let round = || {

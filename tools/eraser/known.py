@@ -17,6 +17,7 @@ PATHS = {
     'std::marker::Brand': 'crate::shim::Brand',
     'std::marker::Model': None,
     'std::mem::replace': 'std::mem::replace',
+    'std::mem::size_of': 'std::mem::size_of',
     'std::sync::ledger::Blank': 'crate::shim::Blank',
     'std::sync::ledger::Book': 'crate::shim::Book',
     'std::sync::ledger::Ledger': 'crate::shim::Ledger',

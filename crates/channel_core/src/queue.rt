@@ -1,5 +1,7 @@
 //! The queue of a channel's messages.
-ghost use Rattle.std.specs.Prelude.{◌≡◌, ◌<◌, [], length, slice_get, Some, None, IfOk, IfErr, OnOk, OnErr};
+ghost use Rattle.std.specs.Prelude.{◌≡◌, ◌<◌, [], drop, length, slice_get, Some, None, IfOk, IfErr, OnOk, OnErr};
+ghost use prog.Memory.{size, capped};
+ghost use denote.Param.{layout};
 ghost use Rattle.channel_core.specs.Queue.{contents, push_reply, pushed, force_push_reply, force_pushed, popped, IsWithin};
 
 use channel_model::{NoMemory, OutOfMemory};
@@ -7,6 +9,14 @@ use circular_buffer::HeapCircularBuffer;
 use std::alloc::Global;
 use std::collections::VecDeque;
 use std::marker::Model;
+use std::mem::size_of;
+
+/// How many bytes a drained queue without a bound keeps at the most, for the messages to come.
+const KEPT_BYTES: usize = 4096;
+
+/// How many messages it keeps room for in any case, so that large ones don't ask for memory at each
+/// push into an empty queue.
+const KEPT_MESSAGES: usize = 4;
 
 #[derive(Drop)]
 enum Store<T> {
@@ -17,7 +27,8 @@ enum Store<T> {
 /// Messages in order, the oldest first.
 ///
 /// A bounded queue has all its memory from the start, so that a push into it never asks for any. An
-/// unbounded one grows as messages come.
+/// unbounded one grows as messages come. Once it is drained it gives its memory back, but for a few
+/// KB that it keeps for the messages to come.
 ///
 /// # Examples
 ///
@@ -42,6 +53,33 @@ impl<T> Model for Queue<T> {
     ghost view = { λ queue. contents_of queue.store };
 
     ghost invariant = { λ queue. HasPlaces queue.store };
+}
+
+/// Takes the oldest message of a queue without a bound. Where it was the last one, more memory than
+/// is kept goes back. Nothing is moved for that, and there is as much again only once as many
+/// messages are held.
+#[inline(always)]
+fn pop_and_shrink<T: Drop>(deque: &mut VecDeque<T, Global>) -> Option<T>
+    ensures message { result ≡ slice_get deque.old.items 0 }
+    ensures rest { deque.new.items ≡ drop 1 deque.old.items }
+{
+    let message = deque.pop_front();
+    if deque.is_empty() && is_large::<T>(deque.capacity()) {
+        *deque = VecDeque::new(*deque.allocator());
+    }
+    message
+}
+
+/// Whether so many messages take more memory than is kept.
+fn is_large<T>(capacity: usize) -> bool {
+    KEPT_MESSAGES < capacity && KEPT_BYTES < capacity.saturating_mul(message_size::<T>())
+}
+
+/// The bytes that a message takes in a queue.
+fn message_size<T>() -> usize
+    ensures { result ≡ capped (size (layout T.row)) }
+{
+    size_of::<T>()
 }
 
 impl<T: Drop> Queue<T> {
@@ -159,7 +197,7 @@ impl<T: Drop> Queue<T> {
     {
         match &mut self.store {
             Store::Ring(ring) => ring.pop_front(),
-            Store::Deque(deque) => deque.pop_front(),
+            Store::Deque(deque) => pop_and_shrink(deque),
         }
     }
 

@@ -79,33 +79,6 @@ fn a_slab_drops_what_it_holds() {
 }
 
 #[test]
-fn an_unbounded_queue_gives_its_room_back_once_it_is_drained() {
-    let mut queue = VecDeque::<u64, Global>::new(Global);
-    for count in [10_000, 600, 513] {
-        for message in 0..count {
-            assert!(queue.push_back(message).is_ok());
-        }
-        assert!((0..count - 1).all(|message| queue.pop_front() == Some(message)));
-        assert!(queue.0.capacity() as u64 >= count);
-        assert_eq!(queue.pop_front(), Some(count - 1));
-        assert!((1..=KEPT / size_of::<u64>()).contains(&queue.0.capacity()));
-    }
-}
-
-#[test]
-fn an_unbounded_queue_keeps_room_for_one_large_message_or_any_number_without_a_size() {
-    let mut queue = VecDeque::<[u8; 2 * KEPT], Global>::new(Global);
-    for _ in 0..3 {
-        assert!(queue.push_back([0; 2 * KEPT]).is_ok());
-    }
-    while queue.pop_front().is_some() {}
-    assert_eq!(queue.0.capacity(), 1);
-    let mut queue = VecDeque::<(), Global>::new(Global);
-    assert!(queue.push_back(()).is_ok());
-    assert_eq!((queue.pop_front(), queue.pop_front()), (Some(()), None));
-}
-
-#[test]
 fn a_bounded_queue_hands_back_what_is_too_much() {
     let mut queue = HeapCircularBuffer::with_capacity(Global, 2).ok().unwrap();
     assert_eq!(queue.try_push_back(1), Ok(()));

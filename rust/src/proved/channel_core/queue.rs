@@ -5,6 +5,14 @@ use crate::proved::channel_model::{NoMemory, OutOfMemory};
 use crate::shim::HeapCircularBuffer;
 use crate::shim::Global;
 use crate::shim::VecDeque;
+use std::mem::size_of;
+
+/// How many bytes a drained queue without a bound keeps at the most, for the messages to come.
+const KEPT_BYTES: usize = 4096;
+
+/// How many messages it keeps room for in any case, so that large ones don't ask for memory at each
+/// push into an empty queue.
+const KEPT_MESSAGES: usize = 4;
 
 enum Store<T> {
     Ring(HeapCircularBuffer<T>),
@@ -14,9 +22,34 @@ enum Store<T> {
 /// Messages in order, the oldest first.
 ///
 /// A bounded queue has all its memory from the start, so that a push into it never asks for any. An
-/// unbounded one grows as messages come.
+/// unbounded one grows as messages come. Once it is drained it gives its memory back, but for a few
+/// KB that it keeps for the messages to come.
 pub struct Queue<T> {
     store: Store<T>,
+}
+
+/// Takes the oldest message of a queue without a bound. Where it was the last one, more memory than
+/// is kept goes back. Nothing is moved for that, and there is as much again only once as many
+/// messages are held.
+#[inline(always)]
+fn pop_and_shrink<T>(deque: &mut VecDeque<T, Global>) -> Option<T> {
+    let message = deque.pop_front();
+    if deque.is_empty() && is_large::<T>(deque.capacity()) {
+        *deque = VecDeque::new(*deque.allocator());
+    }
+    message
+}
+
+/// Whether so many messages take more memory than is kept.
+#[inline]
+fn is_large<T>(capacity: usize) -> bool {
+    KEPT_MESSAGES < capacity && KEPT_BYTES < capacity.saturating_mul(message_size::<T>())
+}
+
+/// The bytes that a message takes in a queue.
+#[inline]
+fn message_size<T>() -> usize {
+    size_of::<T>()
 }
 
 impl<T> Queue<T> {
@@ -74,7 +107,7 @@ impl<T> Queue<T> {
     pub fn pop(&mut self) -> Option<T> {
         match &mut self.store {
             Store::Ring(ring) => ring.pop_front(),
-            Store::Deque(deque) => deque.pop_front(),
+            Store::Deque(deque) => pop_and_shrink(deque),
         }
     }
 
