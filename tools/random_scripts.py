@@ -1,6 +1,6 @@
-"""Draws scripts for `chanrun` from a seed and a number, one in six of them spoilt.
+"""Random scripts for `chanrun`, by a seed and a number, one in six of them spoilt.
 
-Names are drawn from those that are probably live, so that most lines are more than a refusal.
+Names are picked from those that are probably live, so that most lines are more than a refusal.
 Nothing here says what a reply should be.
 """
 
@@ -8,8 +8,8 @@ LARGEST = 2**64 - 1
 LONGEST_LINE = 256
 
 
-class Draw:
-    """Drawn numbers, the same for the same seed (SplitMix64)."""
+class Random:
+    """Random numbers, the same for the same seed (SplitMix64)."""
 
     def __init__(self, *seeds):
         self.state = 0
@@ -40,7 +40,7 @@ class Draw:
             place -= weight
 
 
-# How often each command is drawn.
+# How often each command is picked.
 WEIGHTS = {
     'try_send': 12, 'force_send': 4, 'try_recv': 10, 'send': 14, 'recv': 14, 'closed': 7,
     'poll': 22, 'next': 10, 'notice': 12, 'settle': 9, 'drop': 10, 'clone': 5, 'downgrade': 3,
@@ -52,35 +52,35 @@ WEAK = {'s': 'ws', 'r': 'wr'}
 
 
 class Writer:
-    """Draws the lines of a script, and keeps the names that are probably live."""
+    """Makes the lines of a script, and keeps the names that are probably live."""
 
-    def __init__(self, draw):
-        self.draw = draw
+    def __init__(self, random):
+        self.random = random
         self.live = {'s': ['s0'], 'r': ['r0'], 'ws': [], 'wr': [], 'o': []}
         self.borrows = {}
         self.message = 0
         # A part of the scripts never closes by hand, so that more of them stay open.
-        self.closes = draw.one_in(2)
+        self.closes = random.one_in(2)
 
     def script(self):
-        first = 'unbounded' if self.draw.one_in(3) else f'bounded {1 + self.draw.below(4)}'
-        count = 10 + self.draw.below(160)
+        first = 'unbounded' if self.random.one_in(3) else f'bounded {1 + self.random.below(4)}'
+        count = 10 + self.random.below(160)
         return [first] + [self.line() for _ in range(count)]
 
     def name(self, space):
         """A name of the space: most often one that is probably live."""
         live = self.live[space]
-        if live and not self.draw.one_in(20):
-            return self.draw.pick(live)
-        if self.draw.one_in(50):
-            return f'{space}{LARGEST - self.draw.below(2)}'
-        return f'{space}{self.draw.below(8)}'
+        if live and not self.random.one_in(20):
+            return self.random.pick(live)
+        if self.random.one_in(50):
+            return f'{space}{LARGEST - self.random.below(2)}'
+        return f'{space}{self.random.below(8)}'
 
     def new_name(self, space):
-        if self.draw.one_in(12):
+        if self.random.one_in(12):
             return self.name(space)
         while True:
-            name = f'{space}{self.draw.below(40 + len(self.live[space]))}'
+            name = f'{space}{self.random.below(40 + len(self.live[space]))}'
             if name not in self.live[space]:
                 return name
 
@@ -89,14 +89,14 @@ class Writer:
             self.live[space].append(name)
 
     def handle(self):
-        return self.name(self.draw.pick('sr'))
+        return self.name(self.random.pick('sr'))
 
     def number(self):
         self.message += 1
-        return str(LARGEST - self.message if self.draw.one_in(100) else self.message)
+        return str(LARGEST - self.message if self.random.one_in(100) else self.message)
 
     def line(self):
-        command = self.draw.weighted(WEIGHTS)
+        command = self.random.weighted(WEIGHTS)
         if command == 'close' and not self.closes:
             command = 'len'
         write = getattr(self, command, None)
@@ -118,7 +118,7 @@ class Writer:
     next = is_terminated = try_recv
 
     def notice(self):
-        return (self.name('r' if self.draw.one_in(3) else 'o'),)
+        return (self.name('r' if self.random.one_in(3) else 'o'),)
 
     def start(self, space, *words):
         operation, handle = self.new_name('o'), self.name(space)
@@ -136,15 +136,15 @@ class Writer:
         return self.start('s')
 
     def clone(self):
-        space = self.draw.pick(['s', 'r', 'ws', 'wr'])
+        space = self.random.pick(['s', 'r', 'ws', 'wr'])
         return self.copied(space, space)
 
     def downgrade(self):
-        space = self.draw.pick('sr')
+        space = self.random.pick('sr')
         return self.copied(space, WEAK[space])
 
     def upgrade(self):
-        space = self.draw.pick('sr')
+        space = self.random.pick('sr')
         return self.copied(WEAK[space], space)
 
     def copied(self, space, to):
@@ -153,13 +153,13 @@ class Writer:
         return name, new
 
     def drop(self):
-        space = self.draw.weighted({'s': 2, 'r': 2, 'ws': 1, 'wr': 1, 'o': 8})
+        space = self.random.weighted({'s': 2, 'r': 2, 'ws': 1, 'wr': 1, 'o': 8})
         name = self.name(space)
-        if space in WEAK and name in self.borrows.values() and not self.draw.one_in(4):
+        if space in WEAK and name in self.borrows.values() and not self.random.one_in(4):
             space, name = 'o', self.name('o')
         borrowed = name in self.borrows.values()
         # The last handles of a side go less often, so that more happens before the end.
-        if space in WEAK and len(self.live[space]) == 1 and not self.draw.one_in(3):
+        if space in WEAK and len(self.live[space]) == 1 and not self.random.one_in(3):
             return (self.name('o'),)
         if name in self.live[space] and not borrowed:
             self.live[space].remove(name)
@@ -167,30 +167,30 @@ class Writer:
         return (name,)
 
 
-def drawn(seed, number):
-    """The bytes of drawn script `number`."""
-    draw = Draw(seed, number)
-    lines = Writer(draw).script()
+def random_script(seed, number):
+    """The bytes of random script `number`."""
+    random = Random(seed, number)
+    lines = Writer(random).script()
     text = ('\n'.join(lines) + '\n').encode()
-    return spoilt(draw, text) if number % 6 == 5 else text
+    return spoilt(random, text) if number % 6 == 5 else text
 
 
-def spoilt(draw, text):
+def spoilt(random, text):
     """The script with a fault somewhere, most often."""
     lines = text.split(b'\n')
-    place = 1 + draw.below(len(lines) - 2)
+    place = 1 + random.below(len(lines) - 2)
     words = lines[place].split(b' ')
     last = b' '.join(words[:-1])
     ways = {
-        'cut': lambda: text[: draw.below(len(text))],
-        'byte': lambda: text[: (at := draw.below(len(text)))] + bytes([draw.below(256)])
+        'cut': lambda: text[: random.below(len(text))],
+        'byte': lambda: text[: (at := random.below(len(text)))] + bytes([random.below(256)])
         + text[at + 1 :],
-        'first': lambda: b'\n'.join([first_line(draw), *lines[1:]]),
-        'noise': lambda: bytes(draw.below(256) for _ in range(draw.below(400))),
+        'first': lambda: b'\n'.join([first_line(random), *lines[1:]]),
+        'noise': lambda: bytes(random.below(256) for _ in range(random.below(400))),
     }
     spoils = {
-        'long': b'x' * (LONGEST_LINE - 1 + draw.below(4)),
-        'long number': lines[place] + b'0' * (LONGEST_LINE - len(lines[place]) + draw.below(2)),
+        'long': b'x' * (LONGEST_LINE - 1 + random.below(4)),
+        'long number': lines[place] + b'0' * (LONGEST_LINE - len(lines[place]) + random.below(2)),
         'more words': lines[place] + b' s0',
         'fewer words': last,
         'spaces': lines[place].replace(b' ', b'  ', 1),
@@ -200,18 +200,18 @@ def spoilt(draw, text):
         'command': words[0].upper() + b' s0',
         'first again': b'unbounded',
         'leading zero': last + b' s00',
-        'other name': last + b' ' + draw.pick([b's0', b'r0', b'ws0', b'wr0', b'o0', b'x0', b'7']),
+        'other name': last + b' ' + random.pick([b's0', b'r0', b'ws0', b'wr0', b'o0', b'x0', b'7']),
         'large name': last + b' s18446744073709551616',
-        'large number': b'try_send s0 1844674407370955161' + bytes([48 + draw.below(10)]),
-        'no number': b'try_send s0 ' + draw.pick([b'01', b'-1', b'1x', b'', b'+1']),
+        'large number': b'try_send s0 1844674407370955161' + bytes([48 + random.below(10)]),
+        'no number': b'try_send s0 ' + random.pick([b'01', b'-1', b'1x', b'', b'+1']),
     }
     for kind, line in spoils.items():
         ways[kind] = lambda line=line: b'\n'.join([*lines[:place], line, *lines[place + 1 :]])
-    return ways[draw.pick(sorted(ways))]()
+    return ways[random.pick(sorted(ways))]()
 
 
-def first_line(draw):
-    return draw.pick([
+def first_line(random):
+    return random.pick([
         b'bounded 0', b'bounded 1000000', b'bounded 1000001', b'bounded 18446744073709551616',
         b'bounded', b'bounded 1 1', b'bounded 02', b'bounded x', b'unbounded 1', b'unbound', b'',
         b' unbounded', b'UNBOUNDED', b'len s0', b'\xff\xfe',

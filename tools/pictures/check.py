@@ -1,13 +1,15 @@
 #!/usr/bin/env python3
-"""Runs the built chandraw on the repository's scripts, on drawn ones and on hostile input.
+"""Runs the built chandraw on the repository's scripts, on random ones and on hostile input.
 
 The pictures of docs/pictures are drawn anew from examples/NAME.chan and compared, and so is the
 terminal's form in docs/LOOKING.md. Each picture has to be XML that Python's parser accepts, with a
 row of less than 1 KB for each line that the built chanrun prints of the same script, and that line
 in it, and room for all of them; statuses and messages have to be chanrun's. The replies to `len`
-and `notice` have to agree with the messages and the waiting lists beside them. The terminal's form
-has to keep to 100 columns of ASCII. Where a request for memory is refused, the picture has to be
-whole still, or else a beginning of it, with the message that says so.
+and `notice` have to agree with the messages and the waiting lists beside them. The rows of
+examples.py have to show, in both forms, what stands there, and a cell that is too small how many
+others there are. The terminal's form has to keep to 100 columns of ASCII. Where a request for
+memory is refused, the picture has to be whole still, or else a beginning of it, with the message
+that says so.
 
 The gate leaves the programs built; where one isn't, `rt run` builds it. The last line counts the
 cases, and the status is 0 where all passed.
@@ -28,10 +30,13 @@ import xml.etree.ElementTree as ElementTree
 TOP = pathlib.Path(__file__).resolve().parent.parent.parent
 sys.path.insert(0, str(TOP / "tools"))
 
-from random_scripts import LARGEST, drawn  # noqa: E402
+from random_scripts import LARGEST, random_script  # noqa: E402
+import examples  # noqa: E402
+from rows import LISTS, svg_rows, svg_strokes, text_rows  # noqa: E402
+from states import states_of  # noqa: E402
 
 PICTURES = ("handed_on", "forced", "closes")
-DRAWN = 300
+RANDOM = 300
 SEED = 7
 # to how many of them questions are added, and after how many names each line asks
 ASKED = 20
@@ -41,6 +46,8 @@ ROW_BYTES = 1024
 FRAME_BYTES = 8192
 COLUMNS = 100
 ROW_HEIGHT = 20
+# each cell has room for a word of this many letters, and for how many others there are
+NARROW = 7
 TEXT = "{http://www.w3.org/2000/svg}text"
 LINES_AT = "44"
 REPLIES_AT = "236"
@@ -184,7 +191,7 @@ def documented(programs):
 
 def scripts():
     """The scripts of the repository, by their places."""
-    paths = [*TOP.glob("examples/*.chan"), *TOP.glob("crates/chan*_program/stdin")]
+    paths = [*TOP.glob("examples/*.chan"), *TOP.glob("crates/program_chan*/stdin")]
     return {
         str(path.relative_to(TOP)): path.read_bytes()
         for path in sorted(paths) if "explore" not in str(path)
@@ -305,6 +312,78 @@ def with_questions(given):
     return b"\n".join([first, *(b"\n".join([line, *questions]) for line in others if line)])
 
 
+def rows_shown(given, programs):
+    """The rows of both forms of a script, and its picture in SVG."""
+    picture = run(programs["chandraw"], given).stdout
+    text = run(programs["chandraw"], given, ["--text"]).stdout.decode()
+    return list(svg_rows(picture)), list(text_rows(text)), picture
+
+
+def first_difference(form, shown, wanted):
+    """The first row that shows something else than is wanted."""
+    if len(shown) != len(wanted):
+        return [f"{form}: {len(shown)} rows, not {len(wanted)}"]
+    return [f"{form}: {it}, not {want}" for it, want in zip(shown, wanted) if it != want][:1]
+
+
+def wrong_with_example(example, strokes, programs):
+    """What is wrong with both forms of an example, row by row."""
+    in_svg, in_text, picture = rows_shown(examples.script_of(example), programs)
+    wanted = list(examples.rows_of(example))
+    wrong = first_difference("SVG", in_svg, [row._replace(lanes=None) for row in wanted])
+    polled = [row._replace(line=row.line.removesuffix(" settling")) for row in wanted]
+    wrong += first_difference("text", in_text, polled)
+    if strokes is not None:
+        wrong += first_difference("lines", sorted(svg_strokes(picture)), sorted(strokes))
+    return wrong
+
+
+def is_cut(cell, words):
+    """Whether a cell shows these words, or the first of them and how many others there are."""
+    rest = int(cell[-1]) if cell and cell[-1].startswith("+") else 0
+    shown = cell[:-1] if rest else cell
+    is_narrow = bool(words) and len(words[0]) <= NARROW
+    counts = len(shown) + rest == len(words)
+    return counts and shown == words[: len(shown)] and not (is_narrow and not shown)
+
+
+def wrong_with_states(given, programs):
+    """The first row in which a form shows other messages or lists than the rules ask for."""
+    replies = run(programs["chanrun"], given).stdout.decode().split("\n")[:-1]
+    in_svg, in_text, _picture = rows_shown(given, programs)
+    for svg, text, (held, *lists) in zip(in_svg, in_text, states_of(given, replies)):
+        waiting = [word for name in LISTS for word in getattr(text, name)]
+        right = is_cut(svg.held, held) and is_cut(text.held, held)
+        right = right and all(is_cut(getattr(svg, it), who) for it, who in zip(LISTS, lists))
+        if not right or not is_cut(waiting, sum(lists, [])):
+            return [f"{svg} and {text}, not {held}, {lists}"]
+    return [] if len(in_svg) == len(in_text) == len(replies) else ["a row is missing"]
+
+
+def wrong_with_cuts(programs):
+    """Where a cell that is too small for what it has to show says a wrong number of the others."""
+    def rows(lines):
+        given = "\n".join(["unbounded", *lines, ""]).encode()
+        in_svg, in_text, _picture = rows_shown(given, programs)
+        return zip(in_svg, in_text)
+
+    names = list(examples.many_names())
+    for shown, (line, others) in zip(rows(line for line, _others in names), names):
+        rest = f"+{others}" if others else ""
+        if [row.rest for row in shown] != [rest, rest]:
+            yield f"`{line}` beside {[row.rest for row in shown]}"
+    messages = list(examples.many_messages())
+    for shown, (line, held) in zip(rows(line for line, _held in messages), messages):
+        if not all(is_cut(row.held, held) for row in shown):
+            yield f"`{line}` beside {[row.held for row in shown]}"
+    waits = list(examples.many_waits())
+    for (in_svg, in_text), (line, receives, closed) in zip(rows(it[0] for it in waits), waits):
+        both = in_text.receives + in_text.closed
+        right = is_cut(in_svg.receives, receives) and is_cut(in_svg.closed, closed)
+        if not right or not is_cut(both, receives + closed):
+            yield f"`{line}` beside {in_svg.receives}, {in_svg.closed}, {both}"
+
+
 def cases(programs, write):
     """Each case: its name, and what is wrong with it."""
     for name in PICTURES:
@@ -312,13 +391,19 @@ def cases(programs, write):
     yield "terminal's form of forced", documented(programs)
     for name, given in (scripts() | hostile()).items():
         yield name, wrong_with(given, programs)
-    for number in range(DRAWN):
-        yield f"drawn script {number}", wrong_with(drawn(SEED, number), programs)
+    for number in range(RANDOM):
+        given = random_script(SEED, number)
+        yield f"random script {number}", wrong_with(given, programs)
+        if number % 6 != 5:
+            yield f"the rows of random script {number}", wrong_with_states(given, programs)
     for number in range(ASKED):
-        given = with_questions(drawn(SEED, number))
-        yield f"drawn script {number} with questions", wrong_with(given, programs)
+        given = with_questions(random_script(SEED, number))
+        yield f"random script {number} with questions", wrong_with(given, programs)
     borrowed = with_questions(hostile()["a stream whose receiver is borrowed"])
     yield "a stream whose receiver is borrowed, with questions", wrong_with(borrowed, programs)
+    for name, (example, strokes) in examples.EXAMPLES.items():
+        yield f"example {name}", wrong_with_example(example, strokes, programs)
+    yield "cells that are too small", list(wrong_with_cuts(programs))[:1]
     yield from wrong_arguments(programs)
     yield from wrong_devices(programs)
     yield from wrong_memory(programs)

@@ -5,11 +5,11 @@ use Rattle.std.proofs.lemmas.List.{append-nil, flat_map_more}
 use Rattle.std.proofs.lemmas.Grind.{flat_map-append}
 use Rattle.std.specs.Io.KnownBytes.{Appends}
 use Rattle.chanrun.proofs.Known.{appends_none, appends_more}
-use Rattle.chandraw.specs.Pieces.{pieces_bytes, row_bytes}
+use Rattle.chandraw.specs.Fragments.{fragments_bytes, row_bytes}
 use Rattle.chandraw.specs.Picture.{AreRows, HasPicture, HasRows, row_line}
-use Rattle.chandraw_layout.specs.declared.piece.Form.{Form}
-use Rattle.chandraw_layout.specs.declared.piece.Piece.{Piece}
-use Rattle.chandraw.specs.declared.piece.Row.{Row}
+use Rattle.chandraw_layout.specs.declared.fragment.Form.{Form}
+use Rattle.chandraw_layout.specs.declared.fragment.Fragment.{Fragment}
+use Rattle.chandraw.specs.declared.fragment.Row.{Row}
 
 pub no_rows : (form : Form) → AreRows form [] []
 no_rows form = record { rows = []; replies = refl; drawn = refl }
@@ -43,21 +43,21 @@ pub written_more : (form : Form) (text others : List ℕ) (a b c : Option (List 
 written_more form text others a b c first second =
     (first.0 ++ second.0, rows_both form text first.0 others second.0 first.1 second.1, appends_more a b c first.0 second.0 first.2 second.2)
 
--- rows with pieces before and behind them
-pub framed : (form : Form) (text : List ℕ) (opening closing : List Piece) (a b c d : Option (List ℕ))
-    → Appends a b (pieces_bytes form opening) → HasRows form text b c → Appends c d (pieces_bytes form closing)
+-- rows with fragments before and behind them
+pub framed : (form : Form) (text : List ℕ) (opening closing : List Fragment) (a b c d : Option (List ℕ))
+    → Appends a b (fragments_bytes form opening) → HasRows form text b c → Appends c d (fragments_bytes form closing)
     → HasPicture form text a d
 framed form text opening closing a b c d before rows behind = (
-  pieces_bytes form opening ++ (rows.0 ++ pieces_bytes form closing),
+  fragments_bytes form opening ++ (rows.0 ++ fragments_bytes form closing),
   record { opening = opening; middle = rows.0; closing = closing; rows = rows.1; whole = refl },
-  appends_more a b d (pieces_bytes form opening) _ before (appends_more b c d rows.0 (pieces_bytes form closing) rows.2 behind),
+  appends_more a b d (fragments_bytes form opening) _ before (appends_more b c d rows.0 (fragments_bytes form closing) rows.2 behind),
 )
 
--- pieces alone
-pub blank : (form : Form) (pieces : List Piece) (a b : Option (List ℕ)) → Appends a b (pieces_bytes form pieces)
+-- fragments alone
+pub blank : (form : Form) (fragments : List Fragment) (a b : Option (List ℕ)) → Appends a b (fragments_bytes form fragments)
     → HasPicture form [] a b
-blank form pieces a b written = (
-  pieces_bytes form pieces ++ [],
-  record { opening = pieces; middle = []; closing = []; rows = no_rows form; whole = refl },
-  subst (λ (bytes : List ℕ). Appends a b bytes) (sym (append-nil (pieces_bytes form pieces))) written,
+blank form fragments a b written = (
+  fragments_bytes form fragments ++ [],
+  record { opening = fragments; middle = []; closing = []; rows = no_rows form; whole = refl },
+  subst (λ (bytes : List ℕ). Appends a b bytes) (sym (append-nil (fragments_bytes form fragments))) written,
 )

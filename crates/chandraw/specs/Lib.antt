@@ -1,3 +1,3 @@
 pub mod Arguments
-pub mod Pieces
+pub mod Fragments
 pub mod Picture

@@ -6,10 +6,10 @@ use Rattle.chanrun.specs.Outcome.{HasRead}
 use Rattle.chanrun.specs.Replayed.{text_line}
 use Rattle.chanrun.specs.Script.{script_fault, script_text}
 use Rattle.chanrun.specs.declared.grammar.fault.Fault.{Fault}
-use Rattle.chandraw.specs.Pieces.{pieces_bytes, row_bytes}
-use Rattle.chandraw_layout.specs.declared.piece.Form.{Form}
-use Rattle.chandraw_layout.specs.declared.piece.Piece.{Piece}
-use Rattle.chandraw.specs.declared.piece.Row.{Row}
+use Rattle.chandraw.specs.Fragments.{fragments_bytes, row_bytes}
+use Rattle.chandraw_layout.specs.declared.fragment.Form.{Form}
+use Rattle.chandraw_layout.specs.declared.fragment.Fragment.{Fragment}
+use Rattle.chandraw.specs.declared.fragment.Row.{Row}
 
 -- the reply of a row as a line
 abbrev pub row_line : Row → List ℕ
@@ -21,13 +21,13 @@ pub record AreRows (form : Form) (text bytes : List ℕ) : Type 0 where
   pub replies : flat_map row_line rows ≡ text
   pub drawn : flat_map (row_bytes form) rows ≡ bytes
 
--- These bytes are a picture of this text: its rows, with pieces before and behind them.
+-- These bytes are a picture of this text: its rows, with fragments before and behind them.
 pub record IsPicture (form : Form) (text bytes : List ℕ) : Type 0 where
-  pub opening : List Piece
+  pub opening : List Fragment
   pub middle : List ℕ
-  pub closing : List Piece
+  pub closing : List Fragment
   pub rows : AreRows form text middle
-  pub whole : pieces_bytes form opening ++ (middle ++ pieces_bytes form closing) ≡ bytes
+  pub whole : fragments_bytes form opening ++ (middle ++ fragments_bytes form closing) ≡ bytes
 
 -- rows of this text were written
 abbrev pub HasRows : Form → (text : List ℕ) → (written written' : Option (List ℕ)) → Type 0

@@ -6,19 +6,19 @@
 //! 3. What stands behind the last reply is written.
 //!
 //! The replies in the rows, each as a line, are the text of the script. What stands around them are
-//! pieces, whose texts are escaped.
+//! fragments, whose texts are escaped.
 ghost use Rattle.std.specs.Prelude.{◌≡◌, ℕ, ◌≤◌, ◌++◌, List, [], length, map, OnOk, IfOk};
 ghost use Rattle.std.specs.List.{flat_map};
 ghost use Rattle.std.specs.Io.KnownBytes.{Appends};
 ghost use Rattle.channel_model.specs.Capacity.{HasPositiveCapacity};
 ghost use Rattle.chanrun.specs.Replayed.{answer_text, answers_text, text_line};
 ghost use Rattle.chanrun.specs.Script.{script_fault, script_text, texts_after};
-ghost use Rattle.chandraw.specs.Pieces.{pieces_bytes, row_bytes};
+ghost use Rattle.chandraw.specs.Fragments.{fragments_bytes, row_bytes};
 ghost use Rattle.chandraw.specs.Picture.{AreRows, HasPicture, HasRows, IsScriptDrawn};
-ghost use Rattle.chandraw.specs.declared.piece.Row.{Row};
+ghost use Rattle.chandraw.specs.declared.fragment.Row.{Row};
 
-use crate::piece::{Row, add_pieces, add_row};
-use chandraw_layout::{Form, Layout, Piece, RowTexts, blank};
+use crate::fragment::{Row, add_fragments, add_row};
+use chandraw_layout::{Form, Fragment, Layout, RowTexts, blank};
 use channel_model::Kind;
 use chanrun::device::{Sink, Source};
 use chanrun::grammar::Fault;
@@ -27,18 +27,18 @@ use chanrun::replay::{Answered, replay, texts_of};
 use chanrun::script::{SCRIPT_LIMIT, ScriptError, read_script, write_text};
 use std::alloc::Global;
 
-// Writes pieces.
-fn write_pieces<W: Sink>(
+// Writes fragments.
+fn write_fragments<W: Sink>(
     alloc: Global,
     form: Form,
-    pieces: &[Piece],
+    fragments: &[Fragment],
     writer: &mut W,
 ) -> Result<(), ScriptError>
     ensures { OnOk result (Appends (W.written writer.old) (W.written writer.new)
-        (pieces_bytes form pieces.now)) }
+        (fragments_bytes form fragments.now)) }
 {
     let mut page = Vec::new(alloc);
-    add_pieces(alloc, &mut page, form, pieces)?;
+    add_fragments(alloc, &mut page, form, fragments)?;
     write_text(writer, page.as_slice())
 }
 
@@ -161,10 +161,10 @@ fn draw_laid_out<W: Sink>(
         (W.written writer.old) (W.written writer.new)) }
 {
     let opening = layout.opening(first)?;
-    write_pieces(alloc, form, opening.as_slice(), writer)?;
+    write_fragments(alloc, form, opening.as_slice(), writer)?;
     draw_lines(alloc, form, layout, lines, writer)?;
     let closing = layout.closing()?;
-    write_pieces(alloc, form, closing.as_slice(), writer)
+    write_fragments(alloc, form, closing.as_slice(), writer)
 }
 
 // Draws a channel of this kind, and the lines behind the one that makes it.
@@ -204,8 +204,8 @@ fn draw_nothing<W: Sink>(alloc: Global, form: Form, writer: &mut W) -> Result<()
     ensures { OnOk result
         (HasPicture form [] (W.written writer.old) (W.written writer.new)) }
 {
-    let pieces = blank(alloc, form)?;
-    write_pieces(alloc, form, pieces.as_slice(), writer)
+    let fragments = blank(alloc, form)?;
+    write_fragments(alloc, form, fragments.as_slice(), writer)
 }
 
 // Draws what the bytes of a script say.

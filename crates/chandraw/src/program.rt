@@ -3,7 +3,7 @@ ghost use Rattle.std.specs.Prelude.{◌≡◌, ℕ, ◌⊎◌, None, Some, IfSom
 ghost use Rattle.chanrun.specs.declared.grammar.fault.Fault.{Fault};
 ghost use Rattle.chandraw.specs.Arguments.{form_in};
 ghost use Rattle.chandraw.specs.Picture.{IsScriptDrawn};
-ghost use Rattle.chandraw_layout.specs.declared.piece.Form.{Form};
+ghost use Rattle.chandraw_layout.specs.declared.fragment.Form.{Form};
 
 use crate::draw::draw_script;
 use chandraw_layout::Form;

@@ -4,8 +4,8 @@
 //! further one. Of each row the form says what stands before and behind its reply.
 ghost use Rattle.channel_model.specs.Capacity.{HasPositiveCapacity};
 
+use crate::fragment::{Form, Fragment, Fragments};
 use crate::mark::Mark;
-use crate::piece::{Form, Piece, Pieces};
 use crate::size::{Size, size_of};
 use crate::table::Table;
 use crate::{svg, terminal};
@@ -37,18 +37,18 @@ pub struct RowTexts<'a> {
 /// let lines = replay(rt.alloc(), script.kind, script.lines.as_slice())?;
 /// let mut layout = Layout::new(rt.alloc(), Form::Svg, script.kind, lines.as_slice())?;
 /// let before = layout.opening(b"unbounded")?;
-/// assert!(rt; matches!(before.first(), Some(Piece::Mark(Mark::SvgStart))));
+/// assert!(rt; matches!(before.first(), Some(Fragment::Mark(Mark::SvgStart))));
 /// let texts = RowTexts {
 ///     line,
 ///     is_first: true,
 ///     reply: "settled 0 0",
 /// };
 /// let (head, tail) = layout.around(texts)?;
-/// assert!(rt; matches!(head.first(), Some(Piece::Mark(Mark::NumberText))));
-/// assert!(rt; matches!(tail.first(), Some(Piece::Mark(Mark::TextEnd))));
+/// assert!(rt; matches!(head.first(), Some(Fragment::Mark(Mark::NumberText))));
+/// assert!(rt; matches!(tail.first(), Some(Fragment::Mark(Mark::TextEnd))));
 /// layout.end_line()?;
 /// let behind = layout.closing()?;
-/// assert!(rt; matches!(behind.last(), Some(Piece::Mark(Mark::SvgEnd))));
+/// assert!(rt; matches!(behind.last(), Some(Fragment::Mark(Mark::SvgEnd))));
 /// ```
 #[derive(Drop)]
 pub struct Layout {
@@ -81,14 +81,14 @@ impl Layout {
     }
 
     /// What stands before the first reply.
-    pub fn opening(&mut self, first: &[u8]) -> Result<Vec<Piece>, ScriptError> {
+    pub fn opening(&mut self, first: &[u8]) -> Result<Vec<Fragment>, ScriptError> {
         self.table.begin()?;
-        let pieces = match self.form {
+        let fragments = match self.form {
             Form::Svg => svg::opening(self.alloc, &self.table, self.size, first),
             Form::Terminal => terminal::opening(self.alloc, &self.table, self.size, first),
         };
         self.table.end_row();
-        Ok(pieces?)
+        Ok(fragments?)
     }
 
     // Makes a command.
@@ -103,7 +103,10 @@ impl Layout {
     }
 
     /// Makes the row of these texts, and answers what stands before its reply, and what behind it.
-    pub fn around(&mut self, texts: RowTexts<'_>) -> Result<(Vec<Piece>, Vec<Piece>), ScriptError> {
+    pub fn around(
+        &mut self,
+        texts: RowTexts<'_>,
+    ) -> Result<(Vec<Fragment>, Vec<Fragment>), ScriptError> {
         if texts.is_first {
             self.follow(texts.line.command)?;
         } else {
@@ -127,7 +130,7 @@ impl Layout {
     }
 
     /// What stands behind the last reply.
-    pub fn closing(&mut self) -> Result<Vec<Piece>, ScriptError> {
+    pub fn closing(&mut self) -> Result<Vec<Fragment>, ScriptError> {
         self.table.end_all()?;
         Ok(match self.form {
             Form::Svg => svg::closing(self.alloc, &self.table)?,
@@ -141,14 +144,14 @@ impl Layout {
 /// # Examples
 ///
 /// ```
-/// let pieces = blank(rt.alloc(), Form::Svg)?;
-/// assert_eq!(rt; pieces.len(), 1);
+/// let fragments = blank(rt.alloc(), Form::Svg)?;
+/// assert_eq!(rt; fragments.len(), 1);
 /// ```
-pub fn blank(alloc: Global, form: Form) -> Result<Vec<Piece>, AllocError> {
-    let mut pieces = Pieces::new(alloc);
-    pieces.mark(match form {
+pub fn blank(alloc: Global, form: Form) -> Result<Vec<Fragment>, AllocError> {
+    let mut fragments = Fragments::new(alloc);
+    fragments.mark(match form {
         Form::Svg => Mark::Blank,
         Form::Terminal => Mark::Newline,
     })?;
-    Ok(pieces.list)
+    Ok(fragments.list)
 }

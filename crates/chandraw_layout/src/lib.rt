@@ -2,7 +2,7 @@
 //!
 //! A picture has a row for each reply. A [`Layout`] follows the lines of the script, and says what
 //! stands before the first row, around the reply of each, and behind the last one. All of it is
-//! pieces: marks, whose bytes are constants, numbers, and texts that may be anything. How pieces
+//! fragments: marks, whose bytes are constants, numbers, and texts that may be anything. How they
 //! become bytes is for `chandraw` to say, and the replies are its own.
 //!
 //! The layout keeps a table of the live names, of who waits and of the messages held (`table`). It
@@ -11,16 +11,16 @@
 
 mod act;
 mod cells;
+mod fragment;
 mod lane;
 mod layout;
 mod mark;
 mod name;
-mod piece;
 mod size;
 mod svg;
 mod table;
 mod terminal;
 
+pub use fragment::{Form, Fragment};
 pub use layout::{Layout, RowTexts, blank};
 pub use mark::{Mark, mark_bytes};
-pub use piece::{Form, Piece};

@@ -44,10 +44,6 @@ pub(crate) struct Table {
     pub row_refused: bool,
     pub row_closes: bool,
     is_closed: bool,
-    // the ready polls that a settling made at once, whose rows aren't drawn yet
-    due: VecDeque<(Who, Reply<u64>)>,
-    // whether the lists stand in the run's order
-    is_in_order: bool,
 }
 
 impl Table {
@@ -72,8 +68,6 @@ impl Table {
             row_refused: false,
             row_closes: false,
             is_closed: false,
-            due: VecDeque::new(alloc),
-            is_in_order: true,
         })
     }
 
@@ -128,16 +122,16 @@ impl Table {
         self.draw(trace, Place { lane, row }, to)
     }
 
-    // Makes a step, and notes what it came to. It answers whether it was a poll that was ready.
-    fn make(&mut self, step: Step<u64>) -> Result<bool, OutOfMemory> {
+    /// Makes a step in a row of its own, and notes what it came to.
+    pub fn make_row(&mut self, step: Step<u64>) -> Result<(), OutOfMemory> {
+        self.begin_row();
         let act = act_of(&step, self.row);
         let (lane, before) = match subject_of(act) {
             Some(name) => (self.known(name), self.notice_at(name)),
             None => (None, Notice::Absent),
         };
         let reply = self.run.step(step);
-        self.note_reply(act, lane, before, &reply)?;
-        Ok(reply.is_ready())
+        self.note_reply(act, lane, before, &reply)
     }
 
     // Notes the reply to a step. Of who was polled or given up this was known before it.
@@ -172,13 +166,6 @@ impl Table {
         self.row_ended = None;
         self.row_refused = false;
         self.row_closes = false;
-    }
-
-    /// Makes a step in a row of its own.
-    pub fn make_row(&mut self, step: Step<u64>) -> Result<(), OutOfMemory> {
-        self.begin_row();
-        let _ready = self.make(step)?;
-        Ok(())
     }
 
     /// The lines that all that lasts has so far, in a row of their own.

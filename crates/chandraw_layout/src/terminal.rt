@@ -3,11 +3,11 @@
 //! The columns are those of the other form, and a lane is one letter wide. A text that is too long
 //! for its cell has its line to itself, and the next cell stands below it.
 use crate::cells::{add_waiting, fitted, held_cell};
+use crate::fragment::{Fragment, Fragments};
 use crate::lane::{LANES, Lane};
 use crate::layout::RowTexts;
 use crate::mark::Mark;
 use crate::name::NameKind;
-use crate::piece::{Piece, Pieces};
 use crate::size::Size;
 use crate::table::Table;
 use channel_model::{Notice, Who};
@@ -37,45 +37,45 @@ fn add_spaces(text: &mut Vec<u8>, count: usize) -> Result<(), AllocError> {
 
 // Goes on from this column to the other one, below where the column is behind it.
 fn add_gap(
-    pieces: &mut Pieces,
+    fragments: &mut Fragments,
     alloc: Global,
     column: usize,
     next: usize,
 ) -> Result<(), AllocError> {
     let mut gap = Vec::new(alloc);
     if column >= next {
-        pieces.mark(Mark::Newline)?;
+        fragments.mark(Mark::Newline)?;
         add_spaces(&mut gap, next)?;
     } else {
         add_spaces(&mut gap, next.saturating_sub(column))?;
     }
-    pieces.text(gap.as_slice())
+    fragments.text(gap.as_slice())
 }
 
 // Adds the number of a line, with a mark where it was refused.
 fn add_number(
-    pieces: &mut Pieces,
+    fragments: &mut Fragments,
     alloc: Global,
     table: &Table,
     number: u64,
 ) -> Result<(), AllocError> {
     let mark = if table.row_refused { 'x' } else { ' ' };
     let text = format!(in alloc; "{mark}{number:>4} ")?;
-    pieces.text(text.as_bytes())
+    fragments.text(text.as_bytes())
 }
 
 // Adds the number of a line, and the line, and goes on to the next cell.
 fn add_line(
-    pieces: &mut Pieces,
+    fragments: &mut Fragments,
     alloc: Global,
     table: &Table,
     number: u64,
     line: &[u8],
     next: usize,
 ) -> Result<(), AllocError> {
-    add_number(pieces, alloc, table, number)?;
-    pieces.text(line)?;
-    add_gap(pieces, alloc, LINE.saturating_add(line.len()), next)
+    add_number(fragments, alloc, table, number)?;
+    fragments.text(line)?;
+    add_gap(fragments, alloc, LINE.saturating_add(line.len()), next)
 }
 
 // where the messages held begin
@@ -85,10 +85,10 @@ fn held_column(size: Size) -> usize {
 }
 
 // Adds the titles of the columns.
-fn add_titles(pieces: &mut Pieces, alloc: Global, size: Size) -> Result<(), AllocError> {
-    pieces.mark(Mark::TerminalHead)?;
-    add_gap(pieces, alloc, NAMES.saturating_add(5), held_column(size))?;
-    pieces.mark(Mark::TerminalHeld)
+fn add_titles(fragments: &mut Fragments, alloc: Global, size: Size) -> Result<(), AllocError> {
+    fragments.mark(Mark::TerminalHead)?;
+    add_gap(fragments, alloc, NAMES.saturating_add(5), held_column(size))?;
+    fragments.mark(Mark::TerminalHeld)
 }
 
 /// What stands before the first reply: the titles, and the line that makes the channel.
@@ -97,12 +97,12 @@ pub(crate) fn opening(
     table: &Table,
     size: Size,
     first: &[u8],
-) -> Result<Vec<Piece>, AllocError> {
-    let mut pieces = Pieces::new(alloc);
-    add_titles(&mut pieces, alloc, size)?;
-    add_line(&mut pieces, alloc, table, 1, first, NAMES)?;
-    add_cells(&mut pieces, alloc, table, size)?;
-    Ok(pieces.list)
+) -> Result<Vec<Fragment>, AllocError> {
+    let mut fragments = Fragments::new(alloc);
+    add_titles(&mut fragments, alloc, size)?;
+    add_line(&mut fragments, alloc, table, 1, first, NAMES)?;
+    add_cells(&mut fragments, alloc, table, size)?;
+    Ok(fragments.list)
 }
 
 fn letter_of(kind: NameKind) -> u8 {
@@ -201,7 +201,7 @@ fn add_rest(text: &mut Vec<u8>, alloc: Global, table: &Table) -> Result<(), Allo
 
 // Adds the letters of all lanes, and how many names have none. It answers the column behind them.
 fn add_names(
-    pieces: &mut Pieces,
+    fragments: &mut Fragments,
     alloc: Global,
     table: &Table,
     size: Size,
@@ -210,7 +210,7 @@ fn add_names(
     add_letters(&mut names, table, size)?;
     add_changes(names.as_mut_slice(), table);
     add_rest(&mut names, alloc, table)?;
-    pieces.text(names.as_slice())?;
+    fragments.text(names.as_slice())?;
     Ok(NAMES.saturating_add(names.len()))
 }
 
@@ -253,7 +253,7 @@ fn waiting(alloc: Global, table: &Table, width: usize) -> Result<Vec<u8>, AllocE
 
 // Adds the cells of the messages held and of who waits behind this column, as far as one is needed.
 fn add_held_and_waiting(
-    pieces: &mut Pieces,
+    fragments: &mut Fragments,
     alloc: Global,
     column: usize,
     held_at: usize,
@@ -263,39 +263,39 @@ fn add_held_and_waiting(
     if held.is_empty() && waiting.is_empty() {
         return Ok(());
     }
-    add_gap(pieces, alloc, column, held_at)?;
-    pieces.text(held)?;
+    add_gap(fragments, alloc, column, held_at)?;
+    fragments.text(held)?;
     if waiting.is_empty() {
         return Ok(());
     }
     let column = held_at.saturating_add(held.len());
-    add_gap(pieces, alloc, column, held_at.saturating_add(HELD))?;
-    pieces.text(waiting)
+    add_gap(fragments, alloc, column, held_at.saturating_add(HELD))?;
+    fragments.text(waiting)
 }
 
 // Adds the lanes, the messages held and who waits.
 fn add_cells(
-    pieces: &mut Pieces,
+    fragments: &mut Fragments,
     alloc: Global,
     table: &Table,
     size: Size,
 ) -> Result<(), AllocError> {
-    let column = add_names(pieces, alloc, table, size)?;
+    let column = add_names(fragments, alloc, table, size)?;
     let held_at = held_column(size);
     let waiting_at = held_at.saturating_add(HELD);
     let held = held_cell(alloc, table, HELD - 1)?;
     let waiting = waiting(alloc, table, COLUMNS.saturating_sub(waiting_at))?;
     let (held, waiting) = (held.as_slice(), waiting.as_slice());
-    add_held_and_waiting(pieces, alloc, column, held_at, held, waiting)?;
-    pieces.mark(Mark::Newline)
+    add_held_and_waiting(fragments, alloc, column, held_at, held, waiting)?;
+    fragments.mark(Mark::Newline)
 }
 
 // What stands before a reply.
-fn head(alloc: Global, table: &Table, texts: RowTexts<'_>) -> Result<Vec<Piece>, AllocError> {
-    let mut pieces = Pieces::new(alloc);
+fn head(alloc: Global, table: &Table, texts: RowTexts<'_>) -> Result<Vec<Fragment>, AllocError> {
+    let mut fragments = Fragments::new(alloc);
     if texts.is_first {
         add_line(
-            &mut pieces,
+            &mut fragments,
             alloc,
             table,
             texts.line.number,
@@ -303,9 +303,9 @@ fn head(alloc: Global, table: &Table, texts: RowTexts<'_>) -> Result<Vec<Piece>,
             REPLY,
         )?;
     } else {
-        pieces.mark(Mark::TerminalPoll)?;
+        fragments.mark(Mark::TerminalPoll)?;
     }
-    Ok(pieces.list)
+    Ok(fragments.list)
 }
 
 // What stands behind a reply.
@@ -314,12 +314,12 @@ fn tail(
     table: &Table,
     size: Size,
     texts: RowTexts<'_>,
-) -> Result<Vec<Piece>, AllocError> {
-    let mut pieces = Pieces::new(alloc);
+) -> Result<Vec<Fragment>, AllocError> {
+    let mut fragments = Fragments::new(alloc);
     let column = REPLY.saturating_add(texts.reply.len());
-    add_gap(&mut pieces, alloc, column, NAMES)?;
-    add_cells(&mut pieces, alloc, table, size)?;
-    Ok(pieces.list)
+    add_gap(&mut fragments, alloc, column, NAMES)?;
+    add_cells(&mut fragments, alloc, table, size)?;
+    Ok(fragments.list)
 }
 
 /// What stands before a reply, and what behind it.
@@ -328,14 +328,14 @@ pub(crate) fn row(
     table: &Table,
     size: Size,
     texts: RowTexts<'_>,
-) -> Result<(Vec<Piece>, Vec<Piece>), AllocError> {
+) -> Result<(Vec<Fragment>, Vec<Fragment>), AllocError> {
     Ok((head(alloc, table, texts)?, tail(alloc, table, size, texts)?))
 }
 
 /// What stands behind the last reply: what the letters mean.
-pub(crate) fn closing(alloc: Global) -> Result<Vec<Piece>, AllocError> {
-    let mut pieces = Pieces::new(alloc);
-    pieces.mark(Mark::Legend)?;
-    pieces.mark(Mark::LegendEnd)?;
-    Ok(pieces.list)
+pub(crate) fn closing(alloc: Global) -> Result<Vec<Fragment>, AllocError> {
+    let mut fragments = Fragments::new(alloc);
+    fragments.mark(Mark::Legend)?;
+    fragments.mark(Mark::LegendEnd)?;
+    Ok(fragments.list)
 }

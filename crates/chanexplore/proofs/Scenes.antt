@@ -9,7 +9,7 @@ use Rattle.channel_model.specs.declared.step.Kind.{Kind}
 use Rattle.chanexplore.specs.declared.party.Act.{Act}
 use Rattle.channel_model.specs.View.{View}
 use Rattle.channel_run.specs.StandsFor.{StandsFor}
-use Rattle.chanexplore.specs.declared.party.Answer.{Answer}
+use Rattle.chanexplore.specs.declared.party.Response.{Response}
 use Rattle.chanexplore.specs.declared.party.Place.{Place}
 use Rattle.chanexplore.specs.declared.party.Turn.{Turn}
 use Rattle.chanexplore.specs.Orders.{Moment, answer_to, is_await, line_at, lines_of, past_after_line, place_after, turn_of, turn_with, turns_from}
@@ -79,7 +79,7 @@ pub no_turn : (kind : Kind) (parties : List (List Act)) (moment : Moment) (party
     → turn_of kind parties moment party ≡ None
 no_turn kind parties moment party none = ap (option_map (turn_with kind parties moment party)) (sym none)
 
-abbrev answered_turn : (party line : ℕ) → Answer → Turn
+abbrev answered_turn : (party line : ℕ) → Response → Turn
 answered_turn party line answer = record { party = party; line = line; answer = answer }
 
 pub some_mapped : {A B : Type 0} (f : A → B) (found : Option A) → is_some (option_map f found) ≡ is_some found
@@ -97,7 +97,7 @@ party_below parties party count less is = omega (arith, less, is, as_many partie
 pub party_above : (parties : List (Vec Act Global)) (party count : ℕ) → count ≤ party → count ≡ length parties → length (acts_in parties) ≤ party
 party_above parties party count less is = omega (arith, less, is, as_many parties)
 
-pub gone : (kind : Kind) (parties : List (List Act)) (moment : Moment) (party : ℕ) (place : Place) (act : Act) (answer : Answer)
+pub gone : (kind : Kind) (parties : List (List Act)) (moment : Moment) (party : ℕ) (place : Place) (act : Act) (answer : Response)
     (old run : View ℕ) (places : List Place) (count : ℕ) (awaits : Bool) (next : Place)
     → Stands kind moment old places
     → Some (place, act) ≡ line_at parties moment party
@@ -109,7 +109,7 @@ gone kind parties moment party place act answer old run places count awaits next
     let after : Moment = (turn_with kind parties moment party (place, act)).1 in (
       after,
       ap (option_map (turn_with kind parties moment party)) (sym line)
-          ∙ ap (λ (a : Answer). Some (answered_turn party place.done a, after)) (sym answered),
+          ∙ ap (λ (a : Response). Some (answered_turn party place.done a, after)) (sym answered),
       record {
         stands = stands;
         alike = ap (λ ps. slice_set ps party next) was.alike

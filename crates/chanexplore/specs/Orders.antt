@@ -13,8 +13,8 @@ use Rattle.channel_model.specs.Polling.{poll_of}
 use Rattle.channel_model.specs.Replies.{is_pending}
 use Rattle.chanexplore.specs.declared.party.Act.{Act}
 use Rattle.chanexplore.specs.declared.party.Act.TheVariants.{Make, Notice, Await}
-use Rattle.chanexplore.specs.declared.party.Answer.{Answer}
-use Rattle.chanexplore.specs.declared.party.Answer.TheVariants.{Replied, Noticed}
+use Rattle.chanexplore.specs.declared.party.Response.{Response}
+use Rattle.chanexplore.specs.declared.party.Response.TheVariants.{Replied, Noticed}
 use Rattle.chanexplore.specs.declared.party.Place.{Place}
 use Rattle.chanexplore.specs.declared.party.Turn.{Turn}
 
@@ -26,7 +26,7 @@ pub record Moment : Type 0 where
 -- ---- what a line does
 
 -- what answers a line after this past
-abbrev pub answer_to : Kind → Past ℕ → Act → Answer
+abbrev pub answer_to : Kind → Past ℕ → Act → Response
 answer_to kind past (Make step) = Replied (answer_of kind past step)
 answer_to kind past (Notice who) = Noticed (notice_of past who)
 answer_to kind past (Await who) = Replied (answer_of kind past (poll_of who))
@@ -47,7 +47,7 @@ is_await act = false
 
 -- Where a party with this many lines stands after one that was answered so. A refused line is its
 -- last, and an `await` whose poll was pending is still the next one.
-abbrev pub place_after : (count : ℕ) → Place → (awaits : Bool) → Answer → Place
+abbrev pub place_after : (count : ℕ) → Place → (awaits : Bool) → Response → Place
 place_after count place awaits (Noticed notice) = record { done = place.done + 1; waiting = false }
 place_after count place awaits (Replied reply) =
     if is_refused reply then record { done = count; waiting = false }

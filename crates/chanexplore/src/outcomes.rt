@@ -2,7 +2,7 @@
 ghost use Rattle.std.specs.Prelude.{◌≡◌, ◌+◌, ◌-◌, ◌<◌, ◌^◌, [], IfOk, OnErr, OnOk};
 ghost use Rattle.chanexplore.specs.Counts.{orders_in};
 
-use crate::party::{Answer, Turn};
+use crate::party::{Response, Turn};
 use crate::plan::Plan;
 use crate::search::Visitor;
 use channel_model::OutOfMemory;
@@ -59,10 +59,10 @@ pub struct Outcomes {
 }
 
 // The text of an answer, as `chanrun` writes it.
-fn answer_text(alloc: Global, answer: Answer) -> Result<String, AllocError> {
+fn answer_text(alloc: Global, answer: Response) -> Result<String, AllocError> {
     match answer {
-        Answer::Replied(reply) => format!(in alloc; "{}", ReplyText(reply)),
-        Answer::Noticed(notice) => format!(in alloc; "{}", NoticeText(notice)),
+        Response::Replied(reply) => format!(in alloc; "{}", ReplyText(reply)),
+        Response::Noticed(notice) => format!(in alloc; "{}", NoticeText(notice)),
     }
 }
 
@@ -104,7 +104,7 @@ impl Outcomes {
     }
 
     // The last answer to each line.
-    fn last_answers(&self, order: Vec<Turn>) -> Result<Vec<Option<Answer>>, AllocError> {
+    fn last_answers(&self, order: Vec<Turn>) -> Result<Vec<Option<Response>>, AllocError> {
         let mut last = Vec::new(self.alloc);
         for _ in 0..self.lines {
             last.push(None)?;
@@ -119,7 +119,7 @@ impl Outcomes {
     }
 
     // The answers as text.
-    fn text_of(&self, answers: Vec<Option<Answer>>) -> Result<String, AllocError> {
+    fn text_of(&self, answers: Vec<Option<Response>>) -> Result<String, AllocError> {
         let mut text = String::new(self.alloc);
         for answer in answers {
             if let Some(answer) = answer {

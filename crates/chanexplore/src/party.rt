@@ -94,12 +94,12 @@ pub struct Place {
 ///
 /// ```
 /// let mut run = Empty.open(rt.alloc())?;
-/// let answer = Answer::Replied(make(&mut run, Step::TryRecv(0))?);
+/// let answer = Response::Replied(make(&mut run, Step::TryRecv(0))?);
 /// let empty = Reply::Received(Err(TryRecvError::Empty));
-/// assert!(rt; matches!(answer, Answer::Replied(reply) if reply == empty));
+/// assert!(rt; matches!(answer, Response::Replied(reply) if reply == empty));
 /// ```
 #[derive(Drop)]
-pub enum Answer {
+pub enum Response {
     /// The reply to a step or a poll.
     Replied(Reply<u64>),
     /// Whether somebody waits, and was told.
@@ -112,8 +112,8 @@ pub enum Answer {
 ///
 /// ```
 /// // The first party did its third line, which asked whether somebody was told.
-/// let turn = Turn { party: 0, line: 2, answer: Answer::Noticed(Notice::Told) };
-/// assert!(rt; matches!(turn.answer, Answer::Noticed(Notice::Told)));
+/// let turn = Turn { party: 0, line: 2, answer: Response::Noticed(Notice::Told) };
+/// assert!(rt; matches!(turn.answer, Response::Noticed(Notice::Told)));
 /// ```
 #[derive(Drop)]
 pub struct Turn {
@@ -122,5 +122,5 @@ pub struct Turn {
     /// The number of its line, from 0.
     pub line: usize,
     /// What answered the line.
-    pub answer: Answer,
+    pub answer: Response,
 }

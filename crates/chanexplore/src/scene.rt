@@ -9,7 +9,7 @@ ghost use Rattle.chanexplore.specs.Lines.{acts_in};
 ghost use Rattle.chanexplore.specs.Orders.{Moment, answer_to, first_moment, is_await, is_refused, is_told, line_at, lines_of, past_after_line, place_after};
 ghost use Rattle.chanexplore.specs.Trail.{HasGone, IsFirst, Stands};
 
-use crate::party::{Act, Answer, Opening, Place, Turn};
+use crate::party::{Act, Opening, Place, Response, Turn};
 use channel_model::{Notice, OutOfMemory, Reply, Who};
 use channel_run::Run;
 use chanrun::replay::make;
@@ -39,7 +39,7 @@ fn is_await(act: &Act) -> bool
 }
 
 // Where a party with this many lines stands after a line that was answered so.
-fn place_after(count: usize, place: Place, awaits: bool, answer: &Answer) -> Place
+fn place_after(count: usize, place: Place, awaits: bool, answer: &Response) -> Place
     requires { place.done < count }
     ensures { result ≡ place_after count place awaits answer.now }
 {
@@ -48,8 +48,8 @@ fn place_after(count: usize, place: Place, awaits: bool, answer: &Answer) -> Pla
         waiting: false,
     };
     match answer {
-        Answer::Noticed(_) => next,
-        Answer::Replied(reply) => {
+        Response::Noticed(_) => next,
+        Response::Replied(reply) => {
             if is_refused(reply) {
                 Place {
                     done: count,
@@ -68,15 +68,15 @@ fn place_after(count: usize, place: Place, awaits: bool, answer: &Answer) -> Pla
 }
 
 // Does a party's line.
-fn act_on(run: &mut Run<u64>, act: &Act) -> Result<Answer, OutOfMemory>
+fn act_on(run: &mut Run<u64>, act: &Act) -> Result<Response, OutOfMemory>
     ensures { (kind : Kind) (past : Past ℕ) → StandsFor kind past run.old → IfOk result (λ answer.
         (answer ≡ answer_to kind past act.now)
         × StandsFor kind (past_after_line kind past act.now) run.new) }
 {
     match act {
-        Act::Make(step) => Ok(Answer::Replied(make(run, *step)?)),
-        Act::Notice(who) => Ok(Answer::Noticed(run.notice_of(*who))),
-        Act::Await(who) => Ok(Answer::Replied(make(run, who.poll())?)),
+        Act::Make(step) => Ok(Response::Replied(make(run, *step)?)),
+        Act::Notice(who) => Ok(Response::Noticed(run.notice_of(*who))),
+        Act::Await(who) => Ok(Response::Replied(make(run, who.poll())?)),
     }
 }
 

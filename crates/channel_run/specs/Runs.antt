@@ -1,5 +1,5 @@
 -- What a list of steps comes to, and what settling does.
-use Rattle.std.specs.Prelude.{◌≡◌, ℕ, List, [], ◌++◌}
+use Rattle.std.specs.Prelude.{◌≡◌, ℕ, List, [], ◌∷◌, ◌++◌, Option, Some, None, slice_get}
 use Rattle.channel_model.specs.declared.step.Kind.{Kind}
 use Rattle.channel_model.specs.declared.step.Who.{Who}
 use Rattle.channel_model.specs.declared.step.Step.{Step}
@@ -7,7 +7,9 @@ use Rattle.channel_model.specs.declared.step.Reply.{Reply}
 use Rattle.channel_model.specs.Past.{Past}
 use Rattle.channel_model.specs.Messages.{accepted_messages, taken_messages}
 use Rattle.channel_model.specs.Answers.{AreAnswers}
-use Rattle.channel_model.specs.Polling.{Settles}
+use Rattle.channel_model.specs.Notices.{rosters}
+use Rattle.channel_model.specs.Replies.{due_reply}
+use Rattle.channel_model.specs.Polling.{Settles, poll_of, told_polls}
 use Rattle.channel_model.specs.View.{View}
 use Rattle.channel_run.specs.StandsFor.{StandsFor}
 
@@ -28,3 +30,13 @@ pub record SettlesTo {T : Type 0} (kind : Kind) (past : Past T) (count : ℕ)
   pub polls : Past T
   pub settles : Settles kind past polls count finished
   pub stands : StandsFor kind (polls ++ past) run
+
+-- After this past the first who was told was polled, had the reply that was due, and the past that
+-- is longer by this poll stands for the run now; or nobody was told, and the past stands for it.
+abbrev pub PollsFirst : {T : Type 0} → Kind → Past T → Option (Who × Reply T) → View T → Type 0
+PollsFirst {T} kind past None run =
+    (told_polls {T = T} (rosters past) ≡ []) × StandsFor kind past run
+PollsFirst {T} kind past (Some (who, reply)) run =
+    (slice_get (told_polls {T = T} (rosters past)) 0 ≡ Some (poll_of who))
+    × (reply ≡ due_reply kind past (poll_of who))
+    × StandsFor kind ((poll_of who, reply) ∷ past) run

@@ -5,7 +5,7 @@ ghost use Rattle.channel_model.specs.declared.step.Kind.{Kind};
 ghost use Rattle.channel_model.specs.Past.{Past};
 ghost use Rattle.channel_model.specs.Replies.{is_ready};
 ghost use Rattle.channel_run.specs.StandsFor.{StandsFor};
-ghost use Rattle.channel_run.specs.Runs.{SettlesTo};
+ghost use Rattle.channel_run.specs.Runs.{PollsFirst, SettlesTo};
 
 use crate::run::Run;
 use channel_model::{OutOfMemory, Reply, Who};
@@ -29,6 +29,29 @@ pub struct Settled<T> {
 }
 
 impl<T: Drop> Run<T> {
+    /// Makes one poll of settling, of who was told first, and answers whose it was. Where nobody
+    /// was told it does nothing.
+    ///
+    /// # Examples
+    ///
+    /// ```
+    /// let mut run: Run<u64> = Run::new(rt.alloc(), Kind::Unbounded)?;
+    /// run.step(Step::PollNext(0));
+    /// run.step(Step::TrySend(0, 7));
+    ///
+    /// let polled = (Who::Receiver(0), Reply::NextPolled(Poll::Ready(Some(7))));
+    /// assert_eq!(rt; run.poll_first_told(), Some(polled));
+    /// assert_eq!(rt; run.poll_first_told(), None);
+    /// ```
+    pub fn poll_first_told(&mut self) -> Option<(Who, Reply<T>)>
+        ensures { (kind : Kind) (past : Past T) → StandsFor kind past self.old
+            → PollsFirst kind past result self.new }
+    {
+        let who = self.first_told(None)?;
+        let reply = self.poll_told(who);
+        Some((who, reply))
+    }
+
     /// Polls those who were told, one after the other, until nobody is told. Then nobody waits who
     /// could go on.
     ///

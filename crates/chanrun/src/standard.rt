@@ -2,7 +2,9 @@
 use crate::device::{FromStd, Sink, Source};
 use crate::script::ScriptError;
 use std::alloc::Global;
+use std::env;
 use std::io::{BufWriter, Read, Write};
+use std::rt::Env;
 
 /// A program over its devices.
 ///
@@ -39,6 +41,19 @@ pub trait Program {
         writer: &mut W,
         errors: &mut E,
     ) -> u8;
+}
+
+/// The arguments that stand behind the program's own name, where they can be read.
+///
+/// # Examples
+///
+/// ```
+/// let arguments = arguments_of(&rt);
+/// assert!(rt; arguments.is_some());
+/// ```
+pub fn arguments_of<R: Env + AllocGlobal>(rt: &R) -> Option<Vec<String>> {
+    let arguments = env::args(rt).ok()?;
+    arguments.skip(1).collect(rt.alloc()).ok()
 }
 
 /// Runs a program over buffers. It answers the exit status.

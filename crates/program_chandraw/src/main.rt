@@ -2,16 +2,8 @@
 #![tactic(auto)]
 
 use chandraw::program::Chandraw;
-use chanrun::standard::run_buffered;
-use std::env;
+use chanrun::standard::{arguments_of, run_buffered};
 use std::process::ExitCode;
-use std::rt::Env;
-
-/// The arguments behind the program's own name, where they can be read.
-fn arguments_of<R: Env + AllocGlobal>(rt: &R) -> Option<Vec<String>> {
-    let arguments = env::args(rt).ok()?;
-    arguments.skip(1).collect(rt.alloc()).ok()
-}
 
 fn main(rt: HostRuntime) -> ExitCode {
     let arguments = arguments_of(&rt);

@@ -2,11 +2,9 @@
 #![tactic(auto)]
 
 use chanexplore::program::{Chanexplore, Watch};
-use chanrun::standard::run_buffered;
-use std::env;
+use chanrun::standard::{arguments_of, run_buffered};
 use std::io::IsTerminal;
 use std::process::ExitCode;
-use std::rt::Env;
 use std::time::{Duration, Instant};
 
 /// After how many orders the clock is looked at.
@@ -35,12 +33,6 @@ impl Watch for Progress<'_> {
             let _ = eprintln!(self.rt; "{orders} orders");
         }
     }
-}
-
-/// The arguments behind the program's own name, where they can be read.
-fn arguments_of<R: Env + AllocGlobal>(rt: &R) -> Option<Vec<String>> {
-    let arguments = env::args(rt).ok()?;
-    arguments.skip(1).collect(rt.alloc()).ok()
 }
 
 fn main(rt: HostRuntime) -> ExitCode {

@@ -1,7 +1,7 @@
 //! The lines of a picture in SVG: what lasts, what goes from lane to lane, and the closing.
+use crate::fragment::Fragments;
 use crate::lane::{Stroke, Trace};
 use crate::mark::Mark;
-use crate::piece::Pieces;
 use crate::size::Size;
 use crate::svg::places::{lane_x, list_x, middle_y, text_y};
 use crate::table::Table;
@@ -18,11 +18,11 @@ const TRACES: [Trace; 6] = [
 ];
 
 // Adds a point of a line.
-fn add_point(pieces: &mut Pieces, mark: Mark, x: u64, y: u64) -> Result<(), AllocError> {
-    pieces.mark(mark)?;
-    pieces.number(x)?;
-    pieces.mark(Mark::Space)?;
-    pieces.number(y)
+fn add_point(fragments: &mut Fragments, mark: Mark, x: u64, y: u64) -> Result<(), AllocError> {
+    fragments.mark(mark)?;
+    fragments.number(x)?;
+    fragments.mark(Mark::Space)?;
+    fragments.number(y)
 }
 
 fn path_of(trace: Trace) -> Mark {
@@ -53,64 +53,68 @@ fn along_x(trace: Trace, lane: usize) -> u64 {
 }
 
 // Adds a line from one place to another.
-fn add_stroke(pieces: &mut Pieces, stroke: Stroke) -> Result<(), AllocError> {
+fn add_stroke(fragments: &mut Fragments, stroke: Stroke) -> Result<(), AllocError> {
     let Stroke { trace, from, to } = stroke;
     let y = first_y(trace, from.row);
     if from.lane == to.lane {
-        add_point(pieces, Mark::Move, along_x(trace, from.lane), y)?;
-        pieces.mark(Mark::Down)?;
-        return pieces.number(middle_y(to.row));
+        add_point(fragments, Mark::Move, along_x(trace, from.lane), y)?;
+        fragments.mark(Mark::Down)?;
+        return fragments.number(middle_y(to.row));
     }
-    add_point(pieces, Mark::Move, lane_x(from.lane), y)?;
-    add_point(pieces, Mark::LineTo, lane_x(to.lane), middle_y(to.row))
+    add_point(fragments, Mark::Move, lane_x(from.lane), y)?;
+    add_point(fragments, Mark::LineTo, lane_x(to.lane), middle_y(to.row))
 }
 
 // Adds the lines of one kind.
-fn add_trace(pieces: &mut Pieces, strokes: &[Stroke], trace: Trace) -> Result<(), AllocError> {
+fn add_trace(
+    fragments: &mut Fragments,
+    strokes: &[Stroke],
+    trace: Trace,
+) -> Result<(), AllocError> {
     if !strokes.iter().any(|stroke| stroke.trace == trace) {
         return Ok(());
     }
-    pieces.mark(path_of(trace))?;
+    fragments.mark(path_of(trace))?;
     for stroke in strokes {
         if stroke.trace == trace {
-            add_stroke(pieces, *stroke)?;
+            add_stroke(fragments, *stroke)?;
         }
     }
-    pieces.mark(Mark::PathEnd)
+    fragments.mark(Mark::PathEnd)
 }
 
 /// Adds the lines of a row.
-pub(crate) fn add_strokes(pieces: &mut Pieces, strokes: &[Stroke]) -> Result<(), AllocError> {
+pub(crate) fn add_strokes(fragments: &mut Fragments, strokes: &[Stroke]) -> Result<(), AllocError> {
     for trace in TRACES {
-        add_trace(pieces, strokes, trace)?;
+        add_trace(fragments, strokes, trace)?;
     }
     Ok(())
 }
 
 /// Adds a line across a row in which the channel is closed.
 pub(crate) fn add_closing(
-    pieces: &mut Pieces,
+    fragments: &mut Fragments,
     table: &Table,
     size: Size,
 ) -> Result<(), AllocError> {
     if !table.row_closes {
         return Ok(());
     }
-    pieces.mark(Mark::ClosingPath)?;
-    pieces.number(text_y(table.row).saturating_add(5))?;
-    pieces.mark(Mark::Across)?;
-    pieces.number(list_x(size, 4))?;
-    pieces.mark(Mark::PathEnd)
+    fragments.mark(Mark::ClosingPath)?;
+    fragments.number(text_y(table.row).saturating_add(5))?;
+    fragments.mark(Mark::Across)?;
+    fragments.number(list_x(size, 4))?;
+    fragments.mark(Mark::PathEnd)
 }
 
 /// Adds a bar where a name ends.
-pub(crate) fn add_end(pieces: &mut Pieces, table: &Table) -> Result<(), AllocError> {
+pub(crate) fn add_end(fragments: &mut Fragments, table: &Table) -> Result<(), AllocError> {
     let Some(lane) = table.row_ended else {
         return Ok(());
     };
-    pieces.mark(Mark::EndPath)?;
-    pieces.number(lane_x(lane).saturating_sub(5))?;
-    pieces.mark(Mark::Space)?;
-    pieces.number(middle_y(table.row))?;
-    pieces.mark(Mark::Bar)
+    fragments.mark(Mark::EndPath)?;
+    fragments.number(lane_x(lane).saturating_sub(5))?;
+    fragments.mark(Mark::Space)?;
+    fragments.number(middle_y(table.row))?;
+    fragments.mark(Mark::Bar)
 }

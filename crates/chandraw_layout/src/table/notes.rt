@@ -133,7 +133,7 @@ impl Table {
     }
 
     // Notes what a poll came to, of whom this is known.
-    pub fn note_poll(
+    fn note_poll(
         &mut self,
         who: Who,
         lane: Option<Lane>,

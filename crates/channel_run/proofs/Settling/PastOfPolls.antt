@@ -1,62 +1,51 @@
--- A past longer by the poll of the first told one is a settling still; where nobody is told it has settled.
-use Rattle.std.proofs.Common.{◌≡◌, ◌<◌, ◌∷◌, ◌++◌, Some, refl, sym, ◌∙◌, ap, subst, length}
+-- The poll of the first told one makes the past longer by it; where nobody is told the polls have settled.
+use Rattle.std.proofs.Common.{◌≡◌, ◌∷◌, ◌++◌, None, Some, refl, sym, ◌∙◌, ap, subst, length}
 use Rattle.std.specs.Prelude.{slice_get}
 use Rattle.channel_model.specs.declared.step.Kind.{Kind}
-use Rattle.channel_model.specs.declared.step.Step.{Step}
+use Rattle.channel_model.specs.declared.step.Who.{Who}
 use Rattle.channel_model.specs.declared.step.Reply.{Reply}
 use Rattle.channel_model.specs.Past.{Past}
-use Rattle.channel_model.specs.Replies.{due_reply, reply_in}
 use Rattle.channel_model.specs.Rosters.{Rosters}
 use Rattle.channel_model.specs.Notices.{rosters}
-use Rattle.channel_model.specs.Polling.{EndsWell, IsQuiet, IsSettling, Settles, finished_polls, told_polls}
+use Rattle.channel_model.specs.Polling.{EndsWell, IsQuiet, IsSettling, Settles, finished_polls, poll_of, told_polls}
 use Rattle.channel_model.specs.View.{View}
 use Rattle.channel_run.specs.StandsFor.{StandsFor}
-use Rattle.channel_run.specs.RunSteps.{after_step}
-use Rattle.channel_model.proofs.Measure.{measure}
-use Rattle.channel_model.proofs.MeasureFalls.{PollsTold, polls_told, measure-falls}
+use Rattle.channel_run.specs.RunSteps.{IsMade, PollsTo, after_step}
+use Rattle.channel_run.specs.Runs.{PollsFirst}
+use Rattle.channel_model.proofs.MeasureFalls.{PollsTold, polls_told}
 use Rattle.channel_model.proofs.AnyOrder.{told-allowed, first-Contains, IsFreePolling-IsSettling, EndsWell-IsFreePolling}
 use Rattle.channel_model.proofs.Settling.{nobody_polled}
 use Rattle.channel_run.proofs.Alike.SameTables.{reply_in-StandsFor}
+use Rattle.channel_run.proofs.Alike.SameViews.{StandsFor-AreAlike}
+use Rattle.channel_run.proofs.Settling.ToldPolls.{made}
 use Rattle.channel_run.proofs.Steps.LongerPasts.{StandsFor-step}
 
--- One poll more: the run polled the first who was told.
-pub record PollsOn {T : Type 0} (kind : Kind) (past polls : Past T) (step : Step T)
-    (reply : Reply T)
-    (run : View T) : Type 0 where
-  pub settling : IsSettling kind past ((step, reply) ∷ polls)
-  pub stands : StandsFor kind (((step, reply) ∷ polls) ++ past) (after_step run step reply)
-  pub falls : measure (after_step run step reply).rosters < measure run.rosters
-
-pub polls_on : {T : Type 0} (kind : Kind) (past polls : Past T) (step : Step T) (reply : Reply T) (run : View T)
-    → IsSettling kind past polls → StandsFor kind (polls ++ past) run → slice_get (told_polls run.rosters) 0 ≡ Some step
-    → reply ≡ reply_in run step
-    → PollsOn kind past polls step reply run
-polls_on {T} kind past polls step reply run settling stands first replied =
-    record {
-      settling = (settling, at_first, due);
-      stands = more;
-      falls = subst (λ (all : Rosters). measure all < measure run.rosters) (sym more.shows.rosters)
-          (subst (λ (all : Rosters). measure (rosters ((step, reply) ∷ (polls ++ past))) < measure all)
-          (sym stands.shows.rosters) less);
-    }
+-- The run polled the first who was told.
+pub polled_first : {T : Type 0} (kind : Kind) (past : Past T) (run after : View T) (who : Who) (reply : Reply T)
+    → StandsFor kind past run → slice_get (told_polls {T = T} run.rosters) 0 ≡ Some (poll_of who)
+    → PollsTo run who reply after → PollsFirst kind past (Some (who, reply)) after
+polled_first {T} kind past run after who reply stands first polled = (
+  at_first,
+  is.replied ∙ reply_in-StandsFor kind past run (poll_of who) stands,
+  StandsFor-AreAlike kind ((poll_of who, reply) ∷ past) (after_step run (poll_of who) reply) after
+      (StandsFor-step kind past run (poll_of who) reply stands
+      (told-allowed kind past (poll_of who) stands.legal told) is.replied) is.shows,
+)
   where
-    at_first : slice_get (told_polls (rosters (polls ++ past))) 0 ≡ Some step
-    at_first = ap (λ (all : Rosters). slice_get (told_polls all) 0) (sym stands.shows.rosters) ∙ first
+    at_first : slice_get (told_polls {T = T} (rosters past)) 0 ≡ Some (poll_of who)
+    at_first = ap (λ (all : Rosters). slice_get (told_polls {T = T} all) 0) (sym stands.shows.rosters) ∙ first
 
-    due : reply ≡ due_reply kind (polls ++ past) step
-    due = replied ∙ reply_in-StandsFor kind (polls ++ past) run step stands
+    told : PollsTold {T = T} (rosters past) (poll_of who)
+    told = polls_told (rosters past) (poll_of who) (first-Contains (told_polls (rosters past)) (poll_of who) at_first)
 
-    told : PollsTold (rosters (polls ++ past)) step
-    told = polls_told (rosters (polls ++ past)) step
-        (first-Contains (told_polls (rosters (polls ++ past))) step at_first)
+    is : IsMade run (poll_of who) reply after
+    is = made kind past stands.legal run stands who reply after told polled
 
-    more : StandsFor kind ((step, reply) ∷ (polls ++ past)) (after_step run step reply)
-    more = StandsFor-step kind (polls ++ past) run step reply stands
-        (told-allowed kind (polls ++ past) step stands.legal told) replied
-
-    less : measure (rosters ((step, reply) ∷ (polls ++ past))) < measure (rosters (polls ++ past))
-    less = subst (λ (r : Reply T). measure (rosters ((step, r) ∷ (polls ++ past))) < measure (rosters (polls ++ past)))
-        (sym due) (measure-falls kind (polls ++ past) step stands.legal told)
+-- It polled nobody, since nobody was told.
+pub polled_nobody : {T : Type 0} (kind : Kind) (past : Past T) (run : View T) → StandsFor kind past run
+    → IsQuiet run.rosters → PollsFirst {T = T} kind past None run
+polled_nobody kind past run stands quiet =
+    (nobody_polled (rosters past) (subst (λ (all : Rosters). IsQuiet all) stands.shows.rosters quiet), stands)
 
 -- Nobody is told any more: the polls settled the channel.
 pub Settles-IsQuiet : {T : Type 0} (kind : Kind) (past polls : Past T) (before run : View T)

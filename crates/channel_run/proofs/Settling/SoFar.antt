@@ -10,18 +10,16 @@ use Rattle.channel_model.specs.Past.{Past}
 use Rattle.channel_model.specs.Messages.{with_last}
 use Rattle.channel_model.specs.Notices.{rosters}
 use Rattle.channel_model.specs.Polling.{IsQuiet, IsSettling, finished_by, finished_polls, poll_of, told_polls, waiting_in}
-use Rattle.channel_model.specs.Replies.{due_reply, is_pending, is_ready}
+use Rattle.channel_model.specs.Replies.{is_pending, is_ready}
 use Rattle.channel_model.specs.Rosters.{Rosters}
 use Rattle.channel_model.specs.View.{View}
-use Rattle.channel_run.specs.Runs.{SettlesTo}
+use Rattle.channel_run.specs.Runs.{PollsFirst, SettlesTo}
 use Rattle.channel_run.specs.StandsFor.{StandsFor}
-use Rattle.channel_run.specs.RunSteps.{IsMade, PollsTo, after_step}
+use Rattle.channel_run.specs.RunSteps.{PollsTo}
 use Rattle.channel_model.proofs.AnyOrder.{EndsWell-IsFreePolling, IsFreePolling-IsSettling, first-Contains}
 use Rattle.channel_model.proofs.MeasureFalls.{PollsTold, polls_told}
-use Rattle.channel_run.proofs.Alike.SameTables.{reply_in-StandsFor}
-use Rattle.channel_run.proofs.Settling.PastOfPolls.{PollsOn, polls_on, Settles-IsQuiet}
-use Rattle.channel_run.proofs.Alike.SameViews.{StandsFor-AreAlike}
-use Rattle.channel_run.proofs.Settling.ToldPolls.{due_answered, made}
+use Rattle.channel_run.proofs.Settling.PastOfPolls.{polled_first, Settles-IsQuiet}
+use Rattle.channel_run.proofs.Settling.ToldPolls.{due_answered}
 
 -- These polls were made after the past, this is their number, and these ones were ready.
 pub record SettlesSoFar {T : Type 0} (kind : Kind) (past : Past T) (count : ℕ)
@@ -66,33 +64,24 @@ pub SettlesSoFar-more : {T : Type 0} (kind : Kind) (past : Past T) (count : ℕ)
 SettlesSoFar-more {T} kind past count finished run after who reply so first polled =
     record {
       polls = (poll_of who, reply) ∷ so.polls;
-      settling = on.settling;
+      settling = (so.settling, next.0, next.1);
       counted = let before = so.counted in omega arith;
       listed = with_finished finished who reply answered
           ∙ ap (λ (items : List (Who × Reply T)). with_last items (finished_by (poll_of who) reply)) so.listed;
-      stands = StandsFor-AreAlike kind (((poll_of who, reply) ∷ so.polls) ++ past)
-          (after_step run (poll_of who) reply) after on.stands is.shows;
+      stands = next.2;
     }
   where
-    at_first : slice_get (told_polls {T = T} (rosters (so.polls ++ past))) 0 ≡ Some (poll_of who)
-    at_first = ap (λ (all : Rosters). slice_get (told_polls {T = T} all) 0) (sym so.stands.shows.rosters) ∙ first
+    next : PollsFirst kind (so.polls ++ past) (Some (who, reply)) after
+    next = polled_first kind (so.polls ++ past) run after who reply so.stands first polled
 
     told : PollsTold {T = T} (rosters (so.polls ++ past)) (poll_of who)
     told = polls_told (rosters (so.polls ++ past)) (poll_of who)
-        (first-Contains (told_polls (rosters (so.polls ++ past))) (poll_of who) at_first)
-
-    is : IsMade run (poll_of who) reply after
-    is = made kind (so.polls ++ past) so.stands.legal run so.stands who reply after told polled
-
-    on : PollsOn kind past so.polls (poll_of who) reply run
-    on = polls_on kind past so.polls (poll_of who) reply run so.settling so.stands first is.replied
+        (first-Contains (told_polls (rosters (so.polls ++ past))) (poll_of who) next.0)
 
     answered : is_ready reply ≡ not (is_pending reply)
     answered =
-        let due : reply ≡ due_reply kind (so.polls ++ past) (poll_of who) = is.replied
-        ∙ reply_in-StandsFor kind (so.polls ++ past) run (poll_of who) so.stands in
-        ap (λ (r : Reply T). is_ready r) due ∙ due_answered kind (so.polls ++ past) so.stands.legal who told
-        ∙ ap (λ (r : Reply T). not (is_pending r)) (sym due)
+        ap (λ (r : Reply T). is_ready r) next.1 ∙ due_answered kind (so.polls ++ past) so.stands.legal who told
+        ∙ ap (λ (r : Reply T). not (is_pending r)) (sym next.1)
 
 -- nobody is told any more
 pub SettlesTo-IsQuiet : {T : Type 0} (kind : Kind) (past : Past T) (count : ℕ) (finished : List (Who × Reply T))

@@ -15,6 +15,15 @@ pub struct Settled<T> {
 }
 
 impl<T> Run<T> {
+    /// Makes one poll of settling, of who was told first, and answers whose it was. Where nobody
+    /// was told it does nothing.
+    #[inline]
+    pub fn poll_first_told(&mut self) -> Option<(Who, Reply<T>)> {
+        let who = self.first_told(None)?;
+        let reply = self.poll_told(who);
+        Some((who, reply))
+    }
+
     /// Polls those who were told, one after the other, until nobody is told. Then nobody waits who
     /// could go on.
     ///

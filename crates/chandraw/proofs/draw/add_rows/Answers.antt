@@ -2,7 +2,7 @@ use Rattle.std.proofs.Common.{◌≡◌, ℕ, List, length, ◌∷◌, [], ◌++
 use Rattle.std.specs.List.{flat_map}
 use Rattle.std.specs.Vec.Iter.{into_iter_items}
 use Rattle.std.proofs.lemmas.List.{flat_map_more}
-use Rattle.chandraw.specs.Pieces.{row_bytes}
+use Rattle.chandraw.specs.Fragments.{row_bytes}
 use Rattle.chanrun.specs.Replayed.{text_line}
 use Rattle.chandraw.specs.Picture.{AreRows, row_line}
 use Rattle.chandraw.proofs.Drawn.{rows_more}

@@ -1,6 +1,6 @@
 use Rattle.std.proofs.Common.{◌≡◌, ◌++◌, drop}
-use Rattle.chandraw.specs.Pieces.{escaped}
-use Rattle.chandraw.proofs.piece.add_text.Given as goal
+use Rattle.chandraw.specs.Fragments.{escaped}
+use Rattle.chandraw.proofs.fragment.add_text.Given as goal
 
 -- the page, with what is left to add, is what it is to be
 abbrev pub invariant-loop-byte : goal.invariant-loop-byte

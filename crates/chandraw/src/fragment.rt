@@ -1,16 +1,16 @@
 //! The bytes of what a picture is made of.
 ghost use Rattle.std.specs.Prelude.{◌≡◌, ◌++◌, OnOk};
-ghost use Rattle.chandraw.specs.Pieces.{escaped, escaped_byte, named_byte, piece_bytes, pieces_bytes, printed, row_bytes};
+ghost use Rattle.chandraw.specs.Fragments.{escaped, escaped_byte, named_byte, fragment_bytes, fragments_bytes, printed, row_bytes};
 
-use chandraw_layout::{Form, Piece, mark_bytes};
+use chandraw_layout::{Form, Fragment, mark_bytes};
 use std::alloc::{AllocError, Global};
 
-/// What is drawn for one reply: the pieces before it, the reply, and the pieces behind it.
+/// What is drawn for one reply: the fragments before it, the reply, and the fragments behind it.
 #[derive(Drop)]
 pub struct Row {
-    pub head: Vec<Piece>,
+    pub head: Vec<Fragment>,
     pub reply: String,
-    pub tail: Vec<Piece>,
+    pub tail: Vec<Fragment>,
 }
 
 // Adds a byte, or another one in its place where it can't be printed.
@@ -60,30 +60,35 @@ fn add_text(page: &mut Vec<u8>, form: Form, text: &[u8]) -> Result<(), AllocErro
     Ok(())
 }
 
-fn add_piece(alloc: Global, page: &mut Vec<u8>, form: Form, piece: &Piece) -> Result<(), AllocError>
-    ensures { OnOk result (page.new.items ≡ page.old.items ++ piece_bytes form piece.now) }
-{
-    match piece {
-        Piece::Mark(mark) => page.extend_from_slice(mark_bytes(*mark)),
-        Piece::Number(number) => {
-            let digits = format!(in alloc; "{number}")?;
-            page.extend_from_slice(digits.as_bytes())
-        }
-        Piece::Text(text) => add_text(page, form, text.as_slice()),
-    }
-}
-
-/// Adds pieces in order.
-pub(crate) fn add_pieces(
+fn add_fragment(
     alloc: Global,
     page: &mut Vec<u8>,
     form: Form,
-    pieces: &[Piece],
+    fragment: &Fragment,
 ) -> Result<(), AllocError>
-    ensures { OnOk result (page.new.items ≡ page.old.items ++ pieces_bytes form pieces.now) }
+    ensures { OnOk result (page.new.items ≡ page.old.items ++ fragment_bytes form fragment.now) }
 {
-    for piece in pieces {
-        add_piece(alloc, page, form, piece)?;
+    match fragment {
+        Fragment::Mark(mark) => page.extend_from_slice(mark_bytes(*mark)),
+        Fragment::Number(number) => {
+            let digits = format!(in alloc; "{number}")?;
+            page.extend_from_slice(digits.as_bytes())
+        }
+        Fragment::Text(text) => add_text(page, form, text.as_slice()),
+    }
+}
+
+/// Adds fragments in order.
+pub(crate) fn add_fragments(
+    alloc: Global,
+    page: &mut Vec<u8>,
+    form: Form,
+    fragments: &[Fragment],
+) -> Result<(), AllocError>
+    ensures { OnOk result (page.new.items ≡ page.old.items ++ fragments_bytes form fragments.now) }
+{
+    for fragment in fragments {
+        add_fragment(alloc, page, form, fragment)?;
     }
     Ok(())
 }
@@ -97,7 +102,7 @@ pub(crate) fn add_row(
 ) -> Result<(), AllocError>
     ensures { OnOk result (page.new.items ≡ page.old.items ++ row_bytes form row.now) }
 {
-    add_pieces(alloc, page, form, row.head.as_slice())?;
+    add_fragments(alloc, page, form, row.head.as_slice())?;
     add_text(page, form, row.reply.as_bytes())?;
-    add_pieces(alloc, page, form, row.tail.as_slice())
+    add_fragments(alloc, page, form, row.tail.as_slice())
 }

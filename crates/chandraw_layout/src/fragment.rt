@@ -7,8 +7,8 @@ use std::alloc::{AllocError, Global};
 /// # Examples
 ///
 /// ```
-/// let pieces = blank(rt.alloc(), Form::Terminal)?;
-/// assert!(rt; matches!(pieces.first(), Some(Piece::Mark(Mark::Newline))));
+/// let fragments = blank(rt.alloc(), Form::Terminal)?;
+/// assert!(rt; matches!(fragments.first(), Some(Fragment::Mark(Mark::Newline))));
 /// ```
 #[derive(Clone, Copy, Debug, PartialEq, Eq)]
 pub enum Form {
@@ -20,7 +20,7 @@ pub enum Form {
 
 /// A part of a picture.
 #[derive(Drop)]
-pub enum Piece {
+pub enum Fragment {
     /// Constant bytes.
     Mark(Mark),
     /// A number in decimal.
@@ -29,34 +29,34 @@ pub enum Piece {
     Text(Vec<u8>),
 }
 
-/// Pieces that are being listed.
+/// Fragments that are being listed.
 #[derive(Drop)]
-pub(crate) struct Pieces {
+pub(crate) struct Fragments {
     alloc: Global,
-    pub list: Vec<Piece>,
+    pub list: Vec<Fragment>,
 }
 
-impl Pieces {
-    pub fn new(alloc: Global) -> Pieces {
-        Pieces {
+impl Fragments {
+    pub fn new(alloc: Global) -> Fragments {
+        Fragments {
             alloc,
             list: Vec::new(alloc),
         }
     }
 
     pub fn mark(&mut self, mark: Mark) -> Result<(), AllocError> {
-        self.list.push(Piece::Mark(mark))?;
+        self.list.push(Fragment::Mark(mark))?;
         Ok(())
     }
 
     pub fn number(&mut self, number: u64) -> Result<(), AllocError> {
-        self.list.push(Piece::Number(number))?;
+        self.list.push(Fragment::Number(number))?;
         Ok(())
     }
 
     pub fn text(&mut self, text: &[u8]) -> Result<(), AllocError> {
         self.list
-            .push(Piece::Text(Vec::from_slice(self.alloc, text)?))?;
+            .push(Fragment::Text(Vec::from_slice(self.alloc, text)?))?;
         Ok(())
     }
 }

@@ -1,13 +1,13 @@
--- The bytes of the pieces of a picture. No byte of a text stands there but escaped.
+-- The bytes of the fragments of a picture. No byte of a text stands there but escaped.
 use Rattle.std.specs.Prelude.{ℕ, ◌==◌, ◌&&◌, ◌++◌, ◌∷◌, [], List, codes, if◌then◌else◌, nat_le, String, string_bytes}
 use Rattle.std.specs.List.{flat_map}
 use Rattle.std.specs.Fmt.{decimal}
 use Rattle.chandraw_layout.specs.Marks.{mark_bytes}
-use Rattle.chandraw_layout.specs.declared.piece.Form.{Form}
-use Rattle.chandraw_layout.specs.declared.piece.Form.TheVariants.{Svg, Terminal}
-use Rattle.chandraw_layout.specs.declared.piece.Piece.{Piece}
-use Rattle.chandraw_layout.specs.declared.piece.Piece.TheVariants.{Mark, Number, Text}
-use Rattle.chandraw.specs.declared.piece.Row.{Row}
+use Rattle.chandraw_layout.specs.declared.fragment.Form.{Form}
+use Rattle.chandraw_layout.specs.declared.fragment.Form.TheVariants.{Svg, Terminal}
+use Rattle.chandraw_layout.specs.declared.fragment.Fragment.{Fragment}
+use Rattle.chandraw_layout.specs.declared.fragment.Fragment.TheVariants.{Mark, Number, Text}
+use Rattle.chandraw.specs.declared.fragment.Row.{Row}
 
 -- a byte that can be printed in ASCII, and `?` in the place of any other
 abbrev pub printed : ℕ → List ℕ
@@ -33,16 +33,16 @@ abbrev pub escaped : Form → List ℕ → List ℕ
 escaped form bytes = flat_map (escaped_byte form) bytes
 
 -- a mark, a number in decimal, or an escaped text
-abbrev pub piece_bytes : Form → Piece → List ℕ
-piece_bytes form (Mark mark) = mark_bytes mark
-piece_bytes form (Number number) = decimal number
-piece_bytes form (Text text) = escaped form text.items
+abbrev pub fragment_bytes : Form → Fragment → List ℕ
+fragment_bytes form (Mark mark) = mark_bytes mark
+fragment_bytes form (Number number) = decimal number
+fragment_bytes form (Text text) = escaped form text.items
 
-abbrev pub pieces_bytes : Form → List Piece → List ℕ
-pieces_bytes form pieces = flat_map (piece_bytes form) pieces
+abbrev pub fragments_bytes : Form → List Fragment → List ℕ
+fragments_bytes form fragments = flat_map (fragment_bytes form) fragments
 
--- a reply, escaped, between pieces
+-- a reply, escaped, between fragments
 abbrev pub row_bytes : Form → Row → List ℕ
 row_bytes form row =
-    pieces_bytes form row.head.items
-    ++ (escaped form (string_bytes row.reply) ++ pieces_bytes form row.tail.items)
+    fragments_bytes form row.head.items
+    ++ (escaped form (string_bytes row.reply) ++ fragments_bytes form row.tail.items)
