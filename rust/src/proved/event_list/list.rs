@@ -20,7 +20,7 @@
 //! A counted call hands the ledger that it is given to the call of the same name of `links`, where
 //! the work is done. A call of the plain name opens a ledger and runs the counted one on it.
 
-pub(crate) mod steps;
+pub(super) mod steps;
 
 use crate::proved::event_list::bell::Bell;
 use crate::proved::event_list::entries::EntryState;
