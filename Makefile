@@ -38,6 +38,7 @@ test:
 
 tools:
 	tools/facts_tests
+	tools/examples_tests
 	tools/examples
 	python3 tools/chanrun_runs.py
 	python3 tools/explorations/check.py

@@ -2,12 +2,13 @@
 import re
 
 from eraser.known import (
-    BOUNDS, CLAUSES, CRATES, DERIVES, EVERYWHERE, FORMATTER, GHOST_WORDS, LEFT_OUT, MACROS, NAMED,
-    PATHS, TEXT_TRAITS, WRITER,
+    BEFORE_NOT, BOUNDS, CLAUSES, CRATES, DERIVES, EVERYWHERE, FIRST, FORMATTER, GHOST_WORDS,
+    ITEM_WORDS, LEFT_OUT, MACROS, NAMED, PATHS, REQUIRES, TAKEN, TEXT_TRAITS, TRAITS, WRITER,
 )
 from eraser.source import CLOSING
 
 WIDTH = 100
+CALLED = re.compile(r'\s*::\s*<')  # behind a function's name
 
 
 class Eraser:
@@ -16,6 +17,7 @@ class Eraser:
     def __init__(self, source):
         self.source = source
         self.modules = []  # that the file names
+        self.imported = set()  # paths that it imports
         self.everywhere = set()  # of EVERYWHERE, that the file uses
 
     def file(self):
@@ -57,7 +59,7 @@ class Eraser:
             'struct': lambda: self.data('struct'),
             'trait': self.trait,
             'impl': self.implementation,
-            'fn': lambda: self.function(trait),
+            'fn': lambda: self.function(trait, trait or visibility == 'pub '),
         }.get(word.text)
         if take is None:
             self.source.refuse(f'unknown item `{word.text}`', word.start)
@@ -80,47 +82,58 @@ class Eraser:
         kept, is_test = '', False
         while self.source.sees('#'):
             start = self.source.take('#').start
-            self.source.take_if('!')
-            name, words = self.attribute()
-            if name == 'derive':
+            is_inner = self.source.take_if('!')
+            name, text = self.attribute()
+            if name == 'tactic':
+                pass
+            elif is_inner:
+                self.source.refuse(f'unknown attribute `!{name}{text}`', start)
+            elif name == 'derive':
+                words = text.removeprefix('(').removesuffix(')').split(',')
                 if unknown := set(words) - DERIVES - {'Drop'}:
                     self.source.refuse(f'unknown derive `{min(unknown)}`', start)
                 words = [word for word in words if word != 'Drop']
                 kept += f'#[derive({", ".join(words)})]' if words else ''
-            elif (name, words) == ('cfg', ['test']):
+            elif name + text == 'cfg(test)':
                 is_test = True
-            elif name == 'inline':
-                kept += f'#[inline({", ".join(words)})]' if words else '#[inline]'
-            elif name != 'tactic':
-                self.source.refuse(f'unknown attribute `{name}`', start)
+            elif name + text in {'inline', 'inline(always)'}:
+                kept += f'#[{name}{text}]'
+            else:
+                self.source.refuse(f'unknown attribute `{name}{text}`', start)
             space = self.source.lead()
             kept += space if kept else ''
         return kept, is_test
 
     def attribute(self):
-        """The name of an attribute, and the words behind it."""
+        """The name of an attribute, and what follows it, without spaces."""
         self.source.take('[')
-        name, words = self.source.take_word(), []
+        name, text = self.source.take_word(), ''
         while not self.source.take_if(']'):
-            words.append(self.source.take().text)
-        return name, [word for word in words if word not in {'(', ')', ','}]
+            text += self.source.take().text
+        return name, text
 
     def visibility(self):
+        """A crate of the source is a module in Rust: what only it may see stays within it."""
         if not self.source.take_if('pub'):
             return ''
         if not self.source.take_if('('):
             return 'pub '
-        within = self.source.take('crate', 'super').text
+        start, within = self.source.at, self.source.take('crate', 'super').text
         self.source.take(')')
-        return f'pub({within}) '
+        if within == 'super':
+            return 'pub(super) '
+        if self.path_of() in NAMED:
+            self.source.refuse('`pub(crate)` in a file of another module', start)
+        ups = ['super'] * len(self.source.module) or ['self']
+        return f'pub({"in " * (len(ups) > 1)}{"::".join(ups)}) '
 
     # The kinds of items: each takes what stands behind the item's first word.
 
     def ghost(self):
         if self.source.take_if('use'):
-            end = self.source.text.find(';\n', self.source.at)
-            if end < 0:
-                self.source.refuse('a ghost use without an end')
+            end = self.source.text.find(';', self.source.at)
+            if self.source.text[end:end + 2] != ';\n':
+                self.source.refuse('a ghost use that doesn\'t end with its line')
             self.source.at = end + 1
             return
         self.source.take_word()
@@ -139,8 +152,11 @@ class Eraser:
                 path.append(self.source.take_word())
         self.source.take(';')
         targets = {}
-        for path in [path + [name] for name in names] or [path]:
-            target = self.target('::'.join(path), start)
+        for path in ['::'.join([*path, name]) for name in names] or ['::'.join(path)]:
+            if path not in PATHS:
+                self.new_name(path.rpartition('::')[2], start)
+            self.imported.add(path)
+            target = self.target(path, start)
             if target:
                 prefix, _, name = target.rpartition('::')
                 targets.setdefault(prefix, []).append(name)
@@ -182,8 +198,18 @@ class Eraser:
         self.modules.append(name)
         return None if self.path_of(name) in NAMED else f'mod {name};'
 
-    def path_of(self, module):
-        return '::'.join([self.source.crate, *self.source.module, module])
+    def path_of(self, *names):
+        return '::'.join([self.source.crate, *self.source.module, *names])
+
+    def new_name(self, name, at):
+        """A name that an item, a parameter or an import has."""
+        if name in TAKEN:
+            self.source.refuse(f'`{name}` means something else here', at)
+        return name
+
+    def own_name(self):
+        start = self.source.at
+        return self.new_name(self.source.take_word(), start)
 
     def constant(self):
         text = self.copy({';'})
@@ -192,7 +218,7 @@ class Eraser:
 
     def data(self, word):
         """A struct or an enum."""
-        head = f'{word} {self.source.take_word()}{self.generics()}'
+        head = f'{word} {self.own_name()}{self.generics()}'
         if self.source.sees('{'):
             return f'{head} {self.group()}'
         fields = self.group() if self.source.sees('(') else ''
@@ -200,19 +226,29 @@ class Eraser:
         return f'{head}{fields};'
 
     def trait(self):
-        head = f'trait {self.source.take_word()}{self.generics()}'
-        return f'{head} {self.block_of_items(None)}'
+        name = self.own_name()
+        return f'trait {name}{self.generics()} {self.block_of_items(name)}'
 
     def implementation(self):
-        generics = self.generics()
+        start, generics = self.source.at, self.generics()
         subject = self.copy({'{', 'where'}).strip()
         if self.source.sees('where'):
             self.source.refuse('an impl with a where clause')
         trait = subject.rpartition(' for ')[0]
         if trait == 'Model':
-            self.source.skip_block()
-            return None
+            return self.model(start)
+        if trait and trait.partition('<')[0] not in TRAITS:
+            self.source.refuse(f'an impl of the unknown trait `{trait}`', start)
         return f'impl{generics} {subject} {self.block_of_items(trait)}'
+
+    def model(self, start):
+        """What a contract sees of a type. In it are ghost items alone."""
+        if 'std::marker::Model' not in self.imported:
+            self.source.refuse('an impl of a trait that is only named `Model`', start)
+        self.source.take('{')
+        while not self.source.take_if('}'):
+            self.source.take('ghost')
+            self.ghost()
 
     def block_of_items(self, trait):
         self.source.take('{')
@@ -220,8 +256,8 @@ class Eraser:
         self.source.take('}')
         return '{' + items + '}'
 
-    def function(self, trait):
-        """A function, without its clauses."""
+    def function(self, trait, is_reached):
+        """A function, without its clauses. It may be reached by code that isn't proved."""
         name = self.source.take_word()
         is_text = trait in TEXT_TRAITS and name == 'fmt'
         head = f'fn {name}{self.generics(is_text)}{self.parameters(is_text)}'
@@ -230,13 +266,22 @@ class Eraser:
         if self.source.take_if('where'):
             self.conditions()
         while self.source.sees(*CLAUSES):
-            self.source.take()
-            if not self.source.sees('{'):
-                self.source.take_word()
-            self.source.skip_block()
+            self.clause(name, is_reached)
         if self.source.take_if(';'):
             return f'{head};'
         return f'{head} {self.group()}'
+
+    def clause(self, name, is_reached):
+        """A clause of a function. What code by hand would have to keep must be known."""
+        word = self.source.take()
+        if not self.source.sees('{'):
+            self.source.take_word()
+        self.source.lead()
+        start = self.source.at
+        self.source.skip_block()
+        text = ' '.join(self.source.text[start:self.source.at].split())
+        if word.text == 'requires' and is_reached and REQUIRES.get(self.path_of(name)) != text:
+            self.source.refuse(f'`{name}` can be called by hand and requires {text}', word.start)
 
     def parameters(self, is_text):
         start, text = self.source.at, self.group()
@@ -260,16 +305,18 @@ class Eraser:
         return f'<{", ".join(kept)}>' if kept else ''
 
     def conditions(self):
-        """A where clause. It may have bounds that only the prover reads."""
+        """A where clause. Its one bound is `Drop`, of a parameter: only the prover reads that."""
         while not self.source.sees('{', ';', *CLAUSES):
-            start = self.source.at
-            if self.parameter()[1]:
-                self.source.refuse('a where clause with a bound that stays', start)
-            self.source.take_if(',')
+            self.source.take_word()
+            self.source.take(':')
+            self.source.take('Drop')
+            if not self.source.sees('{', ';', *CLAUSES):
+                self.source.take(',')
 
     def parameter(self):
         """A parameter's name, and its bounds without `Drop`."""
-        name, bounds = self.source.take().text, []
+        start, name, bounds = self.source.at, self.source.take().text, []
+        self.new_name(name, start)
         joint = ':'
         while self.source.take_if(joint):
             joint = '+'
@@ -297,7 +344,7 @@ class Eraser:
 
     def copy(self, stops):
         """What stands before the first of these signs or words that isn't in brackets."""
-        kept = []
+        kept, before = [], None
         while True:
             start = self.source.at
             kept.append(self.comments(self.source.lead(), start))
@@ -306,24 +353,38 @@ class Eraser:
                 self.source.refuse('the file ends too early')
             if token.text in stops:
                 return ''.join(kept)
-            kept.append(self.group() if token.text in CLOSING else self.copied(token))
+            kept.append(self.group() if token.text in CLOSING else self.copied(token, before))
+            before = token.text
 
-    def copied(self, token):
+    def copied(self, token, before):
         """A token, or a path, as it is in Rust."""
-        if token.text in GHOST_WORDS or token.text in {'#', *CLOSING.values()}:
+        if token.text in GHOST_WORDS | ITEM_WORDS or token.text in {'#', *CLOSING.values()}:
             self.source.refuse(f'`{token.text}` isn\'t known here', token.start)
         text = self.source.take().text
+        if text == '::' and not re.search(r'[\w>]$', before or ''):
+            self.source.refuse('a path that begins with `::`', token.start)
         if token.kind != 'word':
             return text
-        if self.source.text[self.source.at] == '!' and text not in MACROS:
+        if self.source.sees('!') and text not in MACROS | BEFORE_NOT:
             self.source.refuse(f'unknown macro `{text}`', token.start)
         if text in EVERYWHERE:
             self.everywhere.add(text)
-        if text not in {'crate', 'std', *CRATES} or not self.source.sees('::'):
+        if not self.source.sees('::'):
+            return text
+        if text not in {'crate', 'std', *CRATES}:
+            is_first = before not in {'.', '::'} and text[0].islower()
+            if is_first and not CALLED.match(self.source.text, self.source.at):
+                self.known_first(text, token.start)
             return text
         while self.source.take_if('::'):
             text += f'::{self.source.take_word()}'
         return self.target(text, token.start)
+
+    def known_first(self, name, at):
+        """Refuses a path that begins neither with a module of the file nor with what it imports."""
+        imported = {path.rpartition('::')[2] for path in self.imported}
+        if name not in FIRST | imported | {*self.modules}:
+            self.source.refuse(f'unknown path `{name}::`', at)
 
     def comments(self, text, at):
         """Comments, without the examples in them, which aren't Rust. A picture stays."""

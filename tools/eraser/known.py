@@ -29,12 +29,38 @@ PATHS = {
 # Types that need no `use` in the source, and have another name in Rust.
 EVERYWHERE = {'Box': 'crate::shim::Box', 'Vec': 'crate::shim::Vec'}
 
+# Names that the eraser goes by: no item, parameter or import may have one, but for those of PATHS.
+TAKEN = {'Drop', 'Model', 'fmt', *EVERYWHERE}
+
+# The calls with a `requires` that code by hand could make, and the clause that the prover doesn't
+# check there. Those of private modules it can't name. What opens a ledger counts nothing in Rust.
+# A kind or a capacity of 0 makes no channel by hand: that panics, or is refused as a script.
+REQUIRES = {
+    'event_list::ends::put_last': '{ HasRoomFor entries.old 1 }',
+    'event_list::entries::insert': '{ HasRoomFor self.old 1 }',
+    'event_list::list::steps::of': '{ Opens blank.name blank.parts L.name L.parts }',
+    'channel_core::queue::bounded': '{ 0 < cap }',
+    'channel_core::state::bounded': '{ 0 < cap }',
+    'channel_run::run::new': '{ HasPositiveCapacity kind }',
+    'channel_run::run::run_all': '{ HasPositiveCapacity kind }',
+}
+
 DERIVES = {'Clone', 'Copy', 'Debug', 'Eq', 'PartialEq'}
 BOUNDS = {'Bell', 'Ledger'}
 MACROS = {'matches', 'unreachable'}
 CLAUSES = {'requires', 'ensures', 'decreases'}
+# Words that no expression and no type has: an item in a function would be read by nobody.
+ITEM_WORDS = {
+    'async', 'enum', 'extern', 'fn', 'impl', 'mod', 'static', 'struct', 'trait', 'type', 'union',
+    'unsafe', 'use',
+}
+# Words that may stand before a `!` that begins no macro.
+BEFORE_NOT = {'break', 'if', 'in', 'match', 'return', 'while'}
+# What a path may begin with, beside the names of modules and crates.
+FIRST = {'super', 'u8', 'u64', 'u128', 'usize'}
 # Words of the prover: they may stand only where the parser looks for them.
 GHOST_WORDS = CLAUSES | {'assert', 'ghost', 'invariant', 'proof', 'tactic', 'using'}
 # Their `fmt` takes any writer there, and one writer in Rust.
 TEXT_TRAITS = {'fmt::Display', 'fmt::Debug'}
+TRAITS = {'Bell', 'Error', *TEXT_TRAITS}
 WRITER, FORMATTER = 'fmt::Write', ('fmt::Formatter<W>', "fmt::Formatter<'_>")

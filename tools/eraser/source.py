@@ -11,7 +11,10 @@ TOKEN = re.compile(
       | (?P<sign>::|->|=>|\.\.=|\.\.|<=|>=|==|!=|&&|\|\||[-+*/%]=|[][(){}<>;:,.=!?&|+*/%@\#-])""",
     re.VERBOSE | re.ASCII,
 )
-GHOST_BRACE = re.compile(r'"(?:\\.|[^"\\\n])*"|[{}]')
+# What a block that only the prover reads is gone through by: where a brace stands in it, it counts.
+GHOST_PART = re.compile(
+    r'(?P<text>"(?:\\.|[^"\\\n])*")|(?P<comment>(?://|--)[^\n]*)|\'[{}"]\'|["{}]'
+)
 
 
 class Refusal(Exception):
@@ -92,8 +95,11 @@ class Source:
         """Takes a block that only the prover reads, to the brace that ends it."""
         start, depth = self.take('{').start, 1
         while depth:
-            found = GHOST_BRACE.search(self.text, self.at)
+            found = GHOST_PART.search(self.text, self.at)
             if not found:
                 self.refuse('a block without an end', start)
-            self.at = found.end()
-            depth += {'{': 1, '}': -1}.get(found.group(), 0)
+            self.at, part = found.end(), found.group()
+            depth += {'{': 1, '}': -1}.get(part, 0)
+            is_unclear = set(part) & set('"{}') if found['comment'] else part not in {'{', '}'}
+            if is_unclear and not found['text']:
+                self.refuse(f'unknown brace or quote in `{part}`', found.start())

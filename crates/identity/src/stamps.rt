@@ -11,7 +11,7 @@ use std::marker::Model;
 ///
 /// ```
 /// let mut maker = StampMaker::new();
-/// let (first, second) = (maker.draw(), maker.draw());
+/// let (first, second): (Option<Stamp>, Option<Stamp>) = (maker.draw(), maker.draw());
 /// assert!(rt; first.is_some());
 /// assert!(rt; first != second);
 /// ```

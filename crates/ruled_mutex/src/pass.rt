@@ -27,7 +27,7 @@ pub struct Doing<T, V> {
 ///     panic!(&rt; "out of memory");
 /// };
 /// drop(pass);
-/// let pass = mutex.pass();
+/// let pass: Pass<u64, ()> = mutex.pass();
 /// drop(pass);
 /// ```
 pub struct Pass<T, V> {

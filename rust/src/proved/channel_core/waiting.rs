@@ -7,7 +7,7 @@ use crate::proved::event_list::{Bell, NoRoom, Ticket, WaitList};
 use crate::shim::Global;
 
 /// Who waits for a channel, by what they wait for.
-pub(crate) struct WaitLists<W> {
+pub(super) struct WaitLists<W> {
     // Sends, for a place or the close.
     pub(crate) sends: WaitList<W>,
     // Receives, for a message or the close.
@@ -21,7 +21,7 @@ pub(crate) struct WaitLists<W> {
 impl<W> WaitLists<W> {
     /// Nobody waits.
     #[inline]
-    pub(crate) fn new(alloc: Global) -> Self {
+    pub(super) fn new(alloc: Global) -> Self {
         WaitLists {
             sends: WaitList::new(alloc),
             receives: WaitList::new(alloc),
@@ -32,7 +32,7 @@ impl<W> WaitLists<W> {
 
     /// The list of a group.
     #[inline]
-    pub(crate) fn of(&self, g: Group) -> &WaitList<W> {
+    pub(super) fn of(&self, g: Group) -> &WaitList<W> {
         match g {
             Group::Sends => &self.sends,
             Group::Receives => &self.receives,
@@ -43,14 +43,14 @@ impl<W> WaitLists<W> {
 
     /// A message was accepted.
     #[inline(always)]
-    pub(crate) fn tell_accepted<B: Bell<W>>(&mut self, bell: &mut B) {
+    pub(super) fn tell_accepted<B: Bell<W>>(&mut self, bell: &mut B) {
         self.receives.tell_one(bell);
         self.streams.tell_all(bell);
     }
 
     /// The channel was closed.
     #[inline]
-    pub(crate) fn tell_closed<B: Bell<W>>(&mut self, bell: &mut B) {
+    pub(super) fn tell_closed<B: Bell<W>>(&mut self, bell: &mut B) {
         self.sends.tell_all(bell);
         self.receives.tell_all(bell);
         self.streams.tell_all(bell);
@@ -59,14 +59,14 @@ impl<W> WaitLists<W> {
 
 /// The ticket's entry leaves the list, with its notice. The answer is the payload that it held.
 #[inline]
-pub(crate) fn leave<W>(list: &mut WaitList<W>, ticket: &mut Option<Ticket>) -> Option<W> {
+pub(super) fn leave<W>(list: &mut WaitList<W>, ticket: &mut Option<Ticket>) -> Option<W> {
     list.unregister(ticket.take()?)?.into_payload()
 }
 
 /// The ticket's entry leaves the list, and a notice that it had is handed on. The answer is the
 /// payload that it held.
 #[inline]
-pub(crate) fn hand_on<W, B: Bell<W>>(
+pub(super) fn hand_on<W, B: Bell<W>>(
     list: &mut WaitList<W>,
     ticket: &mut Option<Ticket>,
     bell: &mut B,
@@ -77,7 +77,7 @@ pub(crate) fn hand_on<W, B: Bell<W>>(
 /// Who can't go on waits with the payload: its entry waits again, or it begins to wait. The answer
 /// is the payload that its entry held. Without a payload nothing changes.
 #[inline]
-pub(crate) fn wait<W>(
+pub(super) fn wait<W>(
     list: &mut WaitList<W>,
     ticket: &mut Option<Ticket>,
     w: &mut Option<W>,

@@ -12,7 +12,7 @@ use crate::shim::BTreeMap;
 ///
 /// It is a hint, and no clause speaks of it: it isn't kept up to date, and may lack names for which
 /// memory was refused. Whoever asks it looks the name up, and walks where it is wrong.
-pub(crate) struct Holders {
+pub(super) struct Holders {
     sends: BTreeMap<usize, u64>,
     receives: BTreeMap<usize, u64>,
     streams: BTreeMap<usize, u64>,
@@ -22,7 +22,7 @@ pub(crate) struct Holders {
 impl Holders {
     /// No name.
     #[inline]
-    pub(crate) fn new(alloc: Global) -> Holders {
+    pub(super) fn new(alloc: Global) -> Holders {
         Holders {
             sends: BTreeMap::new(alloc),
             receives: BTreeMap::new(alloc),
@@ -33,7 +33,7 @@ impl Holders {
 
     /// The name under which a ticket of the key stood.
     #[inline]
-    pub(crate) fn get(&self, group: Group, key: usize) -> Option<u64> {
+    pub(super) fn get(&self, group: Group, key: usize) -> Option<u64> {
         let name = match group {
             Group::Sends => self.sends.get(&key),
             Group::Receives => self.receives.get(&key),
@@ -45,7 +45,7 @@ impl Holders {
 
     /// Adds the names of all tickets, or of some, where memory is refused.
     #[inline]
-    pub(crate) fn add_all<T>(
+    pub(super) fn add_all<T>(
         &mut self,
         operations: &BTreeMap<u64, Operation<T>>,
         receivers: &BTreeMap<u64, Option<Ticket>>,

@@ -6,7 +6,7 @@ use crate::shim::Global;
 use crate::shim::BTreeMap;
 
 /// Live names, each once, in ascending order. Each is found in the time of a map's look-up.
-pub(crate) struct Names {
+pub(super) struct Names {
     // a name is a key, with nothing under it
     names: BTreeMap<u64, ()>,
 }
@@ -14,7 +14,7 @@ pub(crate) struct Names {
 impl Names {
     /// No name.
     #[inline]
-    pub(crate) fn new(alloc: Global) -> Names {
+    pub(super) fn new(alloc: Global) -> Names {
         Names {
             names: BTreeMap::new(alloc),
         }
@@ -22,19 +22,19 @@ impl Names {
 
     /// How many names are live.
     #[inline]
-    pub(crate) fn len(&self) -> usize {
+    pub(super) fn len(&self) -> usize {
         self.names.len()
     }
 
     /// Whether a name is live.
     #[inline]
-    pub(crate) fn has(&self, name: u64) -> bool {
+    pub(super) fn has(&self, name: u64) -> bool {
         self.names.contains_key(&name)
     }
 
     /// Makes a name that isn't live.
     #[inline]
-    pub(crate) fn add(&mut self, name: u64) -> Result<(), OutOfMemory> {
+    pub(super) fn add(&mut self, name: u64) -> Result<(), OutOfMemory> {
         match put(&mut self.names, name, ()) {
             Ok(()) => Ok(()),
             Err(()) => Err(OutOfMemory),
@@ -43,14 +43,14 @@ impl Names {
 
     /// Gives a name up.
     #[inline]
-    pub(crate) fn remove(&mut self, name: u64) {
+    pub(super) fn remove(&mut self, name: u64) {
         self.names.remove(&name);
     }
 }
 
 /// Puts a value under a name that isn't live, or hands it back.
 #[inline]
-pub(crate) fn put<V>(entries: &mut BTreeMap<u64, V>, name: u64, value: V) -> Result<(), V> {
+pub(super) fn put<V>(entries: &mut BTreeMap<u64, V>, name: u64, value: V) -> Result<(), V> {
     match entries.insert(name, value) {
         Ok(_) => Ok(()),
         Err(refused) => Err(refused.value.1),
@@ -59,7 +59,7 @@ pub(crate) fn put<V>(entries: &mut BTreeMap<u64, V>, name: u64, value: V) -> Res
 
 /// Takes out what stands under a name.
 #[inline]
-pub(crate) fn take<V>(entries: &mut BTreeMap<u64, V>, name: u64) -> Option<V> {
+pub(super) fn take<V>(entries: &mut BTreeMap<u64, V>, name: u64) -> Option<V> {
     // proof: the call promises that the names are different
     let _count = entries.len();
     entries.remove(&name)

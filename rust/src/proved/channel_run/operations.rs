@@ -10,7 +10,7 @@ use crate::shim::Global;
 use crate::shim::BTreeMap;
 
 /// An operation that was started and not given up. It borrows its handle all that time.
-pub(crate) enum Operation<T> {
+pub(super) enum Operation<T> {
     /// A send, with its message until it has finished.
     Send {
         sender: u64,
@@ -32,7 +32,7 @@ pub(crate) enum Operation<T> {
 impl<T> Operation<T> {
     /// Whether it borrows this sender.
     #[inline]
-    pub(crate) fn borrows_sender(&self, name: u64) -> bool {
+    pub(super) fn borrows_sender(&self, name: u64) -> bool {
         match self {
             Operation::Send { sender, .. } => *sender == name,
             Operation::Recv { .. } => false,
@@ -42,7 +42,7 @@ impl<T> Operation<T> {
 
     /// The message of a send that hasn't finished.
     #[inline]
-    pub(crate) fn into_message(self) -> Option<T> {
+    pub(super) fn into_message(self) -> Option<T> {
         match self {
             Operation::Send { message, .. } => message,
             Operation::Recv { .. } => None,
@@ -52,7 +52,7 @@ impl<T> Operation<T> {
 
     /// Whether it borrows this receiver.
     #[inline]
-    pub(crate) fn borrows_receiver(&self, name: u64) -> bool {
+    pub(super) fn borrows_receiver(&self, name: u64) -> bool {
         match self {
             Operation::Send { .. } => false,
             Operation::Recv { receiver, .. } => *receiver == name,
@@ -62,7 +62,7 @@ impl<T> Operation<T> {
 
     /// Whether it waits in the group, and by a ticket of this key.
     #[inline]
-    pub(crate) fn waits_with(&self, group: Group, key: usize) -> bool {
+    pub(super) fn waits_with(&self, group: Group, key: usize) -> bool {
         match self {
             Operation::Send { ticket, .. } => group == Group::Sends && has_key(ticket, key),
             Operation::Recv { ticket, .. } => group == Group::Receives && has_key(ticket, key),
@@ -72,7 +72,7 @@ impl<T> Operation<T> {
 }
 
 /// The live operations by name, and how many of them borrow each handle.
-pub(crate) struct Operations<T> {
+pub(super) struct Operations<T> {
     // each with the ticket of its wait; a poll changes an operation, but never what it borrows
     pub(crate) by_name: BTreeMap<u64, Operation<T>>,
     // how many borrow each sender, and each receiver
@@ -83,7 +83,7 @@ pub(crate) struct Operations<T> {
 impl<T> Operations<T> {
     /// None.
     #[inline]
-    pub(crate) fn new(alloc: Global) -> Operations<T> {
+    pub(super) fn new(alloc: Global) -> Operations<T> {
         Operations {
             by_name: BTreeMap::new(alloc),
             by_sender: Tally::new(alloc),
@@ -93,19 +93,19 @@ impl<T> Operations<T> {
 
     /// Whether a live send or closed operation borrows the sender.
     #[inline]
-    pub(crate) fn is_sender_borrowed(&self, name: u64) -> bool {
+    pub(super) fn is_sender_borrowed(&self, name: u64) -> bool {
         self.by_sender.get(name) > 0
     }
 
     /// Whether a live receive borrows the receiver.
     #[inline]
-    pub(crate) fn is_receiver_borrowed(&self, name: u64) -> bool {
+    pub(super) fn is_receiver_borrowed(&self, name: u64) -> bool {
         self.by_receiver.get(name) > 0
     }
 
     /// Puts an operation under a name that isn't live, or hands it back.
     #[inline]
-    pub(crate) fn put(&mut self, op: u64, operation: Operation<T>) -> Result<(), Operation<T>> {
+    pub(super) fn put(&mut self, op: u64, operation: Operation<T>) -> Result<(), Operation<T>> {
         if self.count(&operation).is_err() {
             return Err(operation);
         }
@@ -121,7 +121,7 @@ impl<T> Operations<T> {
 
     /// Takes out the operation of a name.
     #[inline]
-    pub(crate) fn take(&mut self, op: u64) -> Option<Operation<T>> {
+    pub(super) fn take(&mut self, op: u64) -> Option<Operation<T>> {
         // proof: the call promises that the names are different
         let _count = self.by_name.len();
         let operation = self.by_name.remove(&op)?;

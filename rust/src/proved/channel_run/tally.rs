@@ -6,14 +6,14 @@ use crate::shim::Global;
 use crate::shim::BTreeMap;
 
 /// Numbers by name. A name under which none stands has 0.
-pub(crate) struct Tally {
+pub(super) struct Tally {
     numbers: BTreeMap<u64, u64>,
 }
 
 impl Tally {
     /// Every name has 0.
     #[inline]
-    pub(crate) fn new(alloc: Global) -> Tally {
+    pub(super) fn new(alloc: Global) -> Tally {
         Tally {
             numbers: BTreeMap::new(alloc),
         }
@@ -21,7 +21,7 @@ impl Tally {
 
     /// The number of a name.
     #[inline]
-    pub(crate) fn get(&self, name: u64) -> u64 {
+    pub(super) fn get(&self, name: u64) -> u64 {
         match self.numbers.get(&name) {
             Some(number) => *number,
             None => 0,
@@ -30,7 +30,7 @@ impl Tally {
 
     /// Raises the number of a name by 1.
     #[inline]
-    pub(crate) fn raise(&mut self, name: u64) -> Result<(), OutOfMemory> {
+    pub(super) fn raise(&mut self, name: u64) -> Result<(), OutOfMemory> {
         let number = self.get(name);
         match self.numbers.insert(name, number + 1) {
             Ok(_) => Ok(()),
@@ -40,7 +40,7 @@ impl Tally {
 
     /// Lowers the number of a name by 1, if it isn't 0. It takes no memory.
     #[inline]
-    pub(crate) fn lower(&mut self, name: u64) {
+    pub(super) fn lower(&mut self, name: u64) {
         let number = self.get(name);
         if number < 2 {
             self.numbers.remove(&name);

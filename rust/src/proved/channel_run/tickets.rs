@@ -8,7 +8,7 @@ use crate::shim::BTreeMap;
 
 /// Whether there is a ticket, and it has the key.
 #[inline]
-pub(crate) fn has_key(ticket: &Option<Ticket>, key: usize) -> bool {
+pub(super) fn has_key(ticket: &Option<Ticket>, key: usize) -> bool {
     match ticket {
         Some(ticket) => ticket.key() == key,
         None => false,
@@ -18,7 +18,7 @@ pub(crate) fn has_key(ticket: &Option<Ticket>, key: usize) -> bool {
 /// The name of the operation that waits in the group by a ticket of this key. It is looked up where
 /// the guess is right, and else walked for.
 #[inline]
-pub(crate) fn operation_with<T>(
+pub(super) fn operation_with<T>(
     operations: &BTreeMap<u64, Operation<T>>,
     group: Group,
     key: usize,
@@ -52,7 +52,7 @@ fn waits_with<T>(
 /// The name of the receiver whose stream waits by a ticket of this key. It is looked up where the
 /// guess is right, and else walked for.
 #[inline]
-pub(crate) fn receiver_with(
+pub(super) fn receiver_with(
     receivers: &BTreeMap<u64, Option<Ticket>>,
     key: usize,
     guess: Option<u64>,

@@ -20,7 +20,7 @@ use crate::shim::Global;
 use crate::shim::Ledger;
 
 /// The entries in order of arrival, of which the first `told` are told.
-pub(crate) struct Links<W> {
+pub(super) struct Links<W> {
     // Each with the keys of its neighbours.
     entries: Entries<W>,
     // The keys of the first one, of the last, and of the first untold one.
@@ -34,7 +34,7 @@ pub(crate) struct Links<W> {
 impl<W> Links<W> {
     /// A list where nobody waits. It takes no memory.
     #[inline]
-    pub(crate) fn new(alloc: Global) -> Self {
+    pub(super) fn new(alloc: Global) -> Self {
         Links {
             entries: Entries::new(alloc),
             ends: Ends {
@@ -49,7 +49,7 @@ impl<W> Links<W> {
 
     /// A new entry goes last, untold, under a key that isn't in the list. At most 6 look-ups.
     #[inline]
-    pub(crate) fn listen<L: Ledger>(
+    pub(super) fn listen<L: Ledger>(
         &mut self,
         w: W,
         lookups: &mut Lookups<L>,
@@ -64,7 +64,7 @@ impl<W> Links<W> {
 
     /// The entry waits again with this payload, and gives the one that it had. At most 6 look-ups.
     #[inline]
-    pub(crate) fn renew<L: Ledger>(
+    pub(super) fn renew<L: Ledger>(
         &mut self,
         t: &Ticket,
         w: W,
@@ -84,7 +84,7 @@ impl<W> Links<W> {
 
     /// Tells the longest waiting untold entry. At most one look-up.
     #[inline]
-    pub(crate) fn tell_one<B: Bell<W>, L: Ledger>(
+    pub(super) fn tell_one<B: Bell<W>, L: Ledger>(
         &mut self,
         bell: &mut B,
         lookups: &mut Lookups<L>,
@@ -103,7 +103,7 @@ impl<W> Links<W> {
 
     /// Tells every untold entry. At most one look-up for each.
     #[inline]
-    pub(crate) fn tell_all<B: Bell<W>, L: Ledger>(
+    pub(super) fn tell_all<B: Bell<W>, L: Ledger>(
         &mut self,
         bell: &mut B,
         lookups: &mut Lookups<L>,
@@ -117,7 +117,7 @@ impl<W> Links<W> {
 
     /// The entry leaves, and is the answer. At most 6 look-ups.
     #[inline]
-    pub(crate) fn unregister<L: Ledger>(
+    pub(super) fn unregister<L: Ledger>(
         &mut self,
         t: Ticket,
         lookups: &mut Lookups<L>,
@@ -133,7 +133,7 @@ impl<W> Links<W> {
     /// The entry leaves, and where it was told, one is told in its place. The answer is the payload
     /// of one that was untold. At most 12 look-ups.
     #[inline]
-    pub(crate) fn withdraw<B: Bell<W>, L: Ledger>(
+    pub(super) fn withdraw<B: Bell<W>, L: Ledger>(
         &mut self,
         t: Ticket,
         bell: &mut B,
@@ -148,37 +148,37 @@ impl<W> Links<W> {
 
     /// Whether the ticket's entry is told, or nothing where it isn't in the list. One look-up.
     #[inline]
-    pub(crate) fn is_told<L: Ledger>(&self, t: &Ticket, lookups: &mut Lookups<L>) -> Option<bool> {
+    pub(super) fn is_told<L: Ledger>(&self, t: &Ticket, lookups: &mut Lookups<L>) -> Option<bool> {
         self.entries.is_told(t.key, lookups)
     }
 
     /// The payload of the ticket's entry, where it is untold. One look-up.
     #[inline]
-    pub(crate) fn payload<L: Ledger>(&self, t: &Ticket, lookups: &mut Lookups<L>) -> Option<&W> {
+    pub(super) fn payload<L: Ledger>(&self, t: &Ticket, lookups: &mut Lookups<L>) -> Option<&W> {
         self.entries.payload(t.key, lookups)
     }
 
     /// Whether somebody is untold.
     #[inline(always)]
-    pub(crate) fn has_untold(&self) -> bool {
+    pub(super) fn has_untold(&self) -> bool {
         self.ends.cursor.is_some()
     }
 
     /// How many wait.
     #[inline]
-    pub(crate) fn len(&self) -> usize {
+    pub(super) fn len(&self) -> usize {
         self.len
     }
 
     /// How many are told.
     #[inline]
-    pub(crate) fn told(&self) -> usize {
+    pub(super) fn told(&self) -> usize {
         self.told
     }
 
     /// The key of the first entry, where somebody is told.
     #[inline]
-    pub(crate) fn first_told(&self) -> Option<usize> {
+    pub(super) fn first_told(&self) -> Option<usize> {
         if self.told == 0 {
             return None;
         }

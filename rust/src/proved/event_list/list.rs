@@ -25,7 +25,7 @@
 
 use crate::shim::Box;
 
-pub(crate) mod steps;
+pub(super) mod steps;
 
 use crate::proved::event_list::bell::Bell;
 use crate::proved::event_list::entries::EntryState;

@@ -12,7 +12,7 @@ use crate::proved::channel_model::{OutOfMemory, Reply, Who};
 impl<T> Run<T> {
     /// Room for as many replies as there are waiting entries.
     #[inline]
-    pub(crate) fn room_for_replies(&self) -> Result<Vec<(Who, Reply<T>)>, OutOfMemory> {
+    pub(in super::super) fn room_for_replies(&self) -> Result<Vec<(Who, Reply<T>)>, OutOfMemory> {
         match Vec::with_capacity(self.alloc, self.waiting()) {
             Ok(replies) => Ok(replies),
             Err(_) => Err(OutOfMemory),
@@ -21,7 +21,7 @@ impl<T> Run<T> {
 
     /// Who holds which ticket, as far as there is memory to note it.
     #[inline]
-    pub(crate) fn holders(&self) -> Holders {
+    pub(in super::super) fn holders(&self) -> Holders {
         let mut holders = Holders::new(self.alloc);
         // whoever finds no memory is walked for
         let _ = holders.add_all(&self.operations.by_name, &self.receivers);
@@ -31,7 +31,7 @@ impl<T> Run<T> {
     /// Who is polled next: the first told receive, else the first told stream, else the first told
     /// send, else the first told closed operation. It is the same whatever is known of the holders.
     #[inline]
-    pub(crate) fn first_told(&self, holders: Option<&Holders>) -> Option<Who> {
+    pub(in super::super) fn first_told(&self, holders: Option<&Holders>) -> Option<Who> {
         if let Some(op) = self.first_in(Group::Receives, holders) {
             return Some(Who::Op(op));
         }
@@ -47,7 +47,7 @@ impl<T> Run<T> {
 
     /// Polls the one who was told first, also a stream whose receiver a live receive borrows.
     #[inline]
-    pub(crate) fn poll_told(&mut self, who: Who) -> Reply<T> {
+    pub(in super::super) fn poll_told(&mut self, who: Who) -> Reply<T> {
         // whoever waits is live, as the run's parts fit together
         let _ = &self.core;
         match who {

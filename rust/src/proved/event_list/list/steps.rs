@@ -27,7 +27,7 @@ impl<L: Ledger> Steps<L> {
 }
 
 /// The number of look-ups, as what works on the entries sees it.
-pub(crate) struct Lookups<L: Ledger> {
+pub(in super::super) struct Lookups<L: Ledger> {
     book: Book<L>,
     share: Share<L>,
 }
@@ -42,7 +42,7 @@ impl<L: Ledger> Lookups<L> {
 
     /// One more look-up.
     #[inline]
-    pub(crate) fn raise(&mut self) {
+    pub(in super::super) fn raise(&mut self) {
         self.book.add(&mut self.share, 1);
     }
 }
