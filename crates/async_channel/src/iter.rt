@@ -15,7 +15,7 @@ use std::sync::{Forever, Wait};
 /// ```
 /// let (s, r) = unbounded(&rt, rt.alloc(), &mut maker)?;
 /// assert_eq!(rt; s.try_send(1)?, Ok(()));
-/// let mut messages = r.try_iter();
+/// let mut messages: TryIter<u32, _> = r.try_iter();
 /// assert_eq!(rt; messages.next(), Some(1));
 /// assert_eq!(rt; messages.next(), None);
 ///

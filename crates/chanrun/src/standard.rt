@@ -11,6 +11,7 @@ use std::rt::Env;
 /// # Examples
 ///
 /// ```
+/// #[derive(Drop)]
 /// struct Silent;
 ///
 /// impl Program for Silent {

@@ -63,7 +63,7 @@ impl<T, W> Core<T, W> {
 
     // Why a channel without a message has none: none will come, or none is there yet.
     #[inline(always)]
-    pub(crate) fn why_empty(&self) -> TryRecvError {
+    pub(in super::super) fn why_empty(&self) -> TryRecvError {
         if self.closed {
             TryRecvError::Closed
         } else {
