@@ -135,8 +135,8 @@ impl<T: Drop, W: Drop> Core<T, W> {
         }
     }
 
-    // Sends so many from the front, or those before the first that is refused. The answer is how many
-    // were sent.
+    // Sends so many from the front, or those before the first that is refused. The answer is how
+    // many were sent.
     fn send_front<B: Bell<W>>(
         &mut self,
         from: &mut VecDeque<T, Global>,

@@ -75,8 +75,8 @@ impl<T, W> Core<T, W> {
         }
     }
 
-    // Sends so many from the front, or those before the first that is refused. The answer is how many
-    // were sent.
+    // Sends so many from the front, or those before the first that is refused. The answer is how
+    // many were sent.
     #[inline]
     fn send_front<B: Bell<W>>(
         &mut self,
