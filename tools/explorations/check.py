@@ -3,9 +3,11 @@
 
 What it prints of examples/NAME.explore is compared with examples/NAME.outcomes, with the orders
 that tools/explorations/every_order.py makes by the rules, and each script in it is replayed by the
-built chanrun, whose replies have to be those of the outcome. The gate leaves the programs built;
-where one isn't, `rt run` builds it. The last line counts the cases, and the status is 0 where all
-passed. With the argument --write the outcomes are stored in place of being compared.
+built chanrun, whose replies have to be those of the outcome. What it prints of the inputs in
+reports.py is compared whole. Of each byte it is asked whether a name may have it, and lines, names
+and arguments are given at their limits and one beyond. The gate leaves the programs built; where
+one isn't, `rt run` builds it. The last line counts the cases, and the status is 0 where all passed.
+With the argument --write the outcomes are stored in place of being compared.
 """
 
 import pathlib
@@ -14,11 +16,13 @@ import subprocess
 import sys
 
 from every_order import explored
+from reports import reports
 
 TOP = pathlib.Path(__file__).resolve().parent.parent.parent
 EXAMPLES = TOP / "examples"
 SECONDS = 120
 LARGEST = 2**64 - 1
+USAGE = b"chanexplore takes --orders N, N from 1 to 10000000, or no argument\n"
 
 
 def built(name, given):
@@ -107,13 +111,74 @@ def faulty():
     }
 
 
+def wrong_with_names(program):
+    """Bytes behind a letter of a party's name that are answered wrongly."""
+    plain = b"ABCDEFGHIJKLMNOPQRSTUVWXYZabcdefghijklmnopqrstuvwxyz0123456789_"
+    for byte in bytes(range(256)).replace(b"\n", b""):
+        name = bytes([ord("a"), byte])
+        ran = run(program, b"unbounded\nparty " + name + b"\nlen s0\n")
+        faults = {32: b"line 2: wrong number of words\n"}
+        wanted = b"" if byte in plain else faults.get(byte, b"line 2: bad name\n")
+        shown = b"\n" + name + b": len s0 => 0\n" in ran.stdout
+        if ran.stderr != wanted or shown == bool(wanted):
+            yield f"byte {byte}: {ran.stderr!r}"
+
+
+def at_limits():
+    """Inputs at a limit and one beyond, as those of `hostile`."""
+    party, long, fault = b"unbounded\nparty a\n", b"unbounded\nparty ", b": line is too long\n"
+    names = b"party b\nlen s0\nparty c\nlen s0\n"
+    turns = {n: b"unbounded\n" + b"".join(
+        b"party %s\n" % name + b"len s0\n" * count for name, count in ((b"a", n), (b"b", 10))
+    ) for n in (9, 10)}
+    one = party + b"len s0\n"
+    filler = one + b"len s0\n" * ((2**20 - len(one)) // 7 - 1)
+    number = b"line %d: unknown command\n" % (filler.count(b"\n") + 1)
+    filler += b"x" * (2**20 - len(filler))
+    return {
+        "the longest name": (long + b"n" * 250 + b"\nlen s0\n", [], 0, b"orders 1", b""),
+        "a name too long": (long + b"n" * 251 + b"\n", [], 2, b"", b"line 2" + fault),
+        "the longest line": (party + b"x" * 256, [], 2, b"", b"line 3: unknown command\n"),
+        "a line too long": (party + b"x" * 257, [], 2, b"", b"line 3" + fault),
+        "an awaiting line too long": (
+            party + b"await " + b"o" * 251, [], 2, b"", b"line 3" + fault
+        ),
+        "the longest line before": (
+            b"unbounded\n" + b"x" * 256, [], 2, b"", b"line 2: unknown command\n"
+        ),
+        "a line too long before": (b"unbounded\n" + b"x" * 257, [], 2, b"", b"line 2" + fault),
+        "the longest first line": (
+            b"unbounded " + b"x" * 246, [], 2, b"", b"line 1: wrong number of words\n"
+        ),
+        "a first line too long": (b"unbounded " + b"x" * 247, [], 2, b"", b"line 1" + fault),
+        "the second name again": (one + names + b"party b\n", [], 2, b"", b"line 8: bad name\n"),
+        "the third name again": (one + names + b"party c\n", [], 2, b"", b"line 8: bad name\n"),
+        "a name in other letters": (one + b"party A\nlen s0\n", [], 0, b"orders 2", b""),
+        "a name that goes on": (one + b"party ab\nlen s0\n", [], 0, b"orders 2", b""),
+        "the longest input": (filler, [], 2, b"", number),
+        "an input too long": (filler + b"x", [], 1, b"", b"input is too long\n"),
+        "fewer orders than usual": (turns[9], [], 0, b"orders 92378", b""),
+        "more orders than usual": (
+            turns[10], [], 3, b"orders 100000, and more: the limit is met", b""
+        ),
+        "more orders that are asked for": (
+            turns[10], ["--orders", "184756"], 0, b"orders 184756", b""
+        ),
+        "the most orders": (one, ["--orders", "10000000"], 0, b"orders 1", b""),
+        "an argument alone": (one, ["--orders"], 2, b"", USAGE),
+        "a number alone": (one, ["5"], 2, b"", USAGE),
+        "no number": (one, ["--orders", "x"], 2, b"", USAGE),
+        "an empty number": (one, ["--orders", ""], 2, b"", USAGE),
+        "a number too large": (one, ["--orders", str(2**64 + 1)], 2, b"", USAGE),
+    }
+
+
 def hostile():
     """Inputs with their arguments, and the status, the first line and the fault that are wanted."""
     many = b"unbounded\nparty all\n" + b"len s0\n" * 9998
     crowd = b"unbounded\n" + b"".join(b"party p%d\nlen s0\n" % n for n in range(200))
     names = b"unbounded\nclone s0 s%d\nparty a\nrecv o%d r0\nawait o%d\n" % ((LARGEST,) * 3)
     two = b"unbounded\nparty a\nlen s0\nparty b\nlen s0\n"
-    usage = b"chanexplore takes --orders N, N from 1 to 10000000, or no argument\n"
     more = b", and more: the limit is met"
     cases = {name: (given, [], 2, b"", fault) for name, (given, fault) in faulty().items()}
     return cases | {
@@ -125,10 +190,10 @@ def hostile():
         "too long": (b"unbounded\n" * 150_000, [], 1, b"", b"input is too long\n"),
         "the last order is no limit": (two, ["--orders", "2"], 0, b"orders 2", b""),
         "one order of two": (two, ["--orders", "1"], 3, b"orders 1" + more, b""),
-        "no order": (two, ["--orders", "0"], 2, b"", usage),
-        "too many orders": (two, ["--orders", "10000001"], 2, b"", usage),
-        "another argument": (two, ["--all"], 2, b"", usage),
-        "an argument more": (two, ["--orders", "5", "6"], 2, b"", usage),
+        "no order": (two, ["--orders", "0"], 2, b"", USAGE),
+        "too many orders": (two, ["--orders", "10000001"], 2, b"", USAGE),
+        "another argument": (two, ["--all"], 2, b"", USAGE),
+        "an argument more": (two, ["--orders", "5", "6"], 2, b"", USAGE),
     }
 
 
@@ -141,7 +206,16 @@ def main():
         wrong = wrong_with(example, programs, write)
         cases, failed = cases + 1, failed + bool(wrong)
         print(f"chanexplore: {example.name}: {'; '.join(wrong) or 'ok'}")
-    for name, (given, arguments, status, first, fault) in hostile().items():
+    for name, arguments, given, report, whole in reports():
+        ran = run(programs["program_chanexplore"], given.encode(), arguments)
+        got = (ran.returncode, ran.stdout.decode(), ran.stderr)
+        right = got == (0 if whole else 3, report, b"")
+        cases, failed = cases + 1, failed + (not right)
+        print(f"chanexplore: {name}: {'ok' if right else got}")
+    wrong = list(wrong_with_names(programs["program_chanexplore"]))
+    cases, failed = cases + 1, failed + bool(wrong)
+    print(f"chanexplore: characters of names: {'; '.join(wrong[:1]) or 'ok'}")
+    for name, (given, arguments, status, first, fault) in (hostile() | at_limits()).items():
         ran = run(programs["program_chanexplore"], given, arguments)
         got = (ran.returncode, ran.stdout.split(b"\n")[0], ran.stderr)
         right = got == (status, first, fault)
