@@ -43,6 +43,7 @@ tools:
 	python3 tools/chanrun_runs.py
 	python3 tools/explorations/check.py
 	python3 tools/pictures/check.py
+	tools/refused_requests_tests
 	python3 tools/refused_requests.py
 	$(MAKE) --no-print-directory rust
 

@@ -1,9 +1,13 @@
 #!/usr/bin/env python3
 """Makes each worked row with its requests for memory refused one by one.
 
+    tools/refused_requests.py            compares, too, how many requests each row makes
+    tools/refused_requests.py --write    stores how many, in refused_requests/requests.txt
+
 Two built programs make the rows: chanrun those that are scripts, and test_memory those of every
 layer below (the waiting list, the queue and the core, runs, handles, operations, the recorder). An
-allocator laid in front of a program counts its requests, and refuses the one that it is told to.
+allocator laid in front of a program counts its requests, and refuses the one that it is told to. It
+stands in front of each call of the C library that gives memory.
 
 Each row is made once with all memory, and must print what it is to print. Then it is made again for
 each request, and that one request is refused. chanrun may end as before, or with a beginning of its
@@ -13,10 +17,12 @@ makes that call again by itself, once it has seen that nothing else changed. Whe
 `finish` is refused the row begins anew, behind the line `row again`. Anything else is a difference.
 So is a request by a call of which test_memory says that it makes none.
 
-A line is printed for each row: how many requests it made, how many of them were answered as
-refused, how many changed nothing, and how many came to something else. Of the longest scripts the
-first and the last requests are refused. The status is 0 where nothing differed, every row asked for
-memory, and every call of test_memory that asked was refused once.
+A line is printed for each row: how many of its requests were refused in turn, how many of them were
+answered as refused, how many changed nothing, and how many came to something else. Of the longest
+scripts the first and the last requests are refused. The status is 0 where nothing differed, every
+row asked for memory, made as many requests as are stored for it, and every call of test_memory that
+asked was refused once. What is stored is what the programs made: it is written anew where a row
+comes or goes, or where one is meant to make another number of requests.
 """
 
 import os
@@ -31,6 +37,7 @@ TOOLS = pathlib.Path(__file__).resolve().parent
 CRATES = TOOLS.parent / "crates"
 ROWS = CRATES / "test_rows" / "src" / "rows"
 CASES = TOOLS / "chanrun_runs"
+STORED = TOOLS / "refused_requests" / "requests.txt"
 # How many requests of a long script are refused, from either end.
 ENDS = 50
 SECONDS = 60
@@ -57,7 +64,7 @@ class Sweep:
         self.allocator = folder / "refuse.so"
         self.programs = {name: built(name) for name in ("program_chanrun", "test_memory")}
         source = TOOLS / "refused_requests" / "refuse.c"
-        command = ["cc", "-O2", "-shared", "-fPIC", "-o", self.allocator, source, "-ldl"]
+        command = ["cc", "-O2", "-shared", "-fPIC", "-o", self.allocator, source]
         subprocess.run(command, check=True)
 
     def run(self, row, number=0, counted=None):
@@ -96,6 +103,10 @@ class Script:
 
     def is_as_wanted(self, output):
         return output == self.output
+
+    def made(self, counts):
+        """How many requests it makes."""
+        return counts[-1]
 
     def numbers(self, counts):
         """The requests that are refused in turn."""
@@ -140,6 +151,10 @@ class Calls:
         for line, before, behind in zip(self.lines, [counts[0], *counts], counts):
             mark, colon, rest = line.partition(": ")
             yield mark if colon else "", rest.rpartition(" => ")[0], before, behind
+
+    def made(self, counts):
+        """How many requests it makes, behind the line that begins the row."""
+        return counts[-1] - counts[0]
 
     def numbers(self, counts):
         """The requests that are refused in turn: those behind the line that begins the row."""
@@ -243,8 +258,23 @@ def own_rows():
         yield Calls(name, [name], row)
 
 
+def stored_requests():
+    """How many requests each row makes, as it is stored, by the row's name."""
+    lines = STORED.read_text("utf-8").splitlines() if STORED.is_file() else []
+    return {name: int(number) for number, _, name in (line.partition(" ") for line in lines)}
+
+
+def differences(stored, made):
+    """What is to say where the rows make other numbers of requests than are stored."""
+    names = {**stored, **made}
+    return [
+        f"{name}: {made.get(name, 'no')} requests, and {stored.get(name, 'none')} stored"
+        for name in names if stored.get(name) != made.get(name)
+    ]
+
+
 def sweep_row(sweep, pool, row):
-    """Refuses each request of the row. It answers how many, and what was wrong."""
+    """Refuses each request of the row. It answers how many, what came of them, and the faults."""
     counts = sweep.counts(row)
     numbers = row.numbers(counts)
     ran = pool.map(lambda number: sweep.run(row, number), numbers)
@@ -261,22 +291,33 @@ def sweep_row(sweep, pool, row):
     )
     for fault in faults:
         print(f"refused: {row.name}: {fault}")
-    return given, faults
+    return row.made(counts), given, faults
 
 
 def main():
+    is_written = sys.argv[1:] == ["--write"]
+    if sys.argv[1:] and not is_written:
+        raise SystemExit(__doc__)
     rows = [*own_rows(), *run_rows(), *script_rows(), *faulty_rows(), *long_rows()]
-    given, faults = [], []
+    made, given, faults = {}, [], []
     with tempfile.TemporaryDirectory() as folder, ThreadPoolExecutor(os.cpu_count()) as pool:
         sweep = Sweep(pathlib.Path(folder))
         for row in rows:
-            of_row, wrong = sweep_row(sweep, pool, row)
+            name = f"{row.program}: {row.name}"
+            faults += [f"two rows are {name}"] if name in made else []
+            made[name], of_row, wrong = sweep_row(sweep, pool, row)
             given += of_row
             faults += wrong
+    if is_written:
+        STORED.write_text("".join(f"{made[name]} {name}\n" for name in made), "utf-8")
+    wrong = differences(stored_requests(), made)
+    for line in wrong:
+        print(f"refused: {line}")
+    faults += wrong
     print(
         f"refused: {len(rows)} rows, {len(given)} requests refused in turn: "
         f"{given.count('refused')} refused, {given.count('unchanged')} unchanged, "
-        f"{given.count('different')} different; {len(faults)} faults"
+        f"{given.count('different')} different; {sum(made.values())} made; {len(faults)} faults"
     )
     return 0 if rows and not faults else 1
 

@@ -1,55 +1,82 @@
 // Laid in front of a built program: the request for memory with the number REFUSED is answered by
-// nothing, all others by the C library. Where COUNTED names a file, the number of requests that
-// the program has made is written there with each line of its standard output, and when it ends.
+// nothing, all others by the C library. Each call of it that gives memory is a request, from
+// whichever thread. Where COUNTED names a file, the number of requests that the program has made is
+// written there with each line of its standard output, and when it ends.
 #define _GNU_SOURCE
-#include <dlfcn.h>
+#include <errno.h>
 #include <fcntl.h>
+#include <stdatomic.h>
+#include <stdint.h>
 #include <stdio.h>
 #include <stdlib.h>
+#include <sys/syscall.h>
 #include <unistd.h>
 
-static long made = 0;
+// The C library's own calls under the names that nothing is laid in front of.
+void *__libc_malloc(size_t size);
+void *__libc_calloc(size_t count, size_t size);
+void *__libc_realloc(void *old, size_t size);
+void *__libc_memalign(size_t alignment, size_t size);
+
+static atomic_long made = 0;
 
 static int is_refused(void) {
-    static long number = -1;
+    static atomic_long number = -1;
     if (number < 0) {
         const char *text = getenv("REFUSED");
         number = text ? atol(text) : 0;
     }
-    made += 1;
-    return made == number;
+    int refused = atomic_fetch_add(&made, 1) + 1 == number;
+    if (refused) errno = ENOMEM;
+    return refused;
 }
 
-void *malloc(size_t size) {
-    static void *(*real)(size_t);
-    if (!real) real = (void *(*)(size_t))dlsym(RTLD_NEXT, "malloc");
-    return is_refused() ? NULL : real(size);
+void *malloc(size_t size) { return is_refused() ? NULL : __libc_malloc(size); }
+
+void *calloc(size_t count, size_t size) {
+    return is_refused() ? NULL : __libc_calloc(count, size);
 }
 
-void *realloc(void *old, size_t size) {
-    static void *(*real)(void *, size_t);
-    if (!real) real = (void *(*)(void *, size_t))dlsym(RTLD_NEXT, "realloc");
-    return is_refused() ? NULL : real(old, size);
+void *realloc(void *old, size_t size) { return is_refused() ? NULL : __libc_realloc(old, size); }
+
+void *reallocarray(void *old, size_t count, size_t size) {
+    size_t whole;
+    if (__builtin_mul_overflow(count, size, &whole)) whole = SIZE_MAX;
+    return realloc(old, whole);
 }
 
-static ssize_t write_through(int file, const void *bytes, size_t size) {
-    static ssize_t (*real)(int, const void *, size_t);
-    if (!real) real = (ssize_t (*)(int, const void *, size_t))dlsym(RTLD_NEXT, "write");
-    return real(file, bytes, size);
+void *memalign(size_t alignment, size_t size) {
+    return is_refused() ? NULL : __libc_memalign(alignment, size);
+}
+
+void *aligned_alloc(size_t alignment, size_t size) { return memalign(alignment, size); }
+
+int posix_memalign(void **place, size_t alignment, size_t size) {
+    if (alignment % sizeof(void *) != 0 || (alignment & (alignment - 1)) != 0) return EINVAL;
+    void *found = memalign(alignment, size);
+    if (found) *place = found;
+    return found ? 0 : ENOMEM;
+}
+
+void *valloc(size_t size) { return memalign((size_t)getpagesize(), size); }
+
+void *pvalloc(size_t size) {
+    size_t page = (size_t)getpagesize();
+    return valloc((size + page - 1) / page * page);
 }
 
 static void tell(void) {
     static int file = -2;
     const char *path = getenv("COUNTED");
     char text[32];
-    int size = snprintf(text, sizeof text, "%ld\n", made);
+    int size = snprintf(text, sizeof text, "%ld\n", atomic_load(&made));
     if (file == -2) file = path ? open(path, O_WRONLY | O_CREAT | O_TRUNC, 0600) : -1;
-    if (file >= 0) write_through(file, text, (size_t)size);
+    if (file >= 0) syscall(SYS_write, file, text, (size_t)size);
 }
 
 ssize_t write(int file, const void *bytes, size_t size) {
     if (file == STDOUT_FILENO && size > 0 && ((const char *)bytes)[size - 1] == '\n') tell();
-    return write_through(file, bytes, size);
+    return syscall(SYS_write, file, bytes, size);
 }
 
 __attribute__((destructor)) static void tell_at_the_end(void) { tell(); }

@@ -1,8 +1,9 @@
 //! Uses every public item of `async-channel` and prints what each answers.
 //!
-//! `original.txt` is what it printed over async-channel 2.5.0. Over any drop-in it prints the same,
-//! but for the last section: lines that begin with `by rule` tell what this project's rules decide
-//! otherwise than the original does, and `by_rule.txt` has those lines.
+//! `original.txt` is what it printed over async-channel 2.5.0, as the repository's
+//! `tools/rust_compare_original` writes it. Over any drop-in it prints the same, but for the last
+//! section: lines that begin with `by rule` tell what this project's rules decide otherwise than
+//! the original does, and `by_rule.txt` has those lines, by hand.
 
 mod calls;
 mod operations;
