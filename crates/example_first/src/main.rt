@@ -1,13 +1,12 @@
-//! A thread sends, and a task receives.
+//! A thread sends, and the main one receives.
 #![tactic(auto)]
 
 use anyhow::Result;
 use async_channel::{Sender, StampMaker, bounded};
-use futures::executor::block_on;
 use std::sync::Wait;
 use std::thread;
 
-/// Sends three numbers, and waits where the channel is full. It answers whether all went in.
+/// Sends three numbers, and waits while the channel is full. It answers whether all went in.
 fn send_three<R: Wait + Clone + Drop>(s: &Sender<u32, R>) -> bool {
     (1..=3).all(|number| matches!(s.send_blocking(number), Ok(Ok(()))))
 }
@@ -19,13 +18,10 @@ fn main(rt: HostRuntime) -> Result<()> {
     let sending = thread::spawn(&rt, move || send_three(&s))?;
 
     for _ in rt.forever() {
-        match block_on(&rt, r.recv())?? {
-            Ok(number) => println!(rt; "received {number}")?,
-            Err(closed) => {
-                println!(rt; "{closed}")?;
-                break;
-            }
-        }
+        let Ok(number) = r.recv_blocking()? else {
+            break;
+        };
+        println!(rt; "received {number}")?;
     }
     println!(rt; "all sent: {}", sending.join(&rt))?;
     Ok(())
