@@ -1,4 +1,4 @@
-"""Inputs of chanexplore with their whole reports, as docs/LOOKING.md says them.
+"""Inputs of chanexplore with their whole reports, as docs/TOOLS.md says them.
 
 Each stands as the arguments, the lines of the input, the head of the report, and its outcomes, each
 as its first line, the last reply to each line, and the script behind it.

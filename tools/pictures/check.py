@@ -2,7 +2,7 @@
 """Runs the built chandraw on the repository's scripts, on random ones and on hostile input.
 
 The pictures of docs/pictures are drawn anew from examples/NAME.chan and compared, and so is the
-terminal's form in docs/LOOKING.md. Each picture has to be XML that Python's parser accepts, with a
+terminal's form in docs/TOOLS.md. Each picture has to be XML that Python's parser accepts, with a
 row of less than 1 KB for each line that the built chanrun prints of the same script, and that line
 in it, and room for all of them; statuses and messages have to be chanrun's. The replies to `len`
 and `notice` have to agree with the messages and the waiting lists beside them. The rows of
@@ -185,8 +185,8 @@ def documented(programs):
     given = (TOP / "examples" / "forced.chan").read_bytes()
     lines = run(programs["chandraw"], given, ["--text"]).stdout.decode().split("\n")
     shown = "\n".join(f"    {line}".rstrip() for line in lines[:-1])
-    said = (TOP / "docs" / "LOOKING.md").read_text("utf-8")
-    return [] if shown in said else ["it isn't what docs/LOOKING.md shows"]
+    said = (TOP / "docs" / "TOOLS.md").read_text("utf-8")
+    return [] if shown in said else ["it isn't what docs/TOOLS.md shows"]
 
 
 def scripts():

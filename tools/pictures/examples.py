@@ -1,4 +1,4 @@
-"""Scripts with what each row of their pictures shows, as docs/RULES.md and docs/LOOKING.md have it.
+"""Scripts with what each row of their pictures shows, as docs/GUIDE.md and docs/TOOLS.md have it.
 
 A row is its line and reply, and then, between slashes: the lanes, the messages held, and who waits
 in sends, receives, streams and closed operations.

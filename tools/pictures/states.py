@@ -1,4 +1,4 @@
-"""What a channel holds and who waits after each line of a script, by the rules in docs/RULES.md.
+"""What a channel holds and who waits after each line of a script, by the rules in docs/GUIDE.md.
 
 The lines are done on the channel of tools/explorations/every_order.py, without the proved crates.
 """

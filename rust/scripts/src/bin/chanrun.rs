@@ -1,7 +1,7 @@
 //! Runs a script of steps on a channel, from standard input, and prints the replies.
 //!
 //! It is the script program over the erased run, by hand: what it prints is compared byte for byte
-//! with what the proved program prints. `docs/SCRIPTS.md` of the repository has the lines and
+//! with what the proved program prints. `docs/TOOLS.md` of the repository has the lines and
 //! replies.
 //!
 //! ```text
