@@ -1,5 +1,5 @@
 -- Elements of lists, and what an option of one is.
-use Rattle.std.proofs.Common.{◌≡◌, ℕ, ◌+◌, ◌<◌, ◌≤◌, Bool, true, false, List, [], ◌∷◌, ◌++◌, length, get_or, map, take, Option, Some, None, arith, refl, ap, sym, ◌∙◌, subst, nat_lt, Vec, Bor}
+use Rattle.std.proofs.Common.{◌≡◌, ℕ, ◌+◌, ◌<◌, ◌≤◌, Bool, false, List, [], ◌∷◌, ◌++◌, length, get_or, map, take, Option, Some, None, arith, refl, ap, sym, ◌∙◌, subst, nat_lt, Vec, Bor}
 use Rattle.std.specs.Prelude.{slice_get, is_some, IfSome, IsSome, IsTrue, ◌↔◌}
 use Rattle.std.specs.Option.{option_copied, option_map}
 use Rattle.std.specs.declared.alloc.Global.{Global}

@@ -206,13 +206,14 @@ fn compare<T: Copy + Exact>(
     ensures history { IfOk result (λ book. book.history ≡ journal.history) }
     ensures book { IfOk result (IsBookOf kind clerks.now) }
 {
-    if journal.clerks() != clerks.len() {
+    let (count, journals_kind) = (journal.clerks(), journal.kind());
+    let history = journal.into_history();
+    if count != clerks.len() {
         return Err(FinishError::Missing);
     }
-    if !same_kind(journal.kind(), kind) {
+    if !same_kind(journals_kind, kind) {
         return Err(FinishError::Mismatch);
     }
-    let history = journal.into_history();
     match shares(alloc, history.as_slice(), clerks) {
         Ok(Some(places)) => Ok(Book {
             kind,

@@ -1,4 +1,4 @@
-use Rattle.std.proofs.Common.{map, ap, ◌∙◌, refl, length, ◌≤◌, arith, subst, sym, List, ℕ, Bool}
+use Rattle.std.proofs.Common.{map, ap, ◌∙◌, refl, length, ◌≤◌, arith, subst, sym, List, ℕ}
 use Rattle.std.proofs.lemmas.List.{take_all}
 use Rattle.channel_record.specs.Claims.{AddsClaims, IsFree}
 use Rattle.channel_record.specs.Shares.{IsAt, place_of}

@@ -1,4 +1,4 @@
-use Rattle.std.proofs.Common.{sym, refl, subst, List, ◌∙◌, ◌≡◌}
+use Rattle.std.proofs.Common.{sym, refl, subst, List, ◌∙◌}
 use Rattle.channel_model.specs.declared.step.Kind.{Kind}
 use Rattle.channel_record.specs.declared.calls.Call.{Call}
 use Rattle.channel_record.specs.declared.calls.Outcome.{Outcome}
@@ -10,7 +10,7 @@ pub returns-in-Ok-Some-clause-matches : goal.returns-in-Ok-Some-clause-matches
 returns-in-Ok-Some-clause-matches g c =
     let exact = rw c.in-Ok-Some.field-0-is at c.in-Ok-Some.ensures.exact in
     record {
-      is_asked = sym c.kind.ensures ∙ c.if-not-same_kind.ensures.0 refl;
+      is_asked = sym c.kind-journals_kind.ensures ∙ c.if-not-same_kind.ensures.0 refl;
       written =
           subst (λ (history : List (Call g.row.T.Denot × Outcome g.row.T.Denot)). IsWrittenDown history
           c.args.clerks.now) (c.as_slice.ensures.value ∙ c.into_history-history.ensures.history) (exact.0 refl);
@@ -18,7 +18,7 @@ returns-in-Ok-Some-clause-matches g c =
 
 pub returns-in-Ok-Some-clause-book : goal.returns-in-Ok-Some-clause-book
 returns-in-Ok-Some-clause-book g c =
-    let kinds = sym c.kind.ensures ∙ c.if-not-same_kind.ensures.0 refl in
+    let kinds = sym c.kind-journals_kind.ensures ∙ c.if-not-same_kind.ensures.0 refl in
     let exact = rw c.in-Ok-Some.field-0-is at c.in-Ok-Some.ensures.exact in
     let places = rw c.in-Ok-Some.field-0-is at c.in-Ok-Some.ensures.places in
     record {
@@ -37,4 +37,9 @@ returns-in-Ok-None-clause-mismatch g c same matches =
     let found = exact.1 (subst (λ (history : List (Call g.row.T.Denot × Outcome g.row.T.Denot)). IsWrittenDown
     history c.args.clerks.now) (sym (c.as_slice.ensures.value ∙ c.into_history-history.ensures.history))
     matches.written) in
+    cc
+
+pub returns-then-not-same_kind-clause-mismatch : goal.returns-then-not-same_kind-clause-mismatch
+returns-then-not-same_kind-clause-mismatch g c same matches =
+    let equal = c.if-not-same_kind.ensures.1 (c.kind-journals_kind.ensures ∙ matches.is_asked) in
     cc
