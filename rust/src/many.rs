@@ -59,8 +59,9 @@ impl<T> Sender<T> {
     /// Sends all messages, in order, and waits while the channel is full.
     ///
     /// They are taken out of `messages` at once. They go in as there is room, at most
-    /// [`ROUND_LIMIT`] together, and others may come in between. [`SendMany`] says what becomes of
-    /// them if it is given up.
+    /// [`ROUND_LIMIT`] together, and others may come in between. If there are none it is ready at
+    /// once, also if the channel is closed. [`SendMany`] says what becomes of them if it is given
+    /// up.
     ///
     /// # Errors
     ///
@@ -93,7 +94,8 @@ impl<T> Sender<T> {
     /// Sends all messages, in order, and blocks the thread while the channel is full.
     ///
     /// They are taken out of `messages` at once. They go in as there is room, at most
-    /// [`ROUND_LIMIT`] together, and others may come in between.
+    /// [`ROUND_LIMIT`] together, and others may come in between. If there are none it answers at
+    /// once, also if the channel is closed.
     ///
     /// A task that blocks its thread may keep the very task from running that would make room.
     ///

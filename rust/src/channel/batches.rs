@@ -26,8 +26,8 @@ impl<T> Channel<T> {
         Ok(first + self.recv_more(into, limit - first))
     }
 
-    /// Polls a receive of up to `limit` messages. It is ready with none where none will come, or
-    /// the limit is none.
+    /// Polls a receive of up to `limit` messages. It is ready with none if none will come, or
+    /// if the limit is none.
     pub(crate) fn poll_recv_many(
         &self,
         into: &mut Vec<T>,
