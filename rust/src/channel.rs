@@ -12,6 +12,8 @@
 //! is one sender as long as there is any, and one receiver likewise. The core is told when the last
 //! one goes, and decides what that means. It is asked for each upgrade, too.
 
+mod batches;
+
 use crate::lock::Lock;
 use crate::marks::{Mark, Marks, Told};
 use crate::primitives::{abort, turns, yield_now, AtomicUsize};

@@ -344,4 +344,10 @@ pub(crate) fn abort() -> ! {
     panic!("the program ends");
 }
 
+/// The bodies of the threads of a run.
+macro_rules! threads {
+    ($($body:expr),+) => { vec![$(Box::new($body) as Body),+] };
+}
+
+mod batches;
 mod tests;

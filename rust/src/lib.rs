@@ -5,10 +5,12 @@
 //! Once all senders or all receivers are gone, or one of them says [`close`](Sender::close), it is
 //! closed: nothing more goes in, and what is left comes out.
 //!
-//! The names and answers are those of the crate `async-channel` 2.5. The state of a channel, which
-//! decides the answers and who is woken, is proved source with its contracts taken out. What stands
-//! round it in this crate is written by hand and tested: the lock, the handles and their numbers, the
-//! futures and the blocking calls.
+//! The names and answers are those of the crate `async-channel` 2.5. New are the calls for many
+//! messages: [`Sender::send_many`] and [`Receiver::recv_many`], their kinds that block or don't
+//! wait, and [`Receiver::try_iter`]. The state of a channel, which decides the answers and who is
+//! woken, is proved source with its contracts taken out. What stands round it in this crate is
+//! written by hand and tested: the lock, the handles and their numbers, the futures and the
+//! blocking calls.
 //!
 //! ```
 //! # futures_lite::future::block_on(async {
@@ -49,6 +51,7 @@ mod errors;
 #[cfg(test)]
 mod explorer;
 mod lock;
+mod many;
 mod marks;
 mod operations;
 mod primitives;
@@ -63,6 +66,7 @@ mod sender;
 #[allow(dead_code, missing_docs, missing_debug_implementations)]
 mod shim;
 
+pub use many::{RecvMany, SendMany, TryIter, ROUND_LIMIT};
 pub use operations::{Closed, Recv, Send};
 pub use receiver::{Receiver, WeakReceiver};
 pub use sender::{Sender, WeakSender};

@@ -13,7 +13,7 @@ use std::sync::Arc;
 use std::task::{Context, Poll};
 
 /// The place of an operation in a waiting list. It is given up where it is dropped.
-struct Wait<T> {
+pub(crate) struct Wait<T> {
     /// Whose list it is.
     group: Group,
     /// The place, while the operation waits.
@@ -24,13 +24,13 @@ struct Wait<T> {
 
 impl<T> Wait<T> {
     #[inline]
-    fn new(group: Group) -> Self {
+    pub(crate) fn new(group: Group) -> Self {
         Wait { group, ticket: None, channel: None }
     }
 
     /// Polls the operation on its channel.
     #[inline]
-    fn poll<A>(
+    pub(crate) fn poll<A>(
         &mut self,
         channel: &Arc<Channel<T>>,
         poll: impl FnOnce(&mut Option<Ticket>) -> Poll<A>,

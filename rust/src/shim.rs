@@ -75,6 +75,13 @@ impl<C: Default> Over<C> {
     pub fn new(alloc: Global) -> Self {
         Over(C::default(), alloc)
     }
+    /// Lets `work` have the caller's own collection. None of its values is moved for that.
+    pub fn lent<A>(collection: &mut C, work: impl FnOnce(&mut Self) -> A) -> A {
+        let mut over = Over(std::mem::take(collection), Global);
+        let answer = work(&mut over);
+        *collection = over.0;
+        answer
+    }
 }
 impl<K: Ord, V> BTreeMap<K, V> {
     pub fn insert(&mut self, key: K, value: V) -> Result<Option<V>, Refused<(K, V)>> {

@@ -8,8 +8,9 @@
 
 mod support;
 
-use std::collections::BTreeMap;
-use std::future::Future;
+use std::cell::Cell;
+use std::collections::{BTreeMap, VecDeque};
+use std::future::{poll_fn, Future};
 use std::pin::Pin;
 use std::rc::Rc;
 use std::task::{Context, Poll, Waker};
@@ -66,6 +67,8 @@ struct World {
     draw: Draw,
     log: Log,
     judge: Judge,
+    /// How many messages the last poll of an operation moved.
+    moved: Rc<Cell<usize>>,
     senders: Vec<Rc<Sender<u64>>>,
     receivers: Vec<Rc<Receiver<u64>>>,
     /// The operations that aren't finished, by name.
@@ -86,6 +89,7 @@ impl World {
             draw,
             log: Log::default(),
             judge: Judge::default(),
+            moved: Rc::default(),
             senders: vec![Rc::new(s)],
             receivers: vec![Rc::new(r)],
             operations: BTreeMap::new(),
@@ -106,10 +110,12 @@ impl World {
 
     /// One drawn call. None where a handle for it is missing.
     fn call(&mut self) -> Option<()> {
-        match self.draw.below(24) {
+        match self.draw.below(28) {
             0..=3 => self.try_send(),
             4 => self.force_send(),
             5..=8 => self.try_recv(),
+            24..=25 => self.try_send_many(),
+            26..=27 => self.try_recv_many(),
             9..=15 => self.start(),
             16..=18 => self.poll_any(),
             19..=20 => self.cancel(),
@@ -134,6 +140,23 @@ impl World {
     fn try_recv(&mut self) -> Option<()> {
         let taken = self.receiver()?.try_recv().is_ok();
         self.expect(if taken { Judge::taken } else { nobody });
+        Some(())
+    }
+
+    fn try_send_many(&mut self) -> Option<()> {
+        let mut from: VecDeque<u64> = (0..self.draw.below(5) as u64).collect();
+        let count = from.len();
+        let sent = self.sender()?.try_send_many(&mut from).unwrap_or(0);
+        assert_eq!(sent + from.len(), count);
+        self.expect(|judge| judge.accepted_many(sent));
+        Some(())
+    }
+
+    fn try_recv_many(&mut self) -> Option<()> {
+        let (mut into, limit) = (Vec::new(), self.draw.below(5));
+        let taken = self.receiver()?.try_recv_many(&mut into, limit).unwrap_or(0);
+        assert!(taken == into.len() && taken <= limit);
+        self.expect(|judge| judge.taken_many(taken));
         Some(())
     }
 
@@ -192,17 +215,42 @@ impl World {
 
     /// Starts an operation and polls it at once.
     fn start(&mut self) -> Option<()> {
-        let operation = match self.draw.below(8) {
+        let moved = self.moved.clone();
+        let operation = match self.draw.below(10) {
             0..=2 => {
                 let sender = self.sender()?;
                 Operation::Send(Box::pin(async move {
-                    sender.send(0).await.map_or(Came::Ended, |()| Came::Accepted)
+                    let sent = sender.send(0).await;
+                    moved.set(usize::from(sent.is_ok()));
+                    sent.map_or(Came::Ended, |()| Came::Accepted)
+                }))
+            }
+            8 => {
+                let (sender, count) = (self.sender()?, self.draw.below(5) as u64);
+                Operation::Send(Box::pin(async move {
+                    let mut send = sender.send_many(0..count);
+                    let sent = poll_fn(|context| {
+                        let before = send.sent();
+                        let polled = Pin::new(&mut send).poll(context);
+                        moved.set(send.sent() - before);
+                        polled
+                    });
+                    sent.await.map_or(Came::Ended, |()| Came::Accepted)
                 }))
             }
             3..=5 => {
                 let receiver = self.receiver()?;
                 Operation::Receive(Box::pin(async move {
-                    receiver.recv().await.map_or(Came::Ended, |_| Came::Taken)
+                    let taken = receiver.recv().await;
+                    moved.set(usize::from(taken.is_ok()));
+                    taken.map_or(Came::Ended, |_| Came::Taken)
+                }))
+            }
+            9 => {
+                let (receiver, limit) = (self.receiver()?, self.draw.below(5));
+                Operation::Receive(Box::pin(async move {
+                    moved.set(receiver.recv_many(&mut Vec::new(), limit).await);
+                    Came::Taken
                 }))
             }
             6 => {
@@ -241,16 +289,22 @@ impl World {
         let mut operation = self.operations.remove(&name).unwrap();
         let came = operation.poll(&mut Context::from_waker(&waker));
         let is_stream = matches!(operation, Operation::Stream(_));
+        let moved = match came {
+            Came::Taken if is_stream => 1,
+            _ => self.moved.take(),
+        };
         let list = list_of(&operation, &mut self.judge);
-        if came == Came::Waits {
-            list.wait(name);
-        } else {
+        // A send of many that sent some and waits for room has begun to wait anew.
+        if came != Came::Waits || moved > 0 {
             list.remove(name);
         }
-        self.expect(match came {
-            Came::Accepted => Judge::accepted,
-            Came::Taken => Judge::taken,
-            Came::Ended | Came::Waits => nobody,
+        if came == Came::Waits {
+            list.wait(name);
+        }
+        self.expect(|judge| match came {
+            Came::Accepted | Came::Waits => judge.accepted_many(moved),
+            Came::Taken => judge.taken_many(moved),
+            Came::Ended => Vec::new(),
         });
         if came == Came::Waits || is_stream {
             self.operations.insert(name, operation);

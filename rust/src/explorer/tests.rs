@@ -12,19 +12,14 @@ use std::sync::atomic::{AtomicUsize, Ordering};
 use std::sync::Arc;
 use std::task::{Context, Poll, Wake, Waker};
 
-/// The bodies of the threads of a run.
-macro_rules! threads {
-    ($($body:expr),+) => { vec![$(Box::new($body) as Body),+] };
-}
-
 /// Nothing is looked at after the run.
-fn nothing() -> Body {
+pub(super) fn nothing() -> Body {
     Box::new(|| {})
 }
 
 /// Each of two threads with two preemptions, and of three threads with one.
-const TWO: usize = 2;
-const THREE: usize = 1;
+pub(super) const TWO: usize = 2;
+pub(super) const THREE: usize = 1;
 
 fn receive_all(r: &Receiver<u64>, count: u64) {
     assert!((0..count).all(|message| r.recv_blocking() == Ok(message)));
@@ -278,12 +273,12 @@ impl Drop for Checked {
     }
 }
 
-fn checked() -> Waker {
+pub(super) fn checked() -> Waker {
     Waker::from(Arc::new(Checked))
 }
 
 /// Polls a future that has to wait.
-fn poll<F: Future + ?Sized>(future: &mut Pin<Box<F>>, waker: &Waker) {
+pub(super) fn poll<F: Future + ?Sized>(future: &mut Pin<Box<F>>, waker: &Waker) {
     assert!(future.as_mut().poll(&mut Context::from_waker(waker)).is_pending());
 }
 

@@ -1,6 +1,6 @@
 //! What the proofs rely on, each rule once.
 
-use super::{BTreeMap, Blank, Brand, Global, HeapCircularBuffer, Slab, Vec, VecDeque, KEPT};
+use super::{BTreeMap, Blank, Brand, Global, HeapCircularBuffer, Over, Slab, Vec, VecDeque, KEPT};
 use std::mem::size_of;
 
 /// The source never asks for more than it may, and never looks up a key that it wasn't given.
@@ -150,6 +150,18 @@ fn a_list_keeps_the_order() {
     assert!(list.contains(&2));
     list.retain(|value| *value != 1);
     assert!(list.into_iter().eq([2]));
+}
+
+#[test]
+fn a_list_that_was_lent_is_the_callers_own() {
+    let mut list = std::vec::Vec::with_capacity(3);
+    list.push(1);
+    let place = list.as_ptr();
+    assert!(Over::lent(&mut list, |list: &mut Vec<_>| list.push(2).is_ok()));
+    assert_eq!((&list[..], list.as_ptr()), (&[1, 2][..], place));
+    let mut queue = std::collections::VecDeque::from([1, 2]);
+    let first = Over::lent(&mut queue, |queue: &mut VecDeque<_, Global>| queue.pop_front());
+    assert_eq!((first, queue), (Some(1), [2].into()));
 }
 
 #[test]

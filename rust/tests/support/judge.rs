@@ -59,6 +59,16 @@ impl Judge {
         self.sends.tell_one()
     }
 
+    /// So many messages were accepted, one after the other.
+    pub fn accepted_many(&mut self, count: usize) -> Vec<usize> {
+        (0..count).flat_map(|_| self.accepted()).collect()
+    }
+
+    /// So many messages were taken, one after the other.
+    pub fn taken_many(&mut self, count: usize) -> Vec<usize> {
+        (0..count).flat_map(|_| self.taken()).collect()
+    }
+
     pub fn closed(&mut self) -> Vec<usize> {
         let (sends, receives) = (self.sends.tell_all(), self.receives.tell_all());
         [sends, receives, self.streams.tell_all()].concat()

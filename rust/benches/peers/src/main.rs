@@ -7,6 +7,7 @@
 //! the least times, which other work on the machine disturbs less. Works of many threads count on a
 //! quiet machine.
 
+mod batches;
 mod peers;
 mod threads;
 mod works;
@@ -94,7 +95,8 @@ fn main() {
     if rounds.is_some() {
         words.remove(0);
     }
-    let mut works = [works::all(), threads::all()].into_iter().flatten().collect::<Vec<_>>();
+    let works = [works::all(), threads::all(), batches::all()];
+    let mut works = works.into_iter().flatten().collect::<Vec<_>>();
     if !words.is_empty() {
         works.retain(|work| words.iter().any(|word| work.name.contains(word.as_str())));
     }

@@ -1,6 +1,7 @@
 //! Every channel behind one trait for each kind of call.
 
 use std::future::Future;
+use std::ops::Range;
 
 pub trait Peer: 'static {
     const NAME: &'static str;
@@ -30,6 +31,62 @@ pub trait Closes: Peer {
 pub trait Async: Peer {
     fn send_async(tx: &Self::Tx, message: u64) -> impl Future<Output = ()> + Send;
     fn recv_async(rx: &mut Self::Rx) -> impl Future<Output = Option<u64>> + Send;
+}
+
+/// Messages go in and out by the peer's calls for many, or else one by one. Tokio's `recv_many` came
+/// after the version that Debian 12 has.
+pub trait Batches: Many {
+    fn send_batch(tx: &Self::Tx, messages: Range<u64>) {
+        messages.for_each(|message| Self::send(tx, message));
+    }
+    /// Waits for a message and takes what else there is, `limit` in all. It answers how many came,
+    /// none where none will come.
+    fn recv_batch(rx: &mut Self::Rx, into: &mut Vec<u64>, limit: usize) -> usize;
+}
+
+impl Batches for Here {
+    fn send_batch(tx: &Self::Tx, messages: Range<u64>) {
+        tx.send_many_blocking(messages).unwrap();
+    }
+    fn recv_batch(rx: &mut Self::Rx, into: &mut Vec<u64>, limit: usize) -> usize {
+        rx.recv_many_blocking(into, limit)
+    }
+}
+
+/// A first message, and those behind it.
+fn taken(
+    first: Option<u64>,
+    others: impl Iterator<Item = u64>,
+    into: &mut Vec<u64>,
+    limit: usize,
+) -> usize {
+    let before = into.len();
+    if let Some(first) = first {
+        into.push(first);
+        into.extend(others.take(limit - 1));
+    }
+    into.len() - before
+}
+
+impl Batches for AsyncChannel {
+    fn recv_batch(rx: &mut Self::Rx, into: &mut Vec<u64>, limit: usize) -> usize {
+        let others = std::iter::from_fn(|| rx.try_recv().ok());
+        taken(rx.recv_blocking().ok(), others, into, limit)
+    }
+}
+
+impl Batches for Crossbeam {
+    fn recv_batch(rx: &mut Self::Rx, into: &mut Vec<u64>, limit: usize) -> usize {
+        taken(rx.recv().ok(), rx.try_iter(), into, limit)
+    }
+}
+
+impl Batches for Flume {
+    /// Its `drain` takes all that there is, whatever the limit.
+    fn recv_batch(rx: &mut Self::Rx, into: &mut Vec<u64>, _limit: usize) -> usize {
+        let first = rx.recv().ok();
+        taken(first, rx.drain(), into, usize::MAX)
+    }
 }
 
 macro_rules! async_channel_peer {

@@ -9,7 +9,7 @@ use crate::works::{each, work};
 use crate::Work;
 
 /// Threads, or tasks, on a side.
-const SIDE: u64 = 4;
+pub const SIDE: u64 = 4;
 
 pub fn all() -> Vec<Work> {
     vec![
@@ -33,10 +33,10 @@ pub fn all() -> Vec<Work> {
 }
 
 /// When a thread began, and when it was done.
-type Span = (Instant, Instant);
+pub type Span = (Instant, Instant);
 
 /// Runs `work` once all threads are ready.
-fn timed(ready: &Barrier, work: impl FnOnce()) -> Span {
+pub fn timed(ready: &Barrier, work: impl FnOnce()) -> Span {
     ready.wait();
     let start = Instant::now();
     work();
@@ -44,7 +44,7 @@ fn timed(ready: &Barrier, work: impl FnOnce()) -> Span {
 }
 
 /// Nanoseconds for each of `count`, from the first thread's start to the last one's end.
-fn over_all(spans: &[Span], count: u64) -> f64 {
+pub fn over_all(spans: &[Span], count: u64) -> f64 {
     let start = spans.iter().map(|span| span.0).min().unwrap();
     let end = spans.iter().map(|span| span.1).max().unwrap();
     (end - start).as_nanos() as f64 / count as f64

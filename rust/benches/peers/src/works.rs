@@ -14,7 +14,7 @@ use crate::Work;
 
 /// A work and its run on each of the peers named.
 macro_rules! work {
-    ($name:literal, $goal:expr, $run:ident $arguments:tt: $($peer:ident)+) => {
+    ($name:expr, $goal:expr, $run:ident $arguments:tt: $($peer:ident)+) => {
         Work {
             name: $name,
             goal: $goal,
