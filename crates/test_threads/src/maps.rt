@@ -1,7 +1,7 @@
 //! Maps by several threads.
 use crate::square::Square;
 use async_channel::StampMaker;
-use parallel_map::{Gate, MapError, Open, map_all};
+use parallel_map::{Gate, Job, MapError, Open, map_all};
 use std::sync::atomic::{AtomicBool, AtomicU64, Ordering};
 use std::test::Fail;
 use std::thread;
@@ -142,6 +142,59 @@ fn each_input_is_worked_on_once(rt: HostRuntime) -> Result<(), Fail> {
     for place in 0..4usize {
         assert_eq!(rt; calls.before[place].load(Ordering::SeqCst), 1);
         assert_eq!(rt; calls.after[place].load(Ordering::SeqCst), 1);
+    }
+    Ok(())
+}
+
+/// How far each of four places is: the gate before the job was called, the job, the gate after it.
+/// A call that comes at another time leaves 9 there.
+#[derive(Drop)]
+struct Stages([AtomicU64; 4]);
+
+impl Stages {
+    fn go_on(&self, place: usize, from: u64) {
+        if place < 4 {
+            let is_next = self.0[place].load(Ordering::SeqCst) == from;
+            let stage = if is_next { from.wrapping_add(1) } else { 9 };
+            self.0[place].store(stage, Ordering::SeqCst);
+        }
+    }
+}
+
+impl Gate for Stages {
+    fn before(&self, place: usize) {
+        self.go_on(place, 0);
+    }
+
+    fn after(&self, place: usize) {
+        self.go_on(place, 2);
+    }
+}
+
+/// The job answers its input, which is its place.
+impl Job<u64, u64> for Stages {
+    ghost answer = { λ place. place };
+
+    fn run(&self, place: &u64) -> u64 {
+        self.go_on(*place as usize, 1);
+        *place
+    }
+}
+
+#[test]
+fn the_gate_is_around_each_job(rt: HostRuntime) -> Result<(), Fail> {
+    let stages = Stages([
+        AtomicU64::new(0),
+        AtomicU64::new(0),
+        AtomicU64::new(0),
+        AtomicU64::new(0),
+    ]);
+    let mut maker = StampMaker::new();
+    let places = [0u64, 1, 2, 3];
+    let answers = map_all(&rt, rt.alloc(), &stages, &stages, &places, 2, 1, &mut maker)?;
+    assert_eq!(rt; answers.as_slice(), places.as_slice());
+    for place in 0..4usize {
+        assert_eq!(rt; stages.0[place].load(Ordering::SeqCst), 3);
     }
     Ok(())
 }

@@ -1,7 +1,7 @@
 //! Whom each call tells where threads are blocked: the longest waiting one ends with its answer,
 //! and the other one waits on.
 use crate::scene::{Answer, Call, Ends};
-use crate::waiting::{are_waiting, channel, waiting};
+use crate::waiting::{are_waiting, channel, one_is_untold, waiting};
 use Answer::*;
 use Call::*;
 use async_channel::{
@@ -243,5 +243,52 @@ fn a_blocked_send_is_told_before_a_task(rt: HostRuntime) -> Result<(), Fail> {
     assert!(rt; task.is_woken());
     assert_eq!(rt; send.into_msg(), Some(3));
     assert_eq!(rt; waiting(&weak), [0; 4]);
+    Ok(())
+}
+
+/// How often a blocked thread is told, and finds nothing.
+const ROUNDS: u32 = 100;
+
+/// Receives until the message 9 comes.
+fn receives_nine<R: Wait + Clone + Drop>(rt: &R, r: &Receiver<u64, R>) -> bool {
+    for _ in rt.forever() {
+        match r.recv_blocking() {
+            Ok(Ok(9)) => return true,
+            Ok(Ok(_)) => {}
+            _ => return false,
+        }
+    }
+    false
+}
+
+#[test]
+fn a_receive_told_in_vain_is_told_again(rt: HostRuntime) -> Result<(), Fail> {
+    let (s, r) = channel(&rt, rt.alloc(), None)?;
+    let (weak, other) = (s.downgrade()?, r.try_clone()?);
+    let thread = thread::spawn(&rt, move || receives_nine(&rt, &other))?;
+    for _ in 0..ROUNDS {
+        assert!(rt; one_is_untold(&weak, Group::Receives));
+        assert_eq!(rt; s.try_send(1u64), Ok(Ok(())));
+        // mostly before the thread wakes
+        drop(r.try_recv());
+    }
+    assert_eq!(rt; s.try_send(9), Ok(Ok(())));
+    assert!(rt; thread.join(&rt));
+    assert_eq!(rt; waiting(&weak), [0; 4]);
+    Ok(())
+}
+
+#[test]
+fn a_blocked_batch_waits_for_a_message(rt: HostRuntime) -> Result<(), Fail> {
+    let (s, r) = channel(&rt, rt.alloc(), None)?;
+    let (weak, alloc) = (s.downgrade()?, rt.alloc());
+    let thread = thread::spawn(&rt, move || {
+        let mut into = Vec::new(alloc);
+        let answer = r.recv_many_blocking(&mut into, 5);
+        answer == Ok(Ok(1)) && into.as_slice() == [7u64].as_slice()
+    })?;
+    assert!(rt; are_waiting(&weak, Group::Receives, 1));
+    assert_eq!(rt; s.try_send(7), Ok(Ok(())));
+    assert!(rt; thread.join(&rt));
     Ok(())
 }

@@ -56,3 +56,17 @@ pub fn are_waiting<T: Drop, R: Wait + Clone + Drop>(
     }
     false
 }
+
+/// Takes turns until one waits in the group and isn't told.
+pub fn one_is_untold<T: Drop, R: Wait + Clone + Drop>(
+    weak: &WeakSender<T, R>,
+    group: Group,
+) -> bool {
+    for _ in 0..TURNS {
+        if numbers(weak, group) == (1, 0) {
+            return true;
+        }
+        thread::yield_now();
+    }
+    false
+}
