@@ -159,9 +159,7 @@ fn blocking_calls_that_can_go_on_answer_at_once() {
 fn an_iterator_takes_one_message_at_a_time() {
     let (s, r) = unbounded();
     s.try_send_many(&mut numbers(3)).unwrap();
-    let mut messages = r.try_iter();
-    assert_eq!((messages.next(), r.len()), (Some(0), 2));
-    drop(messages);
+    assert_eq!((r.try_iter().next(), r.len()), (Some(0), 2));
     let mut messages = r.try_iter();
     assert_eq!((r.try_recv(), messages.next(), messages.next()), (Ok(1), Some(2), None));
     s.try_send(3).unwrap();
