@@ -1,27 +1,13 @@
-//! What memory a channel takes, and what of it goes back.
-//!
-//! `held` prints a line at each moment at which the bytes that the program holds are counted, by an
-//! allocator that is laid in front of it.
+//! What a place of a bounded channel takes.
 use crate::report::channel;
 use anyhow::Result;
-use async_channel::{Receiver, Recv, Sender};
-use futures::Future;
-use futures::executor::block_on;
-use futures::task::{Context, Poll};
-use std::alloc::{AllocGlobal, Global};
+use std::alloc::AllocGlobal;
 use std::fs;
-use std::random::RandomSource;
 use std::rt::Files;
 use std::sync::Wait;
 
 /// How many places the channel has that is looked at.
 const PLACES: u64 = 10_000_000;
-
-/// How many messages go in and out.
-const MESSAGES: u64 = 10_000_000;
-
-/// How many receives wait and are given up.
-const RECEIVES: u64 = 1_000_000;
 
 const PAGE: u64 = 4096;
 
@@ -39,53 +25,5 @@ pub fn report<R: Files + Wait + Clone + Drop + AllocGlobal + Print>(rt: &R) -> R
     let taken = pages(rt)?.saturating_sub(before).saturating_mul(PAGE);
     drop(ends);
     println!(rt; "| bytes of a bounded({PLACES}) | {taken} |")?;
-    Ok(())
-}
-
-/// Receives that begin to wait, all at once, and are given up.
-#[derive(Drop)]
-struct GivenUp<'a, R: Wait + Clone + Drop> {
-    receiver: &'a Receiver<u64, R>,
-    alloc: Global,
-}
-
-impl<'a, R: Wait + Clone + Drop> Future for GivenUp<'a, R> {
-    type Output = bool;
-
-    fn poll(&mut self, cx: &mut Context<'_>) -> Poll<bool> {
-        let receiver = self.receiver;
-        let mut waiting: Vec<Recv<'a, u64, R>> = Vec::new(self.alloc);
-        let mut all = true;
-        for _ in 0..RECEIVES {
-            let mut recv = receiver.recv();
-            all = matches!(recv.poll(cx), Poll::Pending) && all;
-            all = waiting.push(recv).is_ok() && all;
-        }
-        Poll::Ready(all)
-    }
-}
-
-/// Sends messages, and receives them.
-fn fill_and_drain<R: Wait + Clone + Drop>(s: &Sender<u64, R>, r: &Receiver<u64, R>) -> bool {
-    let sent = (0..MESSAGES).all(|message| matches!(s.try_send(message), Ok(Ok(()))));
-    sent && (0..MESSAGES).all(|_| r.try_recv().is_ok())
-}
-
-/// Prints a line at each moment that counts.
-pub fn held<R: Wait + Clone + Drop + AllocGlobal + RandomSource + Print>(rt: &R) -> Result<()> {
-    println!(rt; "nothing")?;
-    let ends = channel(rt, Some(1))?;
-    println!(rt; "idle, bounded(1)")?;
-    drop(ends);
-    let (s, r) = channel(rt, None)?;
-    println!(rt; "idle, unbounded")?;
-    anyhow::ensure!(fill_and_drain(&s, &r), "a message was lost");
-    println!(rt; "unbounded, ten million messages in and out")?;
-    let receives = GivenUp {
-        receiver: &r,
-        alloc: rt.alloc(),
-    };
-    anyhow::ensure!(block_on(rt, receives)?, "a receive didn't wait");
-    println!(rt; "a million receives that waited and were given up")?;
     Ok(())
 }
