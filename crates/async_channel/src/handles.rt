@@ -134,7 +134,7 @@ pub fn bounded<T: Drop, R: Wait + Clone + Drop>(
         return Err(MakeError::NoStamps);
     }
     match Core::bounded(alloc, cap) {
-        Ok(core) => ends(rt, alloc, core, Some(cap), maker),
+        Ok(core) => ends(rt, alloc, core, maker),
         Err(OutOfMemory) => Err(MakeError::OutOfMemory),
     }
 }
@@ -169,23 +169,24 @@ pub fn unbounded<T: Drop, R: Wait + Clone + Drop>(
     if maker.is_spent() {
         return Err(MakeError::NoStamps);
     }
-    ends(rt, alloc, Core::unbounded(alloc), None, maker)
+    ends(rt, alloc, Core::unbounded(alloc), maker)
 }
 
-// Both sides of a channel. The stamp is drawn after everything that may be refused.
+// Both sides of a channel, whose tag has what the core says of its capacity. The stamp is drawn
+// after everything that may be refused.
 fn ends<T: Drop, R: Wait + Clone + Drop>(
     rt: &R,
     alloc: Global,
     core: Core<T, Mark>,
-    capacity: Option<usize>,
     maker: &mut StampMaker,
 ) -> Result<(Sender<T, R>, Receiver<T, R>), MakeError>
     requires { IsSome maker.old }
     ensures spent { result ≢ Err MakeError.NoStamps }
     ensures unchanged { OnErr result (maker.new ≡ maker.old) }
-    ensures tags { IfOk result (λ ends. AreEndsOf ends.0 ends.1 maker.old capacity) }
+    ensures tags { IfOk result (λ ends. AreEndsOf ends.0 ends.1 maker.old core.capacity) }
     ensures rises { IfOk result (λ _. maker.new ≡ next_stamp maker.old) }
 {
+    let capacity = core.capacity();
     let Ok((sending, receiving)) = links(rt, alloc, core) else {
         return Err(MakeError::OutOfMemory);
     };

@@ -12,7 +12,9 @@ fn send_three<R: Wait + Clone + Drop>(s: &Sender<u32, R>) -> bool {
 }
 
 fn main(rt: HostRuntime) -> Result<()> {
-    let (s, r) = bounded(&rt, rt.alloc(), 1, &mut StampMaker::new())?;
+    // It numbers the channels. A program keeps one for all of them.
+    let mut maker = StampMaker::new();
+    let (s, r) = bounded(&rt, rt.alloc(), 1, &mut maker)?;
 
     // The sender is dropped when its thread ends, and the channel is closed then.
     let sending = thread::spawn(&rt, move || send_three(&s))?;

@@ -44,7 +44,8 @@ fn report<R: Wait + Clone + Drop + Print>(
 }
 
 fn main(rt: HostRuntime) -> Result<()> {
-    let (sender, mailbox) = bounded(&rt, rt.alloc(), KEPT, &mut StampMaker::new())?;
+    let mut maker = StampMaker::new();
+    let (sender, mailbox) = bounded(&rt, rt.alloc(), KEPT, &mut maker)?;
     let address = sender.downgrade()?;
 
     for reading in [17, 21, 19] {

@@ -41,7 +41,8 @@ fn report(rt: &impl Print, answer: Result<(), TrySendError<u64>>) -> io::Result<
 }
 
 fn try_sends<R: Wait + Clone + Drop + Print>(rt: &R, alloc: Global) -> Result<(), Stop> {
-    let (s, r) = bounded(rt, alloc, 1, &mut StampMaker::new())?;
+    let mut maker = StampMaker::new();
+    let (s, r) = bounded(rt, alloc, 1, &mut maker)?;
     report(rt, s.try_send(1)?)?;
     report(rt, s.try_send(2)?)?;
     drop(r);
