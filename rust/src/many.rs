@@ -118,7 +118,13 @@ impl<T> Sender<T> {
         &self,
         messages: I,
     ) -> Result<(), SendError<VecDeque<T>>> {
-        let mut left: VecDeque<T> = messages.into_iter().collect();
+        let mut messages = messages.into_iter();
+        // One alone goes the way of a single message, without a list.
+        let one = (messages.size_hint().1 == Some(1)).then(|| messages.next()).flatten();
+        let mut left: VecDeque<T> = messages.collect();
+        if let Some(one) = one {
+            self.send_blocking(one).map_err(|unsent| before(unsent, &mut left))?;
+        }
         while !left.is_empty() {
             self.channel().await_room();
             match self.try_send_many(&mut left) {
@@ -136,11 +142,15 @@ impl<T> Sender<T> {
         let Some(first) = left.pop_front() else {
             return Ok(());
         };
-        crate::blocking::block_on(self.send(first)).map_err(|SendError(first)| {
-            left.push_front(first);
-            SendError(std::mem::take(left))
-        })
+        crate::blocking::block_on(self.send(first)).map_err(|unsent| before(unsent, left))
     }
+}
+
+/// The error of a message that wasn't sent, and of those behind it.
+#[cfg(not(target_family = "wasm"))]
+fn before<T>(SendError(first): SendError<T>, left: &mut VecDeque<T>) -> SendError<VecDeque<T>> {
+    left.push_front(first);
+    SendError(std::mem::take(left))
 }
 
 impl<T> Receiver<T> {
@@ -218,8 +228,15 @@ impl<T> Receiver<T> {
     /// ```
     #[cfg(not(target_family = "wasm"))]
     pub fn recv_many_blocking(&self, into: &mut Vec<T>, limit: usize) -> usize {
-        if limit == 0 {
-            return 0;
+        match limit {
+            0 => return 0,
+            1 => {
+                return self.recv_blocking().map_or(0, |message| {
+                    into.push(message);
+                    1
+                })
+            }
+            _ => {}
         }
         self.channel().await_message();
         match self.try_recv_many(into, limit) {

@@ -146,13 +146,44 @@ fn blocking_calls_that_can_go_on_answer_at_once() {
     assert_eq!(s.send_many_blocking(0..3), Ok(()));
     assert_eq!(s.send_many_blocking([]), Ok(()));
     assert_eq!(r.recv_many_blocking(&mut into, 2), 2);
-    assert_eq!(s.send_many_blocking(3..6), Ok(()));
+    assert_eq!(s.send_many_blocking(3..5), Ok(()));
+    assert_eq!(s.send_many_blocking([5]), Ok(()));
     s.close();
     assert_eq!(s.send_many_blocking([]), Ok(()));
+    assert_eq!(s.send_many_blocking([6]), Err(SendError([6].into())));
     assert_eq!(s.send_many_blocking([6, 7]), Err(SendError([6, 7].into())));
-    assert_eq!(r.recv_many_blocking(&mut into, 9), 4);
+    assert_eq!(r.recv_many_blocking(&mut into, 1), 1);
+    assert_eq!(into, [0, 1, 2]);
+    assert_eq!(r.recv_many_blocking(&mut into, 9), 3);
     assert_eq!(r.recv_many_blocking(&mut into, 9), 0);
+    assert_eq!(r.recv_many_blocking(&mut into, 1), 0);
     assert_eq!(into, [0, 1, 2, 3, 4, 5]);
+}
+
+/// Messages that say that they are one at the most, however many they are.
+struct Modest(std::ops::Range<usize>);
+
+impl Iterator for Modest {
+    type Item = usize;
+
+    fn next(&mut self) -> Option<usize> {
+        self.0.next()
+    }
+
+    fn size_hint(&self) -> (usize, Option<usize>) {
+        (0, Some(1))
+    }
+}
+
+#[test]
+fn a_batch_that_says_it_is_one_message_goes_in_whole() {
+    let (s, r) = bounded(3);
+    assert_eq!(s.send_many_blocking(Modest(0..3)), Ok(()));
+    assert_eq!(s.send_many_blocking(Modest(0..0)), Ok(()));
+    assert!(r.try_iter().eq(0..3));
+    s.close();
+    assert_eq!(s.send_many_blocking(Modest(0..3)), Err(SendError(numbers(3))));
+    assert_eq!(s.send_many_blocking(Modest(0..0)), Ok(()));
 }
 
 #[test]

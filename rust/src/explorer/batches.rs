@@ -56,15 +56,15 @@ fn a_batch_takes_no_more_than_its_limit() {
     explore(TWO, || {
         let (s, r) = unbounded();
         let (end, other) = (s.clone(), r.clone());
-        let send = move || assert_eq!(s.try_send_many(&mut [1, 2].into()), Ok(2));
+        let send = move || assert_eq!(s.try_send_many(&mut [1, 2, 3].into()), Ok(3));
         let receive = move || {
             let mut into = Vec::with_capacity(8);
-            assert_eq!((r.recv_many_blocking(&mut into, 1), into), (1, vec![1]));
+            assert_eq!((r.recv_many_blocking(&mut into, 2), into), (2, vec![1, 2]));
         };
         let after = move || {
-            assert_eq!(end.try_send_many(&mut [3, 4].into()), Ok(2));
+            assert_eq!(end.try_send_many(&mut [4, 5].into()), Ok(2));
             let mut into = Vec::with_capacity(8);
-            assert_eq!((other.try_recv_many(&mut into, 2), into), (Ok(2), vec![2, 3]));
+            assert_eq!((other.try_recv_many(&mut into, 2), into), (Ok(2), vec![3, 4]));
         };
         (threads![send, receive], Box::new(after))
     });
