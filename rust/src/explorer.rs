@@ -350,4 +350,5 @@ macro_rules! threads {
 }
 
 mod batches;
+mod handles;
 mod tests;

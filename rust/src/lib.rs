@@ -35,6 +35,8 @@
 //!   each in order of arrival.
 //! - Futures and receivers are `Unpin`. The `Debug` of a future writes its name alone.
 //! - What a message type borrows has to live as long as the futures of its channel.
+//! - One lock guards a channel, whose queue is lock-free in async-channel. A call may wait for
+//!   another's step, which moves at most [`ROUND_LIMIT`] messages.
 //! - `std` is needed. The feature `std` is there by name alone, and `portable-atomic` isn't.
 
 #![forbid(unsafe_code)]
@@ -71,7 +73,7 @@ pub use operations::{Closed, Recv, Send};
 pub use receiver::{Receiver, WeakReceiver};
 pub use sender::{Sender, WeakSender};
 
-/// The answer to a send into a closed channel. The message comes back.
+/// The answer to a send into a closed channel.
 ///
 /// ```
 /// use vamorilesh::{unbounded, SendError};
@@ -87,7 +89,7 @@ pub use sender::{Sender, WeakSender};
 #[doc(inline)]
 pub use errors::SendError;
 
-/// The answer to [`Sender::try_send`] if the message doesn't go in. It comes back.
+/// The answer to [`Sender::try_send`] if the message doesn't go in.
 ///
 /// ```
 /// use vamorilesh::{bounded, TrySendError};

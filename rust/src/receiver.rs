@@ -331,7 +331,8 @@ pub struct WeakReceiver<T> {
 }
 
 impl<T> WeakReceiver<T> {
-    /// A receiver, if the channel is open and has a receiver still.
+    /// A receiver, if the channel is open and has a receiver still. As with a copy, the program
+    /// ends if there are too many.
     ///
     /// ```
     /// let (s, r) = vamorilesh::unbounded::<u64>();

@@ -339,7 +339,8 @@ pub struct WeakSender<T> {
 }
 
 impl<T> WeakSender<T> {
-    /// A sender, if the channel is open and has a sender still.
+    /// A sender, if the channel is open and has a sender still. As with a copy, the program
+    /// ends if there are too many.
     ///
     /// ```
     /// let (s, r) = vamorilesh::unbounded::<u64>();
