@@ -172,7 +172,7 @@ pub fn unbounded<T: Drop, R: Wait + Clone + Drop>(
     ends(rt, alloc, Core::unbounded(alloc), maker)
 }
 
-// Both sides of a channel, whose tag has what the core says of its capacity. The stamp is drawn
+// Both sides of a channel, whose tag has what the core says of its capacity. The stamp is given
 // after everything that may be refused.
 fn ends<T: Drop, R: Wait + Clone + Drop>(
     rt: &R,
