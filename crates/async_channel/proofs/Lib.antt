@@ -2,3 +2,4 @@ mod Refusals
 mod Logging
 mod Ready
 mod Rounds
+mod Left

@@ -1,5 +1,7 @@
 -- What contracts see of handles and operations.
-use Rattle.std.specs.Prelude.{◌≡◌, ⊤, ℕ, Bool, List, Option, Some, None, Result, Ok, Err}
+use Rattle.std.specs.Prelude.{◌≡◌, ⊤, ℕ, ◌-◌, Bool, List, drop, length, Option, Some, None, Result, Ok, Err}
+use Rattle.std.specs.declared.alloc.Global.{Global}
+use Rattle.std.specs.declared.collections.VecDeque.{VecDeque}
 use Rattle.channel_model.specs.declared.errors.SendError.{SendError}
 use Rattle.channel_model.specs.declared.errors.OutOfMemory.{OutOfMemory}
 use Rattle.async_channel.specs.Tags.{TagView}
@@ -44,6 +46,42 @@ pub record OperationView : Type 0 where
   pub finished : Bool
   pub source : ℕ
   pub ticket : Option ℕ
+
+-- A send of many: the messages that haven't gone in, how many they were with those that have,
+-- whether the last poll finished it, the name of the source that its task waits for, and the key of
+-- the entry by which it waits, if it does.
+pub record SendManyView (T : Type 0) : Type 0 where
+  pub unsent : List T
+  pub count : ℕ
+  pub finished : Bool
+  pub source : ℕ
+  pub ticket : Option ℕ
+
+-- A receive of many: what its list has, how many it takes at most, whether the last poll finished
+-- it, the name of the source that its task waits for, and the key of the entry by which it waits,
+-- if it does.
+pub record RecvManyView (T : Type 0) : Type 0 where
+  pub into : List T
+  pub limit : ℕ
+  pub finished : Bool
+  pub source : ℕ
+  pub ticket : Option ℕ
+
+-- how many messages of a send of many went in
+abbrev pub sent_count : {T : Type 0} → SendManyView T → ℕ
+sent_count op = op.count - length op.unsent
+
+-- what is left of some messages when so many of the first went in
+abbrev pub IsLeftOf : {T : Type 0} → List T → List T → Type 0
+IsLeftOf left messages = (sent : ℕ) × (left ≡ drop sent messages)
+
+-- What a send of many may give: nothing, what is left of its messages in an error, or want of
+-- memory.
+abbrev pub MayGiveMany : {T : Type 0} → List T
+    → Result (Result (Unit {0}) (SendError (VecDeque T Global))) OutOfMemory → Type 0
+MayGiveMany messages (Err refusal) = ⊤
+MayGiveMany messages (Ok (Ok sent)) = ⊤
+MayGiveMany messages (Ok (Err error)) = IsLeftOf error.0.items messages
 
 -- What a send may give: nothing, its own message in an error, or want of memory. A finished one
 -- gives want of memory at most.

@@ -26,6 +26,7 @@
 //! ```
 #![tactic(auto)]
 
+mod batches;
 mod blocking;
 mod handles;
 pub mod inspect;
@@ -42,6 +43,7 @@ mod stream;
 mod tag;
 mod weak;
 
+pub use batches::{RecvMany, SendMany};
 pub use channel_core::{
     Bell, CloneError, Core, Group, MakeError, NoMemory, OutOfMemory, Queue, Quiet, RecvError,
     SendError, Ticket, TryRecvError, TrySendError, Upgrade,

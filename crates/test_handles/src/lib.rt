@@ -10,6 +10,8 @@ mod handles;
 #[cfg(test)]
 mod large;
 #[cfg(test)]
+mod many;
+#[cfg(test)]
 mod names;
 #[cfg(test)]
 mod operations;

@@ -1,5 +1,6 @@
 //! Each public item by its path, as a user names it: this file isn't built where one is missing.
 use futures::Stream;
+use std::collections::VecDeque;
 use std::fmt;
 use std::process::Abort;
 use std::sync::Wait;
@@ -19,6 +20,14 @@ fn is_named<T: Drop, R: Wait + Clone + Drop>(
     true
 }
 
+/// The types of operations that move many messages.
+fn is_named_many<T: Drop, R: Wait + Clone + Drop>(
+    _send: &async_channel::SendMany<'_, T, R>,
+    _recv: &async_channel::RecvMany<'_, T, R>,
+) -> bool {
+    true
+}
+
 fn is_stream<S: Stream + fmt::Debug>(_stream: &S) -> bool {
     true
 }
@@ -32,6 +41,8 @@ fn handles_and_operations(rt: HostRuntime) -> Result<(), Fail> {
         &r.downgrade().expect(&rt, "a weak receiver"),
     );
     assert!(rt; is_named((&s, &r), weak, &s.send(1u64), &r.recv(), &s.closed()));
+    let (send, mut into) = (s.send_many(VecDeque::new(rt.alloc())), Vec::new(rt.alloc()));
+    assert!(rt; is_named_many(&send, &r.recv_many(&mut into, 1)));
     assert!(rt; is_stream(&r));
     Ok(())
 }

@@ -9,7 +9,8 @@ use std::process::Abort;
 use std::sync::Wait;
 use std::test::Fail;
 
-fn is_pending<F: Future>(task: &MockTask, future: &mut F) -> bool
+/// Whether a poll can't go on.
+pub fn is_pending<F: Future>(task: &MockTask, future: &mut F) -> bool
 where
     F::Output: Drop,
     requires { F.can_poll future.old }
@@ -18,7 +19,7 @@ where
 }
 
 /// What a poll gives, if it is ready.
-fn ready<F: Future>(task: &MockTask, future: &mut F) -> Option<F::Output>
+pub fn ready<F: Future>(task: &MockTask, future: &mut F) -> Option<F::Output>
     requires { F.can_poll future.old }
 {
     match task.poll(future) {

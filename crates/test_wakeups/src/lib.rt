@@ -8,6 +8,8 @@ mod blocked;
 #[cfg(test)]
 mod cancelled;
 #[cfg(test)]
+mod many;
+#[cfg(test)]
 mod scene;
 #[cfg(test)]
 mod telling;
