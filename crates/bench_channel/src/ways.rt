@@ -13,7 +13,7 @@ use std::time::Instant;
 /// How many times each way is timed. The best time counts.
 const RUNS: usize = 3;
 
-/// How many places may be on their way to the workers.
+/// How many chunks may be on their way to the workers.
 const CAPACITY: usize = 64;
 
 /// How a list is mapped.

@@ -14,7 +14,7 @@ use std::thread;
 /// The numbers below this one are mapped.
 const LIMIT: u64 = 16;
 
-/// How many numbers may be on their way to the workers.
+/// How many chunks of numbers may be on their way to the workers.
 const CAPACITY: usize = 64;
 
 /// How many ones a number has in binary.

@@ -1,3 +1,4 @@
+pub mod Chunks
 pub mod Pieces
 pub mod Slots
 pub mod Stamps

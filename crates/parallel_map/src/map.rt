@@ -1,11 +1,11 @@
 //! The map of a list, by many threads.
-ghost use Rattle.std.specs.Prelude.{◌≡◌, ◌≢◌, ◌<◌, [], map, IsOk, IfOk, OnOk, Err, None};
+ghost use Rattle.std.specs.Prelude.{◌≡◌, ◌≢◌, ◌<◌, ◌≤◌, ◌/◌, min, max, [], map, IsOk, IfOk, OnOk, Err, None};
 ghost use Rattle.identity.specs.Stamps.{next_stamp};
 ghost use Rattle.parallel_map.specs.Stamps.{behind_two, DrewTwoAtMost};
 
 use crate::error::MapError;
-use crate::gathering::gather;
 use crate::job::{Gate, Job};
+use crate::joining::join_chunks;
 use crate::workers::{self, Ends};
 use async_channel::{StampMaker, bounded, unbounded};
 use identity::Exact;
@@ -14,16 +14,40 @@ use std::sync::Wait;
 use std::thread;
 use std::thread::Threads;
 
+/// How many chunks there are for each worker, at least, if a chunk has more than one input: so workers
+/// end at about one time, also where some inputs take longer.
+const CHUNKS_FOR_EACH_WORKER: usize = 32;
+
+/// The largest chunk of [`map_all`]. The messages for a chunk cost little beside it, and its answers,
+/// if they are numbers, stay in a processor's cache until they are put in their places.
+const LARGEST_CHUNK: usize = 8192;
+
+// How many inputs a chunk has.
+fn chunk_size(count: usize, workers: usize, largest: usize) -> usize
+    requires workers { 0 < workers }
+    requires largest { 0 < largest }
+    ensures some { 0 < result }
+    ensures most { result ≤ largest }
+    ensures size { result ≡ max 1 (min largest (count / workers / 32)) }
+{
+    (count / workers / CHUNKS_FOR_EACH_WORKER)
+        .min(largest)
+        .max(1)
+}
+
 /// The job's answers for all inputs, in their order, by threads.
 ///
 /// As many threads are started as there are to be workers, or as there are inputs where these are
-/// fewer. At most `cap` places are on their way to them at a time. The gate is called around each
-/// run of the job. When the call returns, every thread that it started has ended.
+/// fewer. They are handed chunks of inputs whose places follow one another, the size of which follows
+/// from the number of inputs and that of workers. At most `cap` chunks are on their way to them at a
+/// time. The gate is called around the job at each input. When the call returns, every thread that it
+/// started has ended. Beside the answers, room is taken for about as many again.
 ///
 /// No inputs have no answers: then nothing is asked for. Else both channels are made first, and may
 /// be refused with `OutOfMemory` or `NoStamps`. Then `NoThread` is answered where a worker couldn't
-/// be started, else `OutOfMemory` where the caller or a worker was refused memory, else what
-/// [`gather`] answers.
+/// be started, else `OutOfMemory` where the caller or a worker was refused memory. Else the answers
+/// are put in their places; `Stranger`, `Doubled` or `Missing` says that a chunk isn't of its inputs,
+/// comes twice or is missing.
 ///
 /// # Examples
 ///
@@ -58,15 +82,76 @@ where
     ensures two { inputs.now ≢ [] → OnOk result (maker.new ≡ behind_two maker.old) }
     ensures stamps { DrewTwoAtMost maker.old maker.new }
 {
+    map_in_chunks(
+        rt,
+        alloc,
+        job,
+        gate,
+        inputs,
+        workers,
+        cap,
+        LARGEST_CHUNK,
+        maker,
+    )
+}
+
+/// [`map_all`], whose chunks have at most as many inputs as `largest` says.
+///
+/// With 1 each message is for one input, and other workers go on while one takes long at its own.
+///
+/// # Examples
+///
+/// ```
+/// let mut maker = StampMaker::new();
+/// let inputs = [5, 6, 7];
+/// let answers = map_in_chunks(&rt, rt.alloc(), &Square, &Open, &inputs, 2, 64, 1, &mut maker)?;
+/// assert_eq!(rt; answers.as_slice(), [25, 36, 49].as_slice());
+/// ```
+pub fn map_in_chunks<A, B, J, G, R>(
+    rt: &R,
+    alloc: Global,
+    job: &J,
+    gate: &G,
+    inputs: &[A],
+    workers: usize,
+    cap: usize,
+    largest: usize,
+    maker: &mut StampMaker,
+) -> Result<Vec<B>, MapError>
+where
+    A: Exact + Sync,
+    B: Drop + Send,
+    J: Job<A, B> + Sync,
+    G: Gate + Sync,
+    R: Wait + Threads + Clone + Drop + Send + Sync,
+    requires largest { 0 < largest }
+    requires workers { 0 < workers }
+    requires cap { 0 < cap }
+    ensures mapped { IfOk result (λ answers. answers.items ≡ map J.answer inputs.now) }
+    ensures empty { inputs.now ≡ [] → IsOk result × (maker.new ≡ maker.old) }
+    ensures spent { inputs.now ≢ [] → maker.old ≡ None → result ≡ Err MapError.NoStamps }
+    ensures short { result ≡ Err MapError.NoStamps → next_stamp maker.old ≡ None }
+    ensures two { inputs.now ≢ [] → OnOk result (maker.new ≡ behind_two maker.old) }
+    ensures stamps { DrewTwoAtMost maker.old maker.new }
+{
     if inputs.is_empty() {
         return Ok(Vec::new(alloc));
     }
     let (to_workers, places) = bounded(rt, alloc, cap, maker)?;
-    let (pieces, from_workers) = unbounded(rt, alloc, maker)?;
-    let ends = Ends { places, pieces };
+    let (chunks, from_workers) = unbounded(rt, alloc, maker)?;
+    let ends = Ends { places, chunks };
+    let size = chunk_size(inputs.len(), workers, largest);
     let count = workers.min(inputs.len());
-    thread::scope(thread::scope_env(), rt, |scope| {
-        workers::run(scope, rt, alloc, job, gate, inputs, ends, to_workers, count)
-    })?;
-    gather(alloc, inputs, workers::received(alloc, &from_workers)?)
+    thread::scope(
+        thread::scope_env(),
+        rt,
+        |scope|
+            requires { 0 < size }
+        {
+            workers::run(
+                scope, rt, alloc, job, gate, inputs, size, ends, to_workers, count,
+            )
+        },
+    )?;
+    join_chunks(alloc, inputs, workers::received(alloc, &from_workers)?)
 }

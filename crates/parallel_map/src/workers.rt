@@ -1,14 +1,15 @@
 //! The threads of a map.
 //!
-//! Each worker takes places from one channel, runs the job on the input there, and sends the piece
-//! into the other. It ends when no more places come, or where it is refused memory. What is known
-//! of the pieces is what their type keeps. The caller starts the workers, sends all places and
-//! joins every worker that was started, whatever was refused meanwhile.
-ghost use Rattle.std.specs.Prelude.{◌≡◌, ◌≢◌, OnErr, Err};
+//! Each worker takes places from one channel. For each it runs the job on the chunk of inputs that
+//! begins there, and sends the chunk with its answers into the other channel. It ends when no more
+//! places come, or where it is refused memory. What is known of the answers is what the type of
+//! their chunk keeps. The caller starts the workers, sends the first place of each chunk and joins
+//! every worker that was started, whatever was refused meanwhile.
+ghost use Rattle.std.specs.Prelude.{◌≡◌, ◌≢◌, ◌+◌, ◌≤◌, ◌<◌, length, take, drop, IsSome, IfSome, OnErr, Err};
 
+use crate::chunk::Chunk;
 use crate::error::MapError;
 use crate::job::{Gate, Job};
-use crate::piece::Piece;
 use async_channel::{Receiver, Sender};
 use std::alloc::Global;
 use std::sync::Wait;
@@ -16,10 +17,10 @@ use std::thread::{JoinHandle, Scope, Threads};
 
 /// A worker's ends of both channels.
 pub struct Ends<'a, A, B: Drop, J: Job<A, B>, R: Wait + Clone + Drop> {
-    /// Where places come from.
+    /// Where the first places of chunks come from.
     pub places: Receiver<usize, R>,
-    /// Where pieces go.
-    pub pieces: Sender<Piece<'a, A, B, J>, R>,
+    /// Where chunks go.
+    pub chunks: Sender<Chunk<'a, A, B, J>, R>,
 }
 
 impl<'a, A, B: Drop, J: Job<A, B>, R: Wait + Clone + Drop> Ends<'a, A, B, J, R> {
@@ -30,10 +31,10 @@ impl<'a, A, B: Drop, J: Job<A, B>, R: Wait + Clone + Drop> Ends<'a, A, B, J, R> 
         let Ok(places) = self.places.try_clone() else {
             return Err(MapError::OutOfMemory);
         };
-        let Ok(pieces) = self.pieces.try_clone() else {
+        let Ok(chunks) = self.chunks.try_clone() else {
             return Err(MapError::OutOfMemory);
         };
-        Ok(Ends { places, pieces })
+        Ok(Ends { places, chunks })
     }
 }
 
@@ -41,17 +42,29 @@ impl<A, B: Drop, J: Job<A, B>, R: Wait + Clone + Drop> Drop for Ends<'_, A, B, J
     fn drop(self) {
         let Ends {
             places: _places,
-            pieces: _pieces,
+            chunks: _chunks,
         } = self;
     }
 }
 
-// Works at places until no more come. It answers false where memory was refused.
+// The inputs of the chunk that begins at a place, which are as many as a chunk has, or as are left.
+fn chunk_at<A>(inputs: &[A], from: usize, size: usize) -> Option<&[A]>
+    ensures chunk { IfSome result (λ chunk. chunk.now ≡ take size (drop from inputs.now)) }
+    ensures places { IfSome result (λ chunk. from + length chunk.now ≤ length inputs.now) }
+    ensures some { from < length inputs.now → IsSome result }
+{
+    let rest = inputs.get(from..)?;
+    Some(&rest[..size.min(rest.len())])
+}
+
+// Works at chunks until no more come. It answers false where memory was refused.
 fn work<'a, A, B, J, G, R>(
     rt: &R,
+    alloc: Global,
     job: &J,
     gate: &G,
     inputs: &'a [A],
+    size: usize,
     ends: Ends<'a, A, B, J, R>,
 ) -> bool
 where
@@ -64,16 +77,16 @@ where
         let Ok(received) = ends.places.recv_blocking() else {
             return false;
         };
-        let Ok(place) = received else {
+        let Ok(from) = received else {
             return true;
         };
-        let Some(input) = inputs.get(place) else {
+        let Some(part) = chunk_at(inputs, from, size) else {
             continue;
         };
-        gate.before(place);
-        let piece = Piece::make(job, place, input);
-        gate.after(place);
-        if ends.pieces.try_send(piece).is_err() {
+        let Ok(chunk) = Chunk::make(alloc, job, gate, from, part) else {
+            return false;
+        };
+        if ends.chunks.try_send(chunk).is_err() {
             return false;
         }
     }
@@ -84,9 +97,11 @@ where
 fn start<'s, 'a: 's, E, A, B, J, G, R>(
     scope: &'s Scope<'s, E>,
     rt: &'s R,
+    alloc: Global,
     job: &'s J,
     gate: &'s G,
     inputs: &'a [A],
+    size: usize,
     ends: Ends<'a, A, B, J, R>,
 ) -> Result<JoinHandle<bool>, MapError>
 where
@@ -97,7 +112,7 @@ where
     R: Wait + Clone + Drop + Send + Sync + 's,
     ensures { OnErr result (result ≡ Err MapError.NoThread) }
 {
-    match scope.spawn(move || work(rt, job, gate, inputs, ends)) {
+    match scope.spawn(move || work(rt, alloc, job, gate, inputs, size, ends)) {
         Ok(worker) => Ok(worker),
         Err(_) => Err(MapError::NoThread),
     }
@@ -107,9 +122,11 @@ where
 fn start_all<'s, 'a: 's, E, A, B, J, G, R>(
     scope: &'s Scope<'s, E>,
     rt: &'s R,
+    alloc: Global,
     job: &'s J,
     gate: &'s G,
     inputs: &'a [A],
+    size: usize,
     ends: Ends<'a, A, B, J, R>,
     count: usize,
     workers: &mut Vec<JoinHandle<bool>>,
@@ -123,7 +140,8 @@ where
     ensures { result ≢ Err MapError.NoStamps }
 {
     for _ in 0..count {
-        let worker = start(scope, rt, job, gate, inputs, ends.try_clone()?)?;
+        let own = ends.try_clone()?;
+        let worker = start(scope, rt, alloc, job, gate, inputs, size, own)?;
         if workers.push(worker).is_err() {
             return Err(MapError::OutOfMemory);
         }
@@ -131,11 +149,17 @@ where
     Ok(())
 }
 
-// Sends all places below a number, as long as anybody receives. It answers false where memory was
-// refused.
-fn send_places<R: Wait + Clone + Drop>(to_workers: &Sender<usize, R>, count: usize) -> bool {
-    for place in 0..count {
-        match to_workers.send_blocking(place) {
+// Sends the first place of each chunk, as long as anybody receives. It answers false where memory
+// was refused.
+fn send_places<R: Wait + Clone + Drop>(
+    to_workers: &Sender<usize, R>,
+    count: usize,
+    size: usize,
+) -> bool
+    requires { 0 < size }
+{
+    for from in (0..count).step_by(size) {
+        match to_workers.send_blocking(from) {
             Ok(Ok(())) => {}
             Ok(Err(_)) => return true,
             Err(_) => return false,
@@ -153,7 +177,7 @@ fn join_all<R: Threads>(rt: &R, workers: Vec<JoinHandle<bool>>) -> bool {
     all_well
 }
 
-/// Starts the workers, sends the places of all inputs and waits for the workers.
+/// Starts the workers, sends the first place of each chunk and waits for the workers.
 pub fn run<'s, 'a: 's, E, A, B, J, G, R>(
     scope: &'s Scope<'s, E>,
     rt: &'s R,
@@ -161,6 +185,7 @@ pub fn run<'s, 'a: 's, E, A, B, J, G, R>(
     job: &'s J,
     gate: &'s G,
     inputs: &'a [A],
+    size: usize,
     ends: Ends<'a, A, B, J, R>,
     to_workers: Sender<usize, R>,
     count: usize,
@@ -171,13 +196,25 @@ where
     J: Job<A, B> + Sync + 'a,
     G: Gate + Sync + 's,
     R: Wait + Threads + Clone + Drop + Send + Sync + 's,
+    requires { 0 < size }
     ensures { result ≢ Err MapError.NoStamps }
 {
     let Ok(mut workers) = Vec::with_capacity(alloc, count) else {
         return Err(MapError::OutOfMemory);
     };
-    let started = start_all(scope, rt, job, gate, inputs, ends, count, &mut workers);
-    let all_sent = started.is_err() || send_places(&to_workers, inputs.len());
+    let started = start_all(
+        scope,
+        rt,
+        alloc,
+        job,
+        gate,
+        inputs,
+        size,
+        ends,
+        count,
+        &mut workers,
+    );
+    let all_sent = started.is_err() || send_places(&to_workers, inputs.len(), size);
     drop(to_workers);
     let all_well = join_all(rt, workers);
     started?;

@@ -1,13 +1,19 @@
 //! Maps by several threads.
 use crate::square::Square;
 use async_channel::StampMaker;
-use parallel_map::{Gate, Job, MapError, Open, map_all};
+use parallel_map::{Gate, Job, MapError, Open, map_all, map_in_chunks};
+use std::alloc::{AllocError, AllocGlobal};
+use std::sync::Wait;
 use std::sync::atomic::{AtomicBool, AtomicU64, Ordering};
 use std::test::Fail;
 use std::thread;
+use std::thread::Threads;
 
 /// How often a worker looks for the other one.
 const MEETING_TURNS: u32 = 10_000_000;
+
+/// How often a worker looks for one that can't come.
+const LONELY_TURNS: u32 = 10_000;
 
 #[test]
 fn squares_in_parallel(rt: HostRuntime) -> Result<(), Fail> {
@@ -32,6 +38,59 @@ fn squares_in_parallel(rt: HostRuntime) -> Result<(), Fail> {
     Ok(())
 }
 
+/// Maps the numbers below a count, and compares each answer.
+fn maps_numbers<R>(
+    rt: &R,
+    count: u64,
+    workers: usize,
+    cap: usize,
+    largest: usize,
+) -> Result<bool, Fail>
+where
+    R: Wait + Threads + Clone + Drop + AllocGlobal + Send + Sync,
+{
+    let a = rt.alloc();
+    let inputs = (0..count).collect::<Vec<_>>(a)?;
+    let mut maker = StampMaker::new();
+    let inputs = inputs.as_slice();
+    let workers = workers.max(1);
+    let cap = cap.max(1);
+    let all = map_all(rt, a, &Square, &Open, inputs, workers, cap, &mut maker)?;
+    let largest = largest.max(1);
+    let chunks = map_in_chunks(
+        &rt, a, &Square, &Open, inputs, workers, cap, largest, &mut maker,
+    )?;
+    let mut right = all.len() == inputs.len();
+    for (number, answer) in inputs.iter().zip(all.iter()) {
+        right = right && *answer == number.wrapping_mul(*number);
+    }
+    Ok(right && all == chunks)
+}
+
+#[test]
+fn many_inputs_are_mapped_in_chunks(rt: HostRuntime) -> Result<(), Fail> {
+    for count in [1, 2, 63, 64, 65, 127, 128, 191, 192, 1_000, 4_099, 20_003] {
+        for (workers, cap, largest) in [(1, 1, 1), (2, 2, 7), (3, 1, 100), (4, 64, 8192)] {
+            assert!(rt; maps_numbers(&rt, count, workers, cap, largest)?, "{count}");
+        }
+    }
+    Ok(())
+}
+
+#[test]
+fn seventy_thousand_messages(rt: HostRuntime) -> Result<(), Fail> {
+    let a = rt.alloc();
+    let inputs = (0..70_000u64).collect::<Vec<_>>(a)?;
+    let mut maker = StampMaker::new();
+    let inputs = inputs.as_slice();
+    let answers = map_in_chunks(&rt, a, &Square, &Open, inputs, 2, 1_024, 1, &mut maker)?;
+    assert!(rt; answers.len() == 70_000);
+    for (number, answer) in inputs.iter().zip(answers.iter()) {
+        assert!(rt; *answer == number.wrapping_mul(*number), "{number}");
+    }
+    Ok(())
+}
+
 #[test]
 fn no_stamp_for_a_map(rt: HostRuntime) -> Result<(), Fail> {
     let mut maker = StampMaker::starting_at(u64::MAX);
@@ -51,11 +110,22 @@ fn no_inputs_ask_for_nothing(rt: HostRuntime) -> Result<(), Fail> {
     Ok(())
 }
 
-/// Each of two workers says that it is there, and looks for the other.
+/// Each of two workers says that it is there, and looks for the other so many times.
 #[derive(Drop)]
 struct Both {
     there: [AtomicBool; 2],
     late: AtomicBool,
+    turns: u32,
+}
+
+impl Both {
+    fn looking(turns: u32) -> Both {
+        Both {
+            there: [AtomicBool::new(false), AtomicBool::new(false)],
+            late: AtomicBool::new(false),
+            turns,
+        }
+    }
 }
 
 impl Gate for Both {
@@ -64,7 +134,7 @@ impl Gate for Both {
             return;
         }
         self.there[place].store(true, Ordering::SeqCst);
-        for _ in 0..MEETING_TURNS {
+        for _ in 0..self.turns {
             if self.there[1 - place].load(Ordering::SeqCst) {
                 return;
             }
@@ -78,15 +148,83 @@ impl Gate for Both {
 
 #[test]
 fn the_gate_of_two_workers(rt: HostRuntime) -> Result<(), Fail> {
-    let gate = Both {
-        there: [AtomicBool::new(false), AtomicBool::new(false)],
-        late: AtomicBool::new(false),
-    };
+    let gate = Both::looking(MEETING_TURNS);
     let mut maker = StampMaker::new();
     let answers = map_all(&rt, rt.alloc(), &Square, &gate, &[3, 4], 2, 2, &mut maker)?;
     assert_eq!(rt; answers.as_slice(), [9, 16].as_slice());
     assert!(rt; !gate.late.load(Ordering::SeqCst));
     assert!(rt; gate.there[0].load(Ordering::SeqCst) && gate.there[1].load(Ordering::SeqCst));
+    Ok(())
+}
+
+/// A map of 200 numbers by two workers at this gate.
+fn maps_at<R>(rt: &R, gate: &Both, largest: usize) -> Result<usize, Fail>
+where
+    R: Wait + Threads + Clone + Drop + AllocGlobal + Send + Sync,
+{
+    let a = rt.alloc();
+    let inputs = (0..200u64).collect::<Vec<_>>(a)?;
+    let mut maker = StampMaker::new();
+    let inputs = inputs.as_slice();
+    let largest = largest.max(1);
+    let answers = map_in_chunks(rt, a, &Square, gate, inputs, 2, 4, largest, &mut maker)?;
+    Ok(answers.len())
+}
+
+#[test]
+fn a_chunk_is_as_large_as_the_caller_says(rt: HostRuntime) -> Result<(), Fail> {
+    let gate = Both::looking(MEETING_TURNS);
+    assert_eq!(rt; maps_at(&rt, &gate, 1)?, 200);
+    assert!(rt; !gate.late.load(Ordering::SeqCst));
+    Ok(())
+}
+
+#[test]
+fn one_worker_has_the_whole_chunk(rt: HostRuntime) -> Result<(), Fail> {
+    let gate = Both::looking(LONELY_TURNS);
+    assert_eq!(rt; maps_at(&rt, &gate, 8192)?, 200);
+    assert!(rt; gate.late.load(Ordering::SeqCst));
+    Ok(())
+}
+
+/// The worker at place 0 goes on when place 3 was begun: then the chunks between have been sent.
+#[derive(Drop)]
+struct FirstIsLast {
+    last_begun: AtomicBool,
+    late: AtomicBool,
+}
+
+impl Gate for FirstIsLast {
+    fn before(&self, place: usize) {
+        if place == 3 {
+            self.last_begun.store(true, Ordering::SeqCst);
+        }
+        if place != 0 {
+            return;
+        }
+        for _ in 0..MEETING_TURNS {
+            if self.last_begun.load(Ordering::SeqCst) {
+                return;
+            }
+            thread::yield_now();
+        }
+        self.late.store(true, Ordering::SeqCst);
+    }
+
+    fn after(&self, _place: usize) {}
+}
+
+#[test]
+fn chunks_come_in_another_order(rt: HostRuntime) -> Result<(), Fail> {
+    let gate = FirstIsLast {
+        last_begun: AtomicBool::new(false),
+        late: AtomicBool::new(false),
+    };
+    let mut maker = StampMaker::new();
+    let inputs = [5, 6, 7, 8];
+    let answers = map_all(&rt, rt.alloc(), &Square, &gate, &inputs, 2, 4, &mut maker)?;
+    assert_eq!(rt; answers.as_slice(), [25, 36, 49, 64].as_slice());
+    assert!(rt; !gate.late.load(Ordering::SeqCst));
     Ok(())
 }
 
@@ -146,17 +284,17 @@ fn each_input_is_worked_on_once(rt: HostRuntime) -> Result<(), Fail> {
     Ok(())
 }
 
-/// How far each of four places is: the gate before the job was called, the job, the gate after it.
-/// A call that comes at another time leaves 9 there.
+/// How far each place is: the gate before the job was called, the job, the gate after it. A call
+/// that comes at another time leaves 9 there.
 #[derive(Drop)]
-struct Stages([AtomicU64; 4]);
+struct Stages(Vec<AtomicU64>);
 
 impl Stages {
     fn go_on(&self, place: usize, from: u64) {
-        if place < 4 {
-            let is_next = self.0[place].load(Ordering::SeqCst) == from;
-            let stage = if is_next { from.wrapping_add(1) } else { 9 };
-            self.0[place].store(stage, Ordering::SeqCst);
+        if let Some(stage) = self.0.get(place) {
+            let is_next = stage.load(Ordering::SeqCst) == from;
+            let next = if is_next { from.wrapping_add(1) } else { 9 };
+            stage.store(next, Ordering::SeqCst);
         }
     }
 }
@@ -183,18 +321,92 @@ impl Job<u64, u64> for Stages {
 
 #[test]
 fn the_gate_is_around_each_job(rt: HostRuntime) -> Result<(), Fail> {
-    let stages = Stages([
-        AtomicU64::new(0),
-        AtomicU64::new(0),
-        AtomicU64::new(0),
-        AtomicU64::new(0),
-    ]);
+    let a = rt.alloc();
+    for count in [4, 200] {
+        let mut stages = Vec::new(a);
+        for _ in 0..count {
+            stages.push(AtomicU64::new(0))?;
+        }
+        let stages = Stages(stages);
+        let mut maker = StampMaker::new();
+        let places = (0..count).collect::<Vec<u64>>(a)?;
+        let places = places.as_slice();
+        let answers = map_all(&rt, a, &stages, &stages, places, 2, 1, &mut maker)?;
+        assert_eq!(rt; answers.as_slice(), places);
+        for stage in &stages.0 {
+            assert_eq!(rt; stage.load(Ordering::SeqCst), 3);
+        }
+    }
+    Ok(())
+}
+
+/// Counts how often a runtime is copied, and refuses more copies than `most`.
+#[derive(Drop)]
+struct Copies<'a> {
+    made: &'a AtomicU64,
+    most: u64,
+}
+
+impl Clone for Copies<'_> {
+    fn clone(&self) -> Result<Self, AllocError> {
+        if self.made.load(Ordering::SeqCst) >= self.most {
+            return Err(AllocError);
+        }
+        self.made.fetch_add(1, Ordering::SeqCst);
+        Ok(Copies {
+            made: self.made,
+            most: self.most,
+        })
+    }
+}
+
+/// A map of two inputs by so many workers, whose runtime may be copied so often. It answers how
+/// often it was.
+fn copies_of_a_map<R>(
+    rt: &R,
+    workers: usize,
+    most: u64,
+) -> Result<(u64, Result<Vec<u64>, MapError>), Fail>
+where
+    R: Wait + Threads + Clone + Drop + AllocGlobal + Send + Sync,
+{
+    let made = AtomicU64::new(0);
     let mut maker = StampMaker::new();
-    let places = [0u64, 1, 2, 3];
-    let answers = map_all(&rt, rt.alloc(), &stages, &stages, &places, 2, 1, &mut maker)?;
-    assert_eq!(rt; answers.as_slice(), places.as_slice());
-    for place in 0..4usize {
-        assert_eq!(rt; stages.0[place].load(Ordering::SeqCst), 3);
+    let counted = (rt, Copies { made: &made, most });
+    let workers = workers.max(1);
+    let got = map_all(
+        &counted,
+        rt.alloc(),
+        &Square,
+        &Open,
+        &[5, 6],
+        workers,
+        2,
+        &mut maker,
+    );
+    Ok((made.load(Ordering::SeqCst), got))
+}
+
+#[test]
+fn no_more_workers_than_inputs(rt: HostRuntime) -> Result<(), Fail> {
+    let (two, answers) = copies_of_a_map(&rt, 2, 1_000)?;
+    assert_eq!(rt; answers?.as_slice(), [25, 36].as_slice());
+    let (one, answers) = copies_of_a_map(&rt, 1, 1_000)?;
+    assert_eq!(rt; answers?.as_slice(), [25, 36].as_slice());
+    assert!(rt; one < two);
+    let (many, answers) = copies_of_a_map(&rt, 100, 1_000)?;
+    assert_eq!(rt; answers?.as_slice(), [25, 36].as_slice());
+    assert_eq!(rt; many, two);
+    Ok(())
+}
+
+#[test]
+fn refused_copies_of_a_runtime_are_named(rt: HostRuntime) -> Result<(), Fail> {
+    let (needed, _) = copies_of_a_map(&rt, 2, 1_000)?;
+    for most in 0..needed {
+        let (made, answers) = copies_of_a_map(&rt, 2, most)?;
+        assert_eq!(rt; made, most);
+        assert!(rt; matches!(&answers, Err(MapError::OutOfMemory)));
     }
     Ok(())
 }
