@@ -1,15 +1,15 @@
 //! A map over a list by many threads, whose answer is proved to be the plain map.
 //!
-//! The inputs are cut into chunks, whose places follow one another. The first place of each chunk goes
-//! out to workers through one channel, and the chunk with its answers comes back through another, beside
-//! that place and the inputs themselves. Chunks come in any order. They are put in order, and each
-//! has to be of the inputs that come next; then its answers are moved behind the others in one
-//! step. For answers that come one by one there are pieces: [`gather`] puts each at its place, and
-//! sees that every place has just one piece, which is of the input there.
+//! The inputs are cut into chunks, whose places follow one another. The first place of each chunk
+//! goes out to workers through one channel, and the chunk with its answers comes back through
+//! another, beside that place and the inputs themselves. Chunks come in any order. They are put in
+//! order, and each has to be of the inputs that come next; then its answers are moved behind the
+//! others in one step. For answers that come one by one there are pieces: [`gather`] puts each at
+//! its place, and sees that every place has just one piece, which is of the input there.
 //!
 //! What the answers are follows from what the type of the messages keeps, and not from what
-//! channels do: a chunk, like a [`Piece`], holds what the [`Job`] answers to its inputs, and nothing
-//! else can be made.
+//! channels do: a chunk, like a [`Piece`], holds what the [`Job`] answers to its inputs, and
+//! nothing else can be made.
 //!
 //! # Examples
 //!

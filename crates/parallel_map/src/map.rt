@@ -14,12 +14,12 @@ use std::sync::Wait;
 use std::thread;
 use std::thread::Threads;
 
-/// How many chunks there are for each worker, at least, if a chunk has more than one input: so workers
-/// end at about one time, also where some inputs take longer.
+/// How many chunks there are for each worker, at least, if a chunk has more than one input. So all
+/// workers end at about the same time, also if some inputs take longer.
 const CHUNKS_FOR_EACH_WORKER: usize = 32;
 
-/// The largest chunk of [`map_all`]. The messages for a chunk cost little beside it, and its answers,
-/// if they are numbers, stay in a processor's cache until they are put in their places.
+/// The largest chunk of [`map_all`]. The messages for a chunk cost little beside it, and its
+/// answers, if they are numbers, fit into a processor's cache.
 const LARGEST_CHUNK: usize = 8192;
 
 // How many inputs a chunk has.
@@ -38,16 +38,17 @@ fn chunk_size(count: usize, workers: usize, largest: usize) -> usize
 /// The job's answers for all inputs, in their order, by threads.
 ///
 /// As many threads are started as there are to be workers, or as there are inputs where these are
-/// fewer. They are handed chunks of inputs whose places follow one another, the size of which follows
-/// from the number of inputs and that of workers. At most `cap` chunks are on their way to them at a
-/// time. The gate is called around the job at each input. When the call returns, every thread that it
-/// started has ended. Beside the answers, room is taken for about as many again.
+/// fewer. They are handed chunks of inputs, whose places follow one another. A chunk has one input,
+/// or else each worker has at least 32 chunks of at most 8,192 inputs. At most `cap` chunks are on
+/// their way to the workers at a time. The gate is called around the job at each input. When the
+/// call returns, every thread that it started has ended. Beside the answers, room is taken for
+/// about as many again.
 ///
 /// No inputs have no answers: then nothing is asked for. Else both channels are made first, and may
 /// be refused with `OutOfMemory` or `NoStamps`. Then `NoThread` is answered where a worker couldn't
 /// be started, else `OutOfMemory` where the caller or a worker was refused memory. Else the answers
-/// are put in their places; `Stranger`, `Doubled` or `Missing` says that a chunk isn't of its inputs,
-/// comes twice or is missing.
+/// are put in their places, and a chunk that isn't of its inputs, comes twice or is missing is
+/// answered with `Stranger`, `Doubled` or `Missing` and a place.
 ///
 /// # Examples
 ///
