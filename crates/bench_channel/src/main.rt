@@ -21,6 +21,7 @@ mod job;
 mod maps;
 mod memory;
 mod one_thread;
+mod peers;
 mod report;
 mod tasks;
 mod threads;

@@ -1,4 +1,5 @@
 //! One thread: a message in and out at once, many in and then out, and calls that pass no message.
+use crate::peers::{Crossbeam, Futures, Here, Peer, Tokio, UnboundedFutures, UnboundedTokio};
 use crate::report::{Form, channel, row};
 use anyhow::Result;
 use async_channel::Queue;
@@ -10,35 +11,83 @@ use std::time::Instant;
 /// How many calls, or pairs of them, are made.
 const PAIRS: u64 = 500_000;
 
+/// A message in and out at once, of this channel, of the kit's, and of a locked queue alone.
 pub fn pairs<R>(rt: &R, form: Form<'_>) -> Result<()>
 where
     R: Wait + Clone + Drop + AllocGlobal + Clock + Print,
 {
     for (work, capacity) in [
-        ("1 pair bounded(1)", Some(1)),
-        ("1 pair bounded(1024)", Some(1024)),
-        ("1 pair unbounded", None),
+        ("1 pair bounded(1)", 1),
+        ("1 pair bounded(1024)", 1024),
     ] {
-        pair(rt, form, work, capacity)?;
+        bounded_pairs(rt, form, work, capacity)?;
     }
+    unbounded_pairs(rt, form, "1 pair unbounded")?;
     let ring = Queue::bounded(rt.alloc(), 1024)?;
     locked_pair(rt, form, "1 pair locked queue of 1024", ring)?;
     let deque = Queue::unbounded(rt.alloc());
     locked_pair(rt, form, "1 pair locked queue without a bound", deque)
 }
 
-fn pair<R>(rt: &R, form: Form<'_>, work: &str, capacity: Option<usize>) -> Result<()>
+fn bounded_pairs<R>(rt: &R, form: Form<'_>, work: &str, capacity: usize) -> Result<()>
+where
+    R: Wait + Clone + Drop + AllocGlobal + Clock + Print,
+    requires { 0 < capacity }
+{
+    let (sender, receiver) = channel(rt, Some(capacity))?;
+    pair(rt, form, (work, "here"), Here { sender, receiver })?;
+    let (sender, receiver) = crossbeam_channel::bounded(rt.alloc(), capacity)?;
+    let crossbeam = Crossbeam {
+        rt,
+        sender,
+        receiver,
+    };
+    pair(rt, form, (work, "crossbeam_channel"), crossbeam)?;
+    // Each sender has a place of its own beside the buffer.
+    let (sender, receiver) = futures::channel::mpsc::channel(rt.alloc(), capacity - 1)?;
+    pair(rt, form, (work, "futures"), Futures { sender, receiver })?;
+    let (sender, receiver) = tokio::sync::mpsc::channel(rt.alloc(), capacity)?;
+    pair(rt, form, (work, "tokio"), Tokio { sender, receiver })
+}
+
+fn unbounded_pairs<R>(rt: &R, form: Form<'_>, work: &str) -> Result<()>
 where
     R: Wait + Clone + Drop + AllocGlobal + Clock + Print,
 {
-    let (s, r) = channel(rt, capacity)?;
+    let (sender, receiver) = channel(rt, None)?;
+    pair(rt, form, (work, "here"), Here { sender, receiver })?;
+    let (sender, receiver) = crossbeam_channel::unbounded(rt.alloc())?;
+    let crossbeam = Crossbeam {
+        rt,
+        sender,
+        receiver,
+    };
+    pair(rt, form, (work, "crossbeam_channel"), crossbeam)?;
+    let (sender, receiver) = futures::channel::mpsc::unbounded(rt.alloc())?;
+    let futures = UnboundedFutures { sender, receiver };
+    pair(rt, form, (work, "futures"), futures)?;
+    let (sender, receiver) = tokio::sync::mpsc::unbounded_channel(rt.alloc())?;
+    pair(rt, form, (work, "tokio"), UnboundedTokio { sender, receiver })
+}
+
+/// Pairs on a channel, which is named beside the work.
+fn pair<P: Peer + Drop, R>(
+    rt: &R,
+    form: Form<'_>,
+    (work, name): (&str, &str),
+    mut peer: P,
+) -> Result<()>
+where
+    R: AllocGlobal + Clock + Print,
+{
+    let work = format!(in rt.alloc(); "{work}, {name}")?;
     let mut sum = 0u64;
     let start = Instant::now(rt)?;
     for number in 0..PAIRS {
-        let _ = s.try_send(number);
-        sum = sum.wrapping_add(r.try_recv().unwrap_or(0));
+        peer.send(number);
+        sum = sum.wrapping_add(peer.receive());
     }
-    row(rt, form, work, PAIRS, start, sum)
+    row(rt, form, work.as_str(), PAIRS, start, sum)
 }
 
 /// A pair on a lock round the plain queue, without a channel.
