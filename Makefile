@@ -61,6 +61,7 @@ facts:
 
 bench:
 	cd crates/bench_channel && rt run -- measure
+	tools/held_bytes
 	cd crates/program_chanrun && rt run < ../../examples/tour.chan > /dev/null
 	tools/script_times.py
 	cd crates/program_chanexplore && rt run < stdin > /dev/null

@@ -4,6 +4,7 @@
 //! |---|---|
 //! | `measure` | each of the three tables |
 //! | `measure waiters`, `measure channel`, `measure map` | one of them |
+//! | `held` | a line at each moment whose memory counts, for `tools/held_bytes` |
 //! | a name and digits | the rows of those groups as fields between tabs, for a program that compares several channels |
 //! | others | one line |
 //!
@@ -118,6 +119,7 @@ fn main(rt: HostRuntime) -> Result<()> {
     let second = arguments.next();
     match (word.as_deref(), second.as_deref()) {
         (Some("measure"), table) => tables(&rt, table),
+        (Some("held"), None) => memory::held(&rt),
         (Some(name), Some(groups)) => measure(&rt, Form::Fields(name), groups),
         _ => {
             println!(rt; "bench_channel measures with the argument measure, or a name and groups")?;

@@ -1,13 +1,26 @@
-//! What a place of a bounded channel takes.
+//! What memory a channel takes, and what of it goes back.
+//!
+//! `held` prints a line at each moment at which the bytes that the program holds are counted, by an
+//! allocator that is laid in front of it.
 use crate::report::channel;
 use anyhow::Result;
+use async_channel::{Receiver, Sender};
+use futures::task::Poll;
+use futures::test::MockTask;
 use std::alloc::AllocGlobal;
 use std::fs;
+use std::random::RandomSource;
 use std::rt::Files;
 use std::sync::Wait;
 
 /// How many places the channel has that is looked at.
 const PLACES: u64 = 10_000_000;
+
+/// How many messages go in and out.
+const MESSAGES: u64 = 10_000_000;
+
+/// How many receives wait and are given up.
+const RECEIVES: u64 = 1_000_000;
 
 const PAGE: u64 = 4096;
 
@@ -25,5 +38,42 @@ pub fn report<R: Files + Wait + Clone + Drop + AllocGlobal + Print>(rt: &R) -> R
     let taken = pages(rt)?.saturating_sub(before).saturating_mul(PAGE);
     drop(ends);
     println!(rt; "| bytes of a bounded({PLACES}) | {taken} |")?;
+    Ok(())
+}
+
+/// Lets receives wait, all at once, and gives them up. It answers whether each waited.
+fn wait_and_give_up<R>(rt: &R, receiver: &Receiver<u64, R>) -> Result<bool>
+where
+    R: Wait + Clone + Drop + AllocGlobal + RandomSource,
+{
+    let task = MockTask::new(rt)?;
+    let mut waiting = Vec::new(rt.alloc());
+    let mut all = true;
+    for _ in 0..RECEIVES {
+        let mut recv = receiver.recv();
+        all = matches!(task.poll(&mut recv), Poll::Pending) && all;
+        waiting.push(recv)?;
+    }
+    Ok(all)
+}
+
+/// Sends messages, and receives them.
+fn fill_and_drain<R: Wait + Clone + Drop>(s: &Sender<u64, R>, r: &Receiver<u64, R>) -> bool {
+    let sent = (0..MESSAGES).all(|message| matches!(s.try_send(message), Ok(Ok(()))));
+    sent && (0..MESSAGES).all(|_| r.try_recv().is_ok())
+}
+
+/// Prints a line at each moment that counts.
+pub fn held<R: Wait + Clone + Drop + AllocGlobal + RandomSource + Print>(rt: &R) -> Result<()> {
+    println!(rt; "nothing")?;
+    let ends = channel(rt, Some(1))?;
+    println!(rt; "idle, bounded(1)")?;
+    drop(ends);
+    let (s, r) = channel(rt, None)?;
+    println!(rt; "idle, unbounded")?;
+    anyhow::ensure!(fill_and_drain(&s, &r), "a message was lost");
+    println!(rt; "unbounded, ten million messages in and out")?;
+    anyhow::ensure!(wait_and_give_up(rt, &r)?, "a receive didn't wait");
+    println!(rt; "a million receives that waited and were given up")?;
     Ok(())
 }

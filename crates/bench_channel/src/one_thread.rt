@@ -16,10 +16,7 @@ pub fn pairs<R>(rt: &R, form: Form<'_>) -> Result<()>
 where
     R: Wait + Clone + Drop + AllocGlobal + Clock + Print,
 {
-    for (work, capacity) in [
-        ("1 pair bounded(1)", 1),
-        ("1 pair bounded(1024)", 1024),
-    ] {
+    for (work, capacity) in [("1 pair bounded(1)", 1), ("1 pair bounded(1024)", 1024)] {
         bounded_pairs(rt, form, work, capacity)?;
     }
     unbounded_pairs(rt, form, "1 pair unbounded")?;
@@ -67,7 +64,12 @@ where
     let futures = UnboundedFutures { sender, receiver };
     pair(rt, form, (work, "futures"), futures)?;
     let (sender, receiver) = tokio::sync::mpsc::unbounded_channel(rt.alloc())?;
-    pair(rt, form, (work, "tokio"), UnboundedTokio { sender, receiver })
+    pair(
+        rt,
+        form,
+        (work, "tokio"),
+        UnboundedTokio { sender, receiver },
+    )
 }
 
 /// Pairs on a channel, which is named beside the work.
