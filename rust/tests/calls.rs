@@ -36,6 +36,31 @@ fn an_unbounded_channel_is_never_full() {
 }
 
 #[test]
+fn every_handle_answers_the_questions_alike() {
+    for capacity in [None, Some(1), Some(3)] {
+        for (held, closed) in (0..=capacity.unwrap_or(3)).flat_map(|n| [(n, false), (n, true)]) {
+            let (s, r) = capacity.map_or_else(unbounded, bounded);
+            let (other, upgraded) = (s.clone(), s.downgrade().upgrade().unwrap());
+            let (other_r, upgraded_r) = (r.clone(), r.downgrade().upgrade().unwrap());
+            (0..held).for_each(|message| s.try_send(message).unwrap());
+            assert_eq!(closed, closed && r.close());
+            let right = (held, held == 0, capacity == Some(held), closed, capacity);
+            for s in [&s, &other, &upgraded] {
+                let told = (s.len(), s.is_empty(), s.is_full(), s.is_closed(), s.capacity());
+                assert_eq!(told, right);
+                assert_eq!((s.sender_count(), s.receiver_count()), (3, 3));
+            }
+            for r in [&r, &other_r, &upgraded_r] {
+                let told = (r.len(), r.is_empty(), r.is_full(), r.is_closed(), r.capacity());
+                assert_eq!(told, right);
+                assert_eq!((r.sender_count(), r.receiver_count()), (3, 3));
+                assert_eq!(r.is_terminated(), closed && held == 0);
+            }
+        }
+    }
+}
+
+#[test]
 #[should_panic(expected = "capacity cannot be zero")]
 fn a_channel_without_room_panics() {
     bounded::<u8>(0);
