@@ -1,0 +1,34 @@
+-- What a clause says of a channel's passes and of its answers.
+use Rattle.std.specs.Prelude.{◌≡◌, ℕ, Bool, true, false, not, List, [], ◌∷◌, ◌++◌, Option, Some, None}
+use Rattle.channel_core.specs.Channel.{Channel}
+use Rattle.channel_model.specs.declared.errors.TrySendError.{TrySendError}
+use Rattle.channel_model.specs.declared.errors.TrySendError.TheVariants.{Full, Closed}
+use Rattle.channel_model.specs.declared.errors.TryRecvError.{TryRecvError}
+use Rattle.channel_model.specs.declared.errors.TryRecvError.TheVariants.{Empty, Closed}
+use Rattle.ruled_mutex.specs.declared.pass.Pass.{Pass}
+use Rattle.ruled_mutex.specs.Passes.{IsPassOf as IsMutexPass}
+use Rattle.ruled_channel.specs.declared.ringer.Mark.{Mark}
+use Rattle.ruled_channel.specs.declared.channel.RuledChannel.{RuledChannel}
+use Rattle.ruled_channel.specs.Rule.{IsFilled}
+
+-- it is a pass of this channel
+abbrev pub IsPassOf : {T V P : Type 0} → RuledChannel T V P → Pass (Channel T Mark) V → Type 0
+IsPassOf channel pass = IsMutexPass channel.mutex pass
+
+-- something was learned at one moment, of what there was then
+abbrev pub LearnedOf : {X : Type 0} → (X → Type 0) → Type 0
+LearnedOf {X} fact = (x : X) × fact x
+
+-- Why a send was refused, and what was learned at that moment: the channel was full and open, or it
+-- was closed.
+abbrev pub Refuses : {T : Type 0} → (Option ℕ → Type 0) → (List T → Bool → Type 0) → TrySendError T
+    → Type 0
+Refuses {T} fits fact (Full m) = (messages : List T) × IsFilled fits messages × fact messages false
+Refuses {T} fits fact (Closed m) = LearnedOf (λ messages. fact messages true)
+
+-- Why a receive got no message. Of a channel that is empty and open something is learned; one that
+-- is empty and closed may turn the view.
+abbrev pub FindsNone : {T V : Type 0} → (V → V → Type 0) → (List T → Bool → Type 0) → V → V
+    → TryRecvError → Type 0
+FindsNone then fact v w Empty = (w ≡ v) × fact [] false
+FindsNone then fact v w Closed = then v w

@@ -1,0 +1,263 @@
+//! The channel and its calls that don't wait for others' messages.
+ghost use Rattle.std.specs.Prelude.{◌≡◌, ◌<◌, [], ◌∷◌, false, Some, None, IfOk, IfErr, IfSome};
+ghost use Rattle.crossbeam_utils.specs.Register.{TurnsAt};
+ghost use Rattle.channel_model.specs.Errors.{message_of};
+ghost use Rattle.ruled_mutex.specs.Passes.{IsSamePass, view, number, found, made, Holds};
+ghost use Rattle.ruled_channel.specs.Rule.{Sends, Forces, Receives, Ends, Closes, Forks, Merges, Learns};
+
+use crate::outcomes::{
+    AtEnd, Closed, Displaced, Ended, Forced, Kept, Lesson, Popped, Pushed, Received, Sent, Shut,
+    Undisplaced,
+};
+use crate::protocol::{Protocol, Ruled};
+use crate::ringer::{Mark, Ringer};
+use channel_core::{Core, NoMemory, OutOfMemory, SendError, TryRecvError, TrySendError};
+use ruled_mutex::{Held, Join, Outcome, RuledMutex, Split};
+use std::alloc::Global;
+use std::sync::Wait;
+
+/// What one thread knows of a channel: its view. It has no bytes.
+pub type Pass<T, V> = ruled_mutex::Pass<Core<T, Mark>, V>;
+
+/// A channel under the rule `P`, over messages `T` and over the view `V` of each pass. Threads share
+/// it by reference, each with a pass of its own.
+#[derive(Drop)]
+pub struct RuledChannel<T, V, P: Protocol<T, V>> {
+    mutex: RuledMutex<Core<T, Mark>, V, Ruled<P>>,
+    alloc: Global,
+}
+
+/// An open and empty channel that holds at most `cap` messages, and its first pass. All memory for
+/// messages is taken here, or refused.
+pub fn bounded_with<T: Drop, V, P: Protocol<T, V>>(
+    alloc: Global,
+    cap: usize,
+) -> Result<(RuledChannel<T, V, P>, Pass<T, V>), OutOfMemory>
+    requires cap { 0 < cap }
+    requires fits { P.fits (Some cap) }
+    requires rule { P.holds [] false (P.first ∷ []) }
+    ensures { IfOk result (λ r. IsPassOf r.0 r.1 × (view r.1 ≡ P.first)) }
+{
+    RuledChannel::over(alloc, Core::bounded(alloc, cap)?)
+}
+
+/// An open and empty channel without a capacity, and its first pass.
+pub fn unbounded_with<T: Drop, V, P: Protocol<T, V>>(
+    alloc: Global,
+) -> Result<(RuledChannel<T, V, P>, Pass<T, V>), OutOfMemory>
+    requires fits { P.fits None }
+    requires rule { P.holds [] false (P.first ∷ []) }
+    ensures { IfOk result (λ r. IsPassOf r.0 r.1 × (view r.1 ≡ P.first)) }
+{
+    RuledChannel::over(alloc, Core::unbounded(alloc))
+}
+
+impl<T: Drop, V, P: Protocol<T, V>> RuledChannel<T, V, P> {
+    ghost use Rattle.std.specs.Prelude.{◌≢◌};
+    ghost use Rattle.channel_core.specs.Channel.{new_channel};
+    ghost use Rattle.ruled_channel.specs.Passes.{IsPassOf, Refuses, FindsNone, LearnedOf};
+    ghost use Rattle.ruled_channel.specs.Guarded.{within};
+
+    fn over(
+        alloc: Global,
+        core: Core<T, Mark>,
+    ) -> Result<(RuledChannel<T, V, P>, Pass<T, V>), OutOfMemory>
+        requires new { core ≡ new_channel core.capacity }
+        requires fits { P.fits core.capacity × (core.capacity ≢ Some 0) }
+        requires rule { P.holds [] false (P.first ∷ []) }
+        ensures { IfOk result (λ r. IsPassOf r.0 r.1 × (view r.1 ≡ P.first)) }
+    {
+        match RuledMutex::new(alloc, core) {
+            Ok((mutex, pass)) => Ok((RuledChannel { mutex, alloc }, pass)),
+            Err(_) => Err(OutOfMemory),
+        }
+    }
+
+    /// Cuts a view in two, so that a part of it can go to another thread.
+    pub fn another<M: Split<V>>(&self, pass: &mut Pass<T, V>) -> Pass<T, V>
+        requires own { IsPassOf self.now pass.old }
+        requires rule { Forks P.holds (number pass.old) (view pass.old) (M.left (view pass.old))
+            (M.right (view pass.old)) }
+        ensures own { IsPassOf self.now pass.new × IsSamePass pass.old pass.new }
+        ensures left { view pass.new ≡ M.left (view pass.old) }
+        ensures right { IsPassOf self.now result × (view result ≡ M.right (view pass.old)) }
+    {
+        self.mutex.another::<M>(pass)
+    }
+
+    /// Takes in the view of another pass, which is used up.
+    pub fn absorb<M: Join<V>>(&self, pass: &mut Pass<T, V>, other: Pass<T, V>)
+        requires own { IsPassOf self.now pass.old × IsPassOf self.now other }
+        requires rule { Merges P.holds (number pass.old) (view pass.old) (number other) (view other)
+            (M.both (view pass.old) (view other)) M.spent }
+        ensures own { IsPassOf self.now pass.new × IsSamePass pass.old pass.new }
+        ensures both { view pass.new ≡ M.both (view pass.old) (view other) }
+    {
+        self.mutex.absorb::<M>(pass, other);
+    }
+
+    /// Puts a message last. A full or closed channel hands it back. The outer error, with the
+    /// message, says that memory was refused, which an unbounded channel alone may be.
+    pub fn try_send_as<M: Sent<T, V>, L: Lesson<T, V>, R: Wait>(
+        &self,
+        rt: &R,
+        pass: &mut Pass<T, V>,
+        message: T,
+    ) -> Result<Result<(), TrySendError<T>>, NoMemory<T>>
+        requires own { IsPassOf self.now pass.old }
+        requires rule { Sends P.fits P.holds (number pass.old) (view pass.old) message M.then }
+        requires lesson { Learns P.holds (number pass.old) (view pass.old)
+            (L.fact (view pass.old)) }
+        ensures own { IsPassOf self.now pass.new × IsSamePass pass.old pass.new }
+        ensures sent { IfOk result (λ answer. IfOk answer
+            (λ _. M.then (view pass.old) message (view pass.new))) }
+        ensures refused { IfOk result (λ answer. IfErr answer
+            (λ error. (message_of error ≡ message) × (view pass.new ≡ view pass.old)
+            × Refuses P.fits (L.fact (view pass.old)) error)) }
+        ensures memory { IfErr result
+            (λ error. (error.0 ≡ message) × (view pass.new ≡ view pass.old)) }
+    {
+        let held = self.mutex.lock(rt, pass);
+        let mut bell = Ringer::new();
+        let core = pass.value_mut(&self.mutex, &held);
+        match core.try_send(message, &mut bell) {
+            Ok(Ok(())) => {
+                self.give_back::<Pushed<M>>(pass, held, bell);
+                Ok(Ok(()))
+            }
+            Ok(Err(error)) => {
+                self.give_back::<Kept<L>>(pass, held, bell);
+                Ok(Err(error))
+            }
+            Err(error) => {
+                self.give_back::<Kept<L>>(pass, held, bell);
+                Err(error)
+            }
+        }
+    }
+
+    /// Puts a message last in an open channel. A full one gives its oldest message for it; a closed
+    /// one hands the message back. The outer error, with the message, says that memory was refused,
+    /// which an unbounded channel alone may be.
+    pub fn force_send_as<M: Forced<T, V>, L: Lesson<T, V>, R: Wait>(
+        &self,
+        rt: &R,
+        pass: &mut Pass<T, V>,
+        message: T,
+    ) -> Result<Result<Option<T>, SendError<T>>, NoMemory<T>>
+        requires own { IsPassOf self.now pass.old }
+        requires rule { Forces P.fits P.holds (number pass.old) (view pass.old) message M.then }
+        requires lesson { Learns P.holds (number pass.old) (view pass.old)
+            (L.fact (view pass.old)) }
+        ensures own { IsPassOf self.now pass.new × IsSamePass pass.old pass.new }
+        ensures sent { IfOk result (λ answer. IfOk answer
+            (λ displaced. M.then (view pass.old) displaced message (view pass.new))) }
+        ensures refused { IfOk result (λ answer. IfErr answer
+            (λ error. (error.0 ≡ message) × (view pass.new ≡ view pass.old)
+            × LearnedOf (λ messages. L.fact (view pass.old) messages true))) }
+        ensures memory { IfErr result
+            (λ error. (error.0 ≡ message) × (view pass.new ≡ view pass.old)) }
+    {
+        let held = self.mutex.lock(rt, pass);
+        let mut bell = Ringer::new();
+        let core = pass.value_mut(&self.mutex, &held);
+        match core.force_send(message, &mut bell) {
+            Ok(Ok(None)) => {
+                self.give_back::<Pushed<Undisplaced<M>>>(pass, held, bell);
+                Ok(Ok(None))
+            }
+            Ok(Ok(Some(displaced))) => {
+                self.give_back::<Displaced<M>>(pass, held, bell);
+                Ok(Ok(Some(displaced)))
+            }
+            Ok(Err(error)) => {
+                self.give_back::<Kept<L>>(pass, held, bell);
+                Ok(Err(error))
+            }
+            Err(error) => {
+                self.give_back::<Kept<L>>(pass, held, bell);
+                Err(error)
+            }
+        }
+    }
+
+    /// Takes the oldest message. If none is held, the error says whether the channel is closed.
+    pub fn try_recv_as<M: Received<T, V>, E: AtEnd<V>, L: Lesson<T, V>, R: Wait>(
+        &self,
+        rt: &R,
+        pass: &mut Pass<T, V>,
+    ) -> Result<T, TryRecvError>
+        requires own { IsPassOf self.now pass.old }
+        requires rule { Receives P.holds (number pass.old) (view pass.old) M.then }
+        requires end { Ends P.holds (number pass.old) (view pass.old) E.then }
+        requires lesson { Learns P.holds (number pass.old) (view pass.old)
+            (L.fact (view pass.old)) }
+        ensures own { IsPassOf self.now pass.new × IsSamePass pass.old pass.new }
+        ensures received { IfOk result
+            (λ message. M.then (view pass.old) message (view pass.new)) }
+        ensures refused { IfErr result (λ error. FindsNone E.then (L.fact (view pass.old))
+            (view pass.old) (view pass.new) error) }
+    {
+        let held = self.mutex.lock(rt, pass);
+        let mut bell = Ringer::new();
+        let core = pass.value_mut(&self.mutex, &held);
+        match core.try_recv(&mut bell) {
+            Ok(message) => {
+                self.give_back::<Popped<M>>(pass, held, bell);
+                Ok(message)
+            }
+            Err(TryRecvError::Empty) => {
+                self.give_back::<Kept<L>>(pass, held, bell);
+                Err(TryRecvError::Empty)
+            }
+            Err(TryRecvError::Closed) => {
+                self.give_back::<Ended<E>>(pass, held, bell);
+                Err(TryRecvError::Closed)
+            }
+        }
+    }
+
+    /// Closes the channel, and answers whether it was open. What it holds can be received still, and
+    /// nothing can be sent.
+    pub fn close_as<M: Closed<V>, R: Wait>(&self, rt: &R, pass: &mut Pass<T, V>) -> bool
+        requires own { IsPassOf self.now pass.old }
+        requires rule { Closes P.holds (number pass.old) (view pass.old) M.then }
+        ensures own { IsPassOf self.now pass.new × IsSamePass pass.old pass.new }
+        ensures closed { M.then (view pass.old) result (view pass.new) }
+    {
+        let held = self.mutex.lock(rt, pass);
+        let mut bell = Ringer::new();
+        let was_open = pass.value_mut(&self.mutex, &held).close(&mut bell);
+        self.give_back::<Shut<M>>(pass, held, bell);
+        was_open
+    }
+
+    /// Learns what the rule says at one moment of the call.
+    pub fn learn_as<L: Lesson<T, V>, R: Wait>(&self, rt: &R, pass: &mut Pass<T, V>)
+        requires own { IsPassOf self.now pass.old }
+        requires rule { Learns P.holds (number pass.old) (view pass.old) (L.fact (view pass.old)) }
+        ensures own { IsPassOf self.now pass.new × IsSamePass pass.old pass.new }
+        ensures same { view pass.new ≡ view pass.old }
+        ensures learned { LearnedOf (λ messages. LearnedOf (L.fact (view pass.old) messages)) }
+    {
+        let held = self.mutex.lock(rt, pass);
+        self.mutex.unlock_as::<Kept<L>>(pass, held);
+    }
+
+    // Gives the lock back by a step of the rule, and wakes whoever the step told.
+    fn give_back<O: Outcome<Core<T, Mark>, V>>(
+        &self,
+        pass: &mut Pass<T, V>,
+        held: Held<Core<T, Mark>>,
+        bell: Ringer,
+    )
+        requires own { Holds self.now.mutex held pass.old }
+        requires rule { TurnsAt (within P.fits P.holds) (number pass.old) (view pass.old)
+            (found held) (made held pass.old) O.then }
+        ensures own { IsPassOf self.now pass.new × IsSamePass pass.old pass.new }
+        ensures rule { O.then (view pass.old) (found held) (made held pass.old) (view pass.new) }
+    {
+        self.mutex.unlock_as::<O>(pass, held);
+        bell.wake();
+    }
+}

@@ -1,0 +1,14 @@
+//! A channel under a caller's rule over the messages that it holds, whether it is closed, and what
+//! each pass knows.
+#![tactic(auto)]
+
+mod channel;
+mod outcomes;
+mod protocol;
+mod ringer;
+
+pub use channel::{Pass, RuledChannel, bounded_with, unbounded_with};
+pub use channel_core::{NoMemory, OutOfMemory, RecvError, SendError, TryRecvError, TrySendError};
+pub use outcomes::{AtEnd, Closed, Forced, Lesson, Received, Sent};
+pub use protocol::Protocol;
+pub use ruled_mutex::{Join, Split, Unruled};

@@ -1,0 +1,123 @@
+//! What each answer tells.
+ghost use Rattle.std.specs.Prelude.{◌≡◌, List, Bool, Option, None};
+ghost use Rattle.ruled_channel.specs.Guarded.{pushed, displaced, popped, ended, shut, kept};
+
+use crate::ringer::Mark;
+use channel_core::Core;
+use ruled_mutex::{Outcome, Unruled};
+use std::marker::PhantomData;
+
+/// What a send tells: of the view before, the message and the view after.
+pub trait Sent<T, V> {
+    ghost then: { V → T → V → Type 0 };
+}
+
+/// What a send tells that was forced: of the view before, the message that it displaced, if it did,
+/// its own message and the view after.
+pub trait Forced<T, V> {
+    ghost then: { V → Option T → T → V → Type 0 };
+}
+
+/// What a receive tells: of the view before, the message and the view after.
+pub trait Received<T, V> {
+    ghost then: { V → T → V → Type 0 };
+}
+
+/// What a receive tells that finds the channel closed and empty: of the view before and after.
+pub trait AtEnd<V> {
+    ghost then: { V → V → Type 0 };
+}
+
+/// What closing tells: of the view before, whether the channel was open, and the view after.
+pub trait Closed<V> {
+    ghost then: { V → Bool → V → Type 0 };
+}
+
+/// What a pass learns from the rule at one moment: of its view, the messages held and whether the
+/// channel is closed.
+pub trait Lesson<T, V> {
+    ghost fact: { V → List T → Bool → Type 0 };
+}
+
+impl<T, V> Sent<T, V> for Unruled {
+    ghost then = { λ _ _ _. Unit {0} };
+}
+
+impl<T, V> Forced<T, V> for Unruled {
+    ghost then = { λ _ _ _ _. Unit {0} };
+}
+
+impl<T, V> Received<T, V> for Unruled {
+    ghost then = { λ _ _ _. Unit {0} };
+}
+
+impl<V> AtEnd<V> for Unruled {
+    ghost then = { λ _ _. Unit {0} };
+}
+
+impl<V> Closed<V> for Unruled {
+    ghost then = { λ _ _ _. Unit {0} };
+}
+
+impl<T, V> Lesson<T, V> for Unruled {
+    ghost fact = { λ _ _ _. Unit {0} };
+}
+
+// The same, of what the lock guards.
+
+pub(crate) struct Pushed<M> {
+    sent: PhantomData<M>,
+}
+
+impl<T, V, M: Sent<T, V>> Outcome<Core<T, Mark>, V> for Pushed<M> {
+    ghost then = { pushed M.then };
+}
+
+/// A send that displaced nothing.
+pub(crate) struct Undisplaced<M> {
+    forced: PhantomData<M>,
+}
+
+impl<T, V, M: Forced<T, V>> Sent<T, V> for Undisplaced<M> {
+    ghost then = { λ v m w. M.then v None m w };
+}
+
+pub(crate) struct Displaced<M> {
+    forced: PhantomData<M>,
+}
+
+impl<T, V, M: Forced<T, V>> Outcome<Core<T, Mark>, V> for Displaced<M> {
+    ghost then = { displaced M.then };
+}
+
+pub(crate) struct Popped<M> {
+    received: PhantomData<M>,
+}
+
+impl<T, V, M: Received<T, V>> Outcome<Core<T, Mark>, V> for Popped<M> {
+    ghost then = { popped M.then };
+}
+
+pub(crate) struct Ended<E> {
+    end: PhantomData<E>,
+}
+
+impl<T, V, E: AtEnd<V>> Outcome<Core<T, Mark>, V> for Ended<E> {
+    ghost then = { ended E.then };
+}
+
+pub(crate) struct Shut<M> {
+    closed: PhantomData<M>,
+}
+
+impl<T, V, M: Closed<V>> Outcome<Core<T, Mark>, V> for Shut<M> {
+    ghost then = { shut M.then };
+}
+
+pub(crate) struct Kept<L> {
+    learned: PhantomData<L>,
+}
+
+impl<T, V, L: Lesson<T, V>> Outcome<Core<T, Mark>, V> for Kept<L> {
+    ghost then = { kept L.fact };
+}

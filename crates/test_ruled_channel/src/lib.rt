@@ -1,0 +1,5 @@
+//! Tests of a channel under a rule, by public calls alone.
+#![tactic(auto)]
+
+#[cfg(test)]
+mod tests;
