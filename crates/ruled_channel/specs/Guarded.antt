@@ -31,5 +31,7 @@ module _ {T V W : Type 0} where
   abbrev pub shut : (V → Bool → V → Type 0) → V → Channel T W → Channel T W → V → Type 0
   shut then v found now w = then v (not found.closed) w
 
-  abbrev pub kept : (V → List T → Bool → Type 0) → V → Channel T W → Channel T W → V → Type 0
-  kept fact v found now w = (w ≡ v) × fact v found.messages found.closed
+  abbrev pub kept : (Option ℕ → Type 0) → (V → List T → Bool → Type 0) → V → Channel T W
+      → Channel T W → V → Type 0
+  kept fits fact v found now w =
+      (w ≡ v) × fits found.capacity × fact v found.messages found.closed

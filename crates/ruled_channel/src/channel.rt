@@ -1,5 +1,5 @@
 //! The channel and its calls that don't wait for others' messages.
-ghost use Rattle.std.specs.Prelude.{◌≡◌, ◌<◌, [], ◌∷◌, false, Some, None, IfOk, IfErr, IfSome};
+ghost use Rattle.std.specs.Prelude.{◌≡◌, [], ◌∷◌, false, true, Some, IfOk, IfErr};
 ghost use Rattle.crossbeam_utils.specs.Register.{TurnsAt};
 ghost use Rattle.channel_model.specs.Errors.{message_of};
 ghost use Rattle.ruled_mutex.specs.Passes.{IsSamePass, view, number, found, made, Holds};
@@ -23,33 +23,8 @@ pub type Pass<T, V> = ruled_mutex::Pass<Core<T, Mark>, V>;
 /// it by reference, each with a pass of its own.
 #[derive(Drop)]
 pub struct RuledChannel<T, V, P: Protocol<T, V>> {
-    mutex: RuledMutex<Core<T, Mark>, V, Ruled<P>>,
-    alloc: Global,
-}
-
-/// An open and empty channel that holds at most `cap` messages, and its first pass. All memory for
-/// messages is taken here, or refused.
-pub fn bounded_with<T: Drop, V, P: Protocol<T, V>>(
-    alloc: Global,
-    cap: usize,
-) -> Result<(RuledChannel<T, V, P>, Pass<T, V>), OutOfMemory>
-    requires cap { 0 < cap }
-    requires fits { P.fits (Some cap) }
-    requires rule { P.holds [] false (P.first ∷ []) }
-    ensures { IfOk result (λ r. IsPassOf r.0 r.1 × (view r.1 ≡ P.first)) }
-{
-    RuledChannel::over(alloc, Core::bounded(alloc, cap)?)
-}
-
-/// An open and empty channel without a capacity, and its first pass.
-pub fn unbounded_with<T: Drop, V, P: Protocol<T, V>>(
-    alloc: Global,
-) -> Result<(RuledChannel<T, V, P>, Pass<T, V>), OutOfMemory>
-    requires fits { P.fits None }
-    requires rule { P.holds [] false (P.first ∷ []) }
-    ensures { IfOk result (λ r. IsPassOf r.0 r.1 × (view r.1 ≡ P.first)) }
-{
-    RuledChannel::over(alloc, Core::unbounded(alloc))
+    pub(crate) mutex: RuledMutex<Core<T, Mark>, V, Ruled<P>>,
+    pub(crate) alloc: Global,
 }
 
 impl<T: Drop, V, P: Protocol<T, V>> RuledChannel<T, V, P> {
@@ -58,7 +33,7 @@ impl<T: Drop, V, P: Protocol<T, V>> RuledChannel<T, V, P> {
     ghost use Rattle.ruled_channel.specs.Passes.{IsPassOf, Refuses, FindsNone, LearnedOf};
     ghost use Rattle.ruled_channel.specs.Guarded.{within};
 
-    fn over(
+    pub(crate) fn over(
         alloc: Global,
         core: Core<T, Mark>,
     ) -> Result<(RuledChannel<T, V, P>, Pass<T, V>), OutOfMemory>
@@ -126,11 +101,11 @@ impl<T: Drop, V, P: Protocol<T, V>> RuledChannel<T, V, P> {
                 Ok(Ok(()))
             }
             Ok(Err(error)) => {
-                self.give_back::<Kept<L>>(pass, held, bell);
+                self.give_back::<Kept<P, L>>(pass, held, bell);
                 Ok(Err(error))
             }
             Err(error) => {
-                self.give_back::<Kept<L>>(pass, held, bell);
+                self.give_back::<Kept<P, L>>(pass, held, bell);
                 Err(error)
             }
         }
@@ -171,11 +146,11 @@ impl<T: Drop, V, P: Protocol<T, V>> RuledChannel<T, V, P> {
                 Ok(Ok(Some(displaced)))
             }
             Ok(Err(error)) => {
-                self.give_back::<Kept<L>>(pass, held, bell);
+                self.give_back::<Kept<P, L>>(pass, held, bell);
                 Ok(Err(error))
             }
             Err(error) => {
-                self.give_back::<Kept<L>>(pass, held, bell);
+                self.give_back::<Kept<P, L>>(pass, held, bell);
                 Err(error)
             }
         }
@@ -207,7 +182,7 @@ impl<T: Drop, V, P: Protocol<T, V>> RuledChannel<T, V, P> {
                 Ok(message)
             }
             Err(TryRecvError::Empty) => {
-                self.give_back::<Kept<L>>(pass, held, bell);
+                self.give_back::<Kept<P, L>>(pass, held, bell);
                 Err(TryRecvError::Empty)
             }
             Err(TryRecvError::Closed) => {
@@ -241,11 +216,11 @@ impl<T: Drop, V, P: Protocol<T, V>> RuledChannel<T, V, P> {
         ensures learned { LearnedOf (λ messages. LearnedOf (L.fact (view pass.old) messages)) }
     {
         let held = self.mutex.lock(rt, pass);
-        self.mutex.unlock_as::<Kept<L>>(pass, held);
+        self.mutex.unlock_as::<Kept<P, L>>(pass, held);
     }
 
     // Gives the lock back by a step of the rule, and wakes whoever the step told.
-    fn give_back<O: Outcome<Core<T, Mark>, V>>(
+    pub(crate) fn give_back<O: Outcome<Core<T, Mark>, V>>(
         &self,
         pass: &mut Pass<T, V>,
         held: Held<Core<T, Mark>>,

@@ -2,6 +2,7 @@
 ghost use Rattle.std.specs.Prelude.{◌≡◌, List, Bool, Option, None};
 ghost use Rattle.ruled_channel.specs.Guarded.{pushed, displaced, popped, ended, shut, kept};
 
+use crate::protocol::Protocol;
 use crate::ringer::Mark;
 use channel_core::Core;
 use ruled_mutex::{Outcome, Unruled};
@@ -114,10 +115,10 @@ impl<T, V, M: Closed<V>> Outcome<Core<T, Mark>, V> for Shut<M> {
     ghost then = { shut M.then };
 }
 
-pub(crate) struct Kept<L> {
-    learned: PhantomData<L>,
+pub(crate) struct Kept<P, L> {
+    learned: PhantomData<(P, L)>,
 }
 
-impl<T, V, L: Lesson<T, V>> Outcome<Core<T, Mark>, V> for Kept<L> {
-    ghost then = { kept L.fact };
+impl<T, V, P: Protocol<T, V>, L: Lesson<T, V>> Outcome<Core<T, Mark>, V> for Kept<P, L> {
+    ghost then = { kept P.fits L.fact };
 }

@@ -1,13 +1,41 @@
 //! Who sleeps at a channel, and the bell that wakes.
 
-use channel_core::Bell;
-use std::sync::Arc;
+use channel_core::{Bell, OutOfMemory};
+use std::alloc::Global;
+use std::sync::{Arc, Wait};
 use std::thread::Parker;
 
 /// The cell at which a thread sleeps until it is told.
 #[derive(Drop)]
 pub struct Mark {
-    pub(crate) cell: Arc<Parker>,
+    cell: Arc<Parker>,
+}
+
+/// A blocked call's own end of its mark.
+#[derive(Drop)]
+pub(crate) struct Sleeper {
+    cell: Arc<Parker>,
+}
+
+impl Sleeper {
+    pub(crate) fn new(alloc: Global) -> Result<Sleeper, OutOfMemory> {
+        match Arc::new(alloc, Parker::new()) {
+            Ok(cell) => Ok(Sleeper { cell }),
+            Err(_) => Err(OutOfMemory),
+        }
+    }
+
+    pub(crate) fn mark(&self) -> Result<Mark, OutOfMemory> {
+        match Arc::try_clone(&self.cell) {
+            Ok(cell) => Ok(Mark { cell }),
+            Err(_) => Err(OutOfMemory),
+        }
+    }
+
+    /// Sleeps until its mark is rung.
+    pub(crate) fn sleep<R: Wait>(&self, rt: &R) {
+        self.cell.park(rt);
+    }
 }
 
 /// The bell of one step. It keeps the first mark until the lock is free, so that who is woken

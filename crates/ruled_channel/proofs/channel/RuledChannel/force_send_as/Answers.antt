@@ -1,0 +1,20 @@
+use Rattle.std.proofs.Common.{Ok, refl, sym, ap, ◌∙◌}
+use Rattle.ruled_mutex.specs.Passes.{found}
+use Rattle.ruled_channel.proofs.Answered.{alike, forced_err, forced_some}
+use Rattle.ruled_channel.proofs.Steps.{keeps, displaces}
+use Rattle.ruled_channel.proofs.channel.RuledChannel.force_send_as.Goals as goal
+
+pub give_back-requires-in-Ok-Ok-Some-clause-rule : goal.give_back-requires-in-Ok-Ok-Some-clause-rule
+give_back-requires-in-Ok-Ok-Some-clause-rule g c = let same = c.lock-held.ensures.same in let shows = c.value_mut-core.ensures.value ∙ c.lock-held.ensures.held.1 in
+    let here = c.in-Ok-Ok-Some in
+    let told = forced_some c.value_mut-core.result.now c.force_send.new.self here.displaced c.args.message _ _ _ refl (sym (here.field-0-is ∙ ap Ok here.field-0-0-is) ∙ here.ensures.reply) here.ensures.after in
+    displaces c.value_mut-core.result.now c.force_send.new.self g.P.Protocol.fits g.P.Protocol.holds (found c.lock-held.result) _ _ _ _ here.displaced c.args.message g.M.Forced.then same.0.1 same.1 shows told.0 told.1 told.2 told.3 c.requires.rule.1
+
+pub give_back-requires-in-Ok-Err-clause-rule : goal.give_back-requires-in-Ok-Err-clause-rule
+give_back-requires-in-Ok-Err-clause-rule g c = let same = c.lock-held.ensures.same in let shows = c.value_mut-core.ensures.value ∙ c.lock-held.ensures.held.1 in
+    let none = forced_err c.value_mut-core.result.now c.force_send.new.self _ _ _ _ _ (sym c.in-Ok-Err.field-0-is ∙ c.in-Ok-Err.ensures.reply) c.in-Ok-Err.ensures.after in
+    keeps c.value_mut-core.result.now c.force_send.new.self g.P.Protocol.fits g.P.Protocol.holds (found c.lock-held.result) g.L.Lesson.fact _ _ _ _ same.0.1 same.1 shows (alike _ _ none.2) c.requires.lesson
+
+pub give_back-requires-in-Err-clause-rule : goal.give_back-requires-in-Err-clause-rule
+give_back-requires-in-Err-clause-rule g c = let same = c.lock-held.ensures.same in let shows = c.value_mut-core.ensures.value ∙ c.lock-held.ensures.held.1 in
+    keeps c.value_mut-core.result.now c.force_send.new.self g.P.Protocol.fits g.P.Protocol.holds (found c.lock-held.result) g.L.Lesson.fact _ _ _ _ same.0.1 same.1 shows (alike _ _ c.in-Err.ensures.unchanged) c.requires.lesson

@@ -1,0 +1,20 @@
+use Rattle.std.proofs.Common.{sym, ◌∙◌}
+use Rattle.ruled_mutex.specs.Passes.{found, view}
+use Rattle.ruled_channel.proofs.Answered.{alike, sent_err, refuses}
+use Rattle.ruled_channel.proofs.Steps.{keeps}
+use Rattle.ruled_channel.proofs.channel.RuledChannel.try_send_as.Goals as goal
+
+pub give_back-requires-in-Ok-Err-clause-rule : goal.give_back-requires-in-Ok-Err-clause-rule
+give_back-requires-in-Ok-Err-clause-rule g c = let same = c.lock-held.ensures.same in let shows = c.value_mut-core.ensures.value ∙ c.lock-held.ensures.held.1 in
+    let none = sent_err c.value_mut-core.result.now c.try_send.new.self _ _ _ _ (sym c.in-Ok-Err.field-0-is ∙ c.in-Ok-Err.ensures.reply) c.in-Ok-Err.ensures.after in
+    keeps c.value_mut-core.result.now c.try_send.new.self g.P.Protocol.fits g.P.Protocol.holds (found c.lock-held.result) g.L.Lesson.fact _ _ _ _ same.0.1 same.1 shows (alike _ _ none) c.requires.lesson
+
+pub give_back-requires-in-Err-clause-rule : goal.give_back-requires-in-Err-clause-rule
+give_back-requires-in-Err-clause-rule g c = let same = c.lock-held.ensures.same in let shows = c.value_mut-core.ensures.value ∙ c.lock-held.ensures.held.1 in
+    keeps c.value_mut-core.result.now c.try_send.new.self g.P.Protocol.fits g.P.Protocol.holds (found c.lock-held.result) g.L.Lesson.fact _ _ _ _ same.0.1 same.1 shows (alike _ _ c.in-Err.ensures.unchanged) c.requires.lesson
+
+pub returns-in-Ok-Err-clause-refused : goal.returns-in-Ok-Err-clause-refused
+returns-in-Ok-Err-clause-refused g c = let same = c.lock-held.ensures.same in let shows = c.value_mut-core.ensures.value ∙ c.lock-held.ensures.held.1 in
+    let here = c.in-Ok-Err in let told = c.give_back-in-Ok-Err.ensures.rule in
+    let says = refuses c.value_mut-core.result.now c.try_send.new.self g.P.Protocol.fits g.L.Lesson.fact (view c.args.pass.now) _ (found c.lock-held.result) c.args.message here.error same.1 shows (sym here.field-0-is ∙ here.ensures.reply) told.1 told.2 in
+    (says.0, told.0 ∙ same.1, says.1)

@@ -1,0 +1,34 @@
+//! How a channel is made.
+ghost use Rattle.std.specs.Prelude.{◌≡◌, ◌<◌, [], ◌∷◌, false, Some, None, IfOk};
+ghost use Rattle.ruled_mutex.specs.Passes.{view};
+ghost use Rattle.ruled_channel.specs.Passes.{IsPassOf};
+
+use crate::channel::{Pass, RuledChannel};
+use crate::protocol::Protocol;
+use channel_core::{Core, OutOfMemory};
+use std::alloc::Global;
+
+/// An open and empty channel that holds at most `cap` messages, and its first pass. All memory for
+/// messages is taken here, or refused.
+pub fn bounded_with<T: Drop, V, P: Protocol<T, V>>(
+    alloc: Global,
+    cap: usize,
+) -> Result<(RuledChannel<T, V, P>, Pass<T, V>), OutOfMemory>
+    requires cap { 0 < cap }
+    requires fits { P.fits (Some cap) }
+    requires rule { P.holds [] false (P.first ∷ []) }
+    ensures { IfOk result (λ r. IsPassOf r.0 r.1 × (view r.1 ≡ P.first)) }
+{
+    RuledChannel::over(alloc, Core::bounded(alloc, cap)?)
+}
+
+/// An open and empty channel without a capacity, and its first pass.
+pub fn unbounded_with<T: Drop, V, P: Protocol<T, V>>(
+    alloc: Global,
+) -> Result<(RuledChannel<T, V, P>, Pass<T, V>), OutOfMemory>
+    requires fits { P.fits None }
+    requires rule { P.holds [] false (P.first ∷ []) }
+    ensures { IfOk result (λ r. IsPassOf r.0 r.1 × (view r.1 ≡ P.first)) }
+{
+    RuledChannel::over(alloc, Core::unbounded(alloc))
+}
