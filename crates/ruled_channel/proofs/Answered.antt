@@ -72,7 +72,7 @@ module _ {T W : Type 0} (core now : Channel T W) where
       → OnReady {E = OutOfMemory} (Ok poll) (now ≡ (polled_send (Some m) ticket core).channel) → IsAlike
   polled_closed m ticket poll error is reply after = let base = record core { sends = left ticket core.sends } in
       alike_sends (left ticket core.sends) (closes m error base core.closed (is_channel_full core) (sym is ∙ reply)
-        (subst (λ p. OnReady {E = OutOfMemory} (Ok p) (now ≡ (polled_send (Some m) ticket core).channel)) is after))
+      (subst (λ p. OnReady {E = OutOfMemory} (Ok p) (now ≡ (polled_send (Some m) ticket core).channel)) is after))
 
   -- one that waits changes its list alone
   pub send_waits : (m : T) (ticket ticket' : Option ℕ) (w : W) (poll : Poll (Result (Unit {0}) (SendError T))) → poll ≡ Pending

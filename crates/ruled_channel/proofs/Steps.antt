@@ -44,11 +44,13 @@ module _ {T V W : Type 0} (core now : Channel T W) (fits : Option ℕ → Type 0
   displaces found pass pass' v v' d m then p q shows opened full oldest is asked = moved (within fits holds) (displaced then) pass pass' v v' core found now p q shows
       λ views h at. let rest = drop 1 core.messages in
       let t = asked d rest views (core.capacity, h.0, subst (λ l. is_full core.capacity l ≡ true) oldest full)
-          (subst (λ (z : List T × Bool). holds z.0 z.1 views) (λ i. (oldest i, opened i)) h.2) at in (
+      (subst (λ (z : List T × Bool). holds z.0 z.1 views) (λ i. (oldest i, opened i)) h.2) at in (
         t.0,
         subst (λ n. within fits holds n (slice_set views pass t.0)) (sym is)
             (h.0, h.1, subst (λ b. holds (rest ++ m ∷ []) b (slice_set views pass t.0)) (sym opened) t.1),
         λ d' m' rest' was now_is. subst (λ (z : T × T). then v (Some z.0) z.1 t.0)
-            (λ i. (ap (λ l. get_or l 0 d) (sym oldest ∙ was) i,
-              last_same rest m m' (sym (ap (λ (n : Channel T W). n.messages) is) ∙ now_is ∙ ap (λ l. l ++ m' ∷ []) (sym (ap (drop 1) was))) i)) t.2,
+            (λ i. (
+              ap (λ l. get_or l 0 d) (sym oldest ∙ was) i,
+              last_same rest m m' (sym (ap (λ (n : Channel T W). n.messages) is) ∙ now_is ∙ ap (λ l. l ++ m' ∷ []) (sym (ap (drop 1) was))) i,
+            )) t.2,
       )

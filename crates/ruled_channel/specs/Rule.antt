@@ -18,25 +18,25 @@ IsFilled fits messages =
     (capacity : Option ℕ) × fits capacity × (is_full capacity messages ≡ true)
 
 module _ {T V : Type 0} (fits : Option ℕ → Type 0) (holds : List T → Bool → List V → Type 0)
-    where
-  -- whatever an open channel with room holds, and whatever the others know, the rule stays when m
-  -- joins at the back, and this pass's view becomes some w
-  abbrev pub Sends : ℕ → V → T → (V → T → V → Type 0) → Type 0
-  Sends pass v m then =
-      (messages : List T) (views : List V) → HasRoom fits messages → holds messages false views
-      → get_elem? views pass ≡ some v
-      → (w : V) × holds (messages ++ m ∷ []) false (slice_set views pass w) × then v m w
+  where
+    -- whatever an open channel with room holds, and whatever the others know, the rule stays when m
+    -- joins at the back, and this pass's view becomes some w
+    abbrev pub Sends : ℕ → V → T → (V → T → V → Type 0) → Type 0
+    Sends pass v m then =
+        (messages : List T) (views : List V) → HasRoom fits messages → holds messages false views
+        → get_elem? views pass ≡ some v
+        → (w : V) × holds (messages ++ m ∷ []) false (slice_set views pass w) × then v m w
 
-  -- the same of a full channel, where d leaves at the front and m joins at the back
-  abbrev pub Displaces : ℕ → V → T → (V → Option T → T → V → Type 0) → Type 0
-  Displaces pass v m then =
-      (d : T) (messages : List T) (views : List V) → IsFilled fits (d ∷ messages)
-      → holds (d ∷ messages) false views → get_elem? views pass ≡ some v
-      → (w : V) × holds (messages ++ m ∷ []) false (slice_set views pass w) × then v (Some d) m w
+    -- the same of a full channel, where d leaves at the front and m joins at the back
+    abbrev pub Displaces : ℕ → V → T → (V → Option T → T → V → Type 0) → Type 0
+    Displaces pass v m then =
+        (d : T) (messages : List T) (views : List V) → IsFilled fits (d ∷ messages)
+        → holds (d ∷ messages) false views → get_elem? views pass ≡ some v
+        → (w : V) × holds (messages ++ m ∷ []) false (slice_set views pass w) × then v (Some d) m w
 
-  -- a send that is forced does the one or the other
-  abbrev pub Forces : ℕ → V → T → (V → Option T → T → V → Type 0) → Type 0
-  Forces pass v m then = Sends pass v m (λ u x w. then u None x w) × Displaces pass v m then
+    -- a send that is forced does the one or the other
+    abbrev pub Forces : ℕ → V → T → (V → Option T → T → V → Type 0) → Type 0
+    Forces pass v m then = Sends pass v m (λ u x w. then u None x w) × Displaces pass v m then
 
 module _ {T V : Type 0} (holds : List T → Bool → List V → Type 0) where
   -- the same when a message leaves at the front

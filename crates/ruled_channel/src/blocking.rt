@@ -12,7 +12,9 @@ use crate::channel::{Pass, RuledChannel};
 use crate::outcomes::{AtEnd, Ended, Kept, Lesson, Popped, Pushed, Received, Sent};
 use crate::protocol::Protocol;
 use crate::ringer::{Ringer, Sleeper};
-use channel_core::{NoMemory, OutOfMemory, RecvError, SendError, Ticket, TryRecvError, TrySendError};
+use channel_core::{
+    NoMemory, OutOfMemory, RecvError, SendError, Ticket, TryRecvError, TrySendError,
+};
 use futures::task::Poll;
 use ruled_mutex::Unruled;
 use std::sync::Wait;
@@ -20,6 +22,14 @@ use std::sync::Wait;
 impl<T: Drop, V, P: Protocol<T, V>> RuledChannel<T, V, P> {
     /// Puts a message last, and blocks its thread while the channel is full. A closed channel hands
     /// it back. The outer error, with the message, says that memory was refused.
+    ///
+    /// ```
+    /// let (channel, mut pass) = bounded_with::<u64, (), Unruled>(rt.alloc(), 1)?;
+    /// let sent = channel.send_blocking_as::<Unruled, Unruled, _>(&rt, &mut pass, 5)?;
+    /// assert_eq!(rt; sent, Ok(()));
+    /// let got = channel.recv_blocking_as::<Unruled, Unruled, _>(&rt, &mut pass)?;
+    /// assert_eq!(rt; got, Ok(5));
+    /// ```
     pub fn send_blocking_as<M: Sent<T, V>, L: Lesson<T, V>, R: Wait>(
         &self,
         rt: &R,
@@ -49,6 +59,13 @@ impl<T: Drop, V, P: Protocol<T, V>> RuledChannel<T, V, P> {
 
     /// Takes the oldest message, and blocks its thread while the channel is empty and open. The
     /// outer error says that memory was refused.
+    ///
+    /// ```
+    /// let (channel, mut pass) = bounded_with::<u64, (), Unruled>(rt.alloc(), 1)?;
+    /// assert!(rt; channel.close_as::<Unruled, _>(&rt, &mut pass));
+    /// let end = channel.recv_blocking_as::<Unruled, Unruled, _>(&rt, &mut pass)?;
+    /// assert_eq!(rt; end, Err(RecvError));
+    /// ```
     pub fn recv_blocking_as<M: Received<T, V>, E: AtEnd<V>, R: Wait>(
         &self,
         rt: &R,
@@ -251,7 +268,8 @@ impl<T: Drop, V, P: Protocol<T, V>> RuledChannel<T, V, P> {
     {
         let held = self.mutex.lock(rt, pass);
         let mut bell = Ringer::new();
-        pass.value_mut(&self.mutex, &held).cancel_send(ticket, &mut bell);
+        pass.value_mut(&self.mutex, &held)
+            .cancel_send(ticket, &mut bell);
         self.give_back::<Kept<P, Unruled>>(pass, held, bell);
     }
 
@@ -263,7 +281,8 @@ impl<T: Drop, V, P: Protocol<T, V>> RuledChannel<T, V, P> {
     {
         let held = self.mutex.lock(rt, pass);
         let mut bell = Ringer::new();
-        pass.value_mut(&self.mutex, &held).cancel_recv(ticket, &mut bell);
+        pass.value_mut(&self.mutex, &held)
+            .cancel_recv(ticket, &mut bell);
         self.give_back::<Kept<P, Unruled>>(pass, held, bell);
     }
 }

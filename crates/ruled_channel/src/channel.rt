@@ -17,10 +17,21 @@ use std::alloc::Global;
 use std::sync::Wait;
 
 /// What one thread knows of a channel: its view. It has no bytes.
+///
+/// ```
+/// let (channel, first): (_, Pass<u64, ()>) = bounded_with::<_, _, Unruled>(rt.alloc(), 1)?;
+/// drop(first);
+/// drop(channel);
+/// ```
 pub type Pass<T, V> = ruled_mutex::Pass<Core<T, Mark>, V>;
 
 /// A channel under the rule `P`, over messages `T` and over the view `V` of each pass. Threads share
 /// it by reference, each with a pass of its own.
+///
+/// ```
+/// let (channel, _): (RuledChannel<u64, (), Unruled>, _) = bounded_with(rt.alloc(), 1)?;
+/// drop(channel);
+/// ```
 #[derive(Drop)]
 pub struct RuledChannel<T, V, P: Protocol<T, V>> {
     pub(crate) mutex: RuledMutex<Core<T, Mark>, V, Ruled<P>>,
@@ -49,6 +60,26 @@ impl<T: Drop, V, P: Protocol<T, V>> RuledChannel<T, V, P> {
     }
 
     /// Cuts a view in two, so that a part of it can go to another thread.
+    ///
+    /// ```
+    /// struct Halves;
+    ///
+    /// impl Split<()> for Halves {
+    ///     ghost left = { λ v. v };
+    ///
+    ///     ghost right = { λ v. v };
+    /// }
+    ///
+    /// impl Join<()> for Halves {
+    ///     ghost both = { λ v w. v };
+    ///
+    ///     ghost spent = { tt };
+    /// }
+    ///
+    /// let (channel, mut pass) = bounded_with::<u64, (), Unruled>(rt.alloc(), 1)?;
+    /// let other = channel.another::<Halves>(&mut pass);
+    /// channel.absorb::<Halves>(&mut pass, other);
+    /// ```
     pub fn another<M: Split<V>>(&self, pass: &mut Pass<T, V>) -> Pass<T, V>
         requires own { IsPassOf self.now pass.old }
         requires rule { Forks P.holds (number pass.old) (view pass.old) (M.left (view pass.old))
@@ -61,6 +92,12 @@ impl<T: Drop, V, P: Protocol<T, V>> RuledChannel<T, V, P> {
     }
 
     /// Takes in the view of another pass, which is used up.
+    ///
+    /// ```
+    /// let (channel, mut pass) = bounded_with::<u64, (), Unruled>(rt.alloc(), 1)?;
+    /// let other = channel.another::<Halves>(&mut pass);
+    /// channel.absorb::<Halves>(&mut pass, other);
+    /// ```
     pub fn absorb<M: Join<V>>(&self, pass: &mut Pass<T, V>, other: Pass<T, V>)
         requires own { IsPassOf self.now pass.old × IsPassOf self.now other }
         requires rule { Merges P.holds (number pass.old) (view pass.old) (number other) (view other)
@@ -73,6 +110,12 @@ impl<T: Drop, V, P: Protocol<T, V>> RuledChannel<T, V, P> {
 
     /// Puts a message last. A full or closed channel hands it back. The outer error, with the
     /// message, says that memory was refused, which an unbounded channel alone may be.
+    ///
+    /// ```
+    /// let (channel, mut pass) = bounded_with::<u64, (), Unruled>(rt.alloc(), 1)?;
+    /// let sent = channel.try_send_as::<Unruled, Unruled, _>(&rt, &mut pass, 5)?;
+    /// assert_eq!(rt; sent, Ok(()));
+    /// ```
     pub fn try_send_as<M: Sent<T, V>, L: Lesson<T, V>, R: Wait>(
         &self,
         rt: &R,
@@ -114,6 +157,14 @@ impl<T: Drop, V, P: Protocol<T, V>> RuledChannel<T, V, P> {
     /// Puts a message last in an open channel. A full one gives its oldest message for it; a closed
     /// one hands the message back. The outer error, with the message, says that memory was refused,
     /// which an unbounded channel alone may be.
+    ///
+    /// ```
+    /// let (channel, mut pass) = bounded_with::<u64, (), Unruled>(rt.alloc(), 1)?;
+    /// let forced = channel.force_send_as::<Unruled, Unruled, _>(&rt, &mut pass, 5)?;
+    /// assert_eq!(rt; forced, Ok(None));
+    /// let forced = channel.force_send_as::<Unruled, Unruled, _>(&rt, &mut pass, 6)?;
+    /// assert_eq!(rt; forced, Ok(Some(5)));
+    /// ```
     pub fn force_send_as<M: Forced<T, V>, L: Lesson<T, V>, R: Wait>(
         &self,
         rt: &R,
@@ -157,6 +208,12 @@ impl<T: Drop, V, P: Protocol<T, V>> RuledChannel<T, V, P> {
     }
 
     /// Takes the oldest message. If none is held, the error says whether the channel is closed.
+    ///
+    /// ```
+    /// let (channel, mut pass) = bounded_with::<u64, (), Unruled>(rt.alloc(), 1)?;
+    /// let none = channel.try_recv_as::<Unruled, Unruled, Unruled, _>(&rt, &mut pass);
+    /// assert_eq!(rt; none, Err(TryRecvError::Empty));
+    /// ```
     pub fn try_recv_as<M: Received<T, V>, E: AtEnd<V>, L: Lesson<T, V>, R: Wait>(
         &self,
         rt: &R,
@@ -194,6 +251,12 @@ impl<T: Drop, V, P: Protocol<T, V>> RuledChannel<T, V, P> {
 
     /// Closes the channel, and answers whether it was open. What it holds can be received still, and
     /// nothing can be sent.
+    ///
+    /// ```
+    /// let (channel, mut pass) = bounded_with::<u64, (), Unruled>(rt.alloc(), 1)?;
+    /// assert!(rt; channel.close_as::<Unruled, _>(&rt, &mut pass));
+    /// assert!(rt; !channel.close_as::<Unruled, _>(&rt, &mut pass));
+    /// ```
     pub fn close_as<M: Closed<V>, R: Wait>(&self, rt: &R, pass: &mut Pass<T, V>) -> bool
         requires own { IsPassOf self.now pass.old }
         requires rule { Closes P.holds (number pass.old) (view pass.old) M.then }
@@ -208,6 +271,11 @@ impl<T: Drop, V, P: Protocol<T, V>> RuledChannel<T, V, P> {
     }
 
     /// Learns what the rule says at one moment of the call.
+    ///
+    /// ```
+    /// let (channel, mut pass) = bounded_with::<u64, (), Unruled>(rt.alloc(), 1)?;
+    /// channel.learn_as::<Unruled, _>(&rt, &mut pass);
+    /// ```
     pub fn learn_as<L: Lesson<T, V>, R: Wait>(&self, rt: &R, pass: &mut Pass<T, V>)
         requires own { IsPassOf self.now pass.old }
         requires rule { Learns P.holds (number pass.old) (view pass.old) (L.fact (view pass.old)) }

@@ -10,6 +10,14 @@ use std::alloc::Global;
 
 /// An open and empty channel that holds at most `cap` messages, and its first pass. All memory for
 /// messages is taken here, or refused.
+///
+/// ```
+/// let (channel, mut pass) = bounded_with::<u64, (), Unruled>(rt.alloc(), 1)?;
+/// let sent = channel.try_send_as::<Unruled, Unruled, _>(&rt, &mut pass, 5)?;
+/// assert_eq!(rt; sent, Ok(()));
+/// let sent = channel.try_send_as::<Unruled, Unruled, _>(&rt, &mut pass, 6)?;
+/// assert_eq!(rt; sent, Err(TrySendError::Full(6)));
+/// ```
 pub fn bounded_with<T: Drop, V, P: Protocol<T, V>>(
     alloc: Global,
     cap: usize,
@@ -23,6 +31,12 @@ pub fn bounded_with<T: Drop, V, P: Protocol<T, V>>(
 }
 
 /// An open and empty channel without a capacity, and its first pass.
+///
+/// ```
+/// let (channel, mut pass) = unbounded_with::<u64, (), Unruled>(rt.alloc())?;
+/// let sent = channel.try_send_as::<Unruled, Unruled, _>(&rt, &mut pass, 5)?;
+/// assert_eq!(rt; sent, Ok(()));
+/// ```
 pub fn unbounded_with<T: Drop, V, P: Protocol<T, V>>(
     alloc: Global,
 ) -> Result<(RuledChannel<T, V, P>, Pass<T, V>), OutOfMemory>

@@ -9,33 +9,71 @@ use ruled_mutex::{Outcome, Unruled};
 use std::marker::PhantomData;
 
 /// What a send tells: of the view before, the message and the view after.
+///
+/// ```
+/// struct Same;
+///
+/// impl<T, V> Sent<T, V> for Same {
+///     ghost then = { λ v m w. w ≡ v };
+/// }
+/// ```
 pub trait Sent<T, V> {
     ghost then: { V → T → V → Type 0 };
 }
 
 /// What a send tells that was forced: of the view before, the message that it displaced, if it did,
 /// its own message and the view after.
+///
+/// ```
+/// impl<T, V> Forced<T, V> for Same {
+///     ghost then = { λ v displaced m w. w ≡ v };
+/// }
+/// ```
 pub trait Forced<T, V> {
     ghost then: { V → Option T → T → V → Type 0 };
 }
 
 /// What a receive tells: of the view before, the message and the view after.
+///
+/// ```
+/// impl<T, V> Received<T, V> for Same {
+///     ghost then = { λ v m w. w ≡ v };
+/// }
+/// ```
 pub trait Received<T, V> {
     ghost then: { V → T → V → Type 0 };
 }
 
 /// What a receive tells that finds the channel closed and empty: of the view before and after.
+///
+/// ```
+/// impl<V> AtEnd<V> for Same {
+///     ghost then = { λ v w. w ≡ v };
+/// }
+/// ```
 pub trait AtEnd<V> {
     ghost then: { V → V → Type 0 };
 }
 
 /// What closing tells: of the view before, whether the channel was open, and the view after.
+///
+/// ```
+/// impl<V> Closed<V> for Same {
+///     ghost then = { λ v was_open w. w ≡ v };
+/// }
+/// ```
 pub trait Closed<V> {
     ghost then: { V → Bool → V → Type 0 };
 }
 
 /// What a pass learns from the rule at one moment: of its view, the messages held and whether the
 /// channel is closed.
+///
+/// ```
+/// impl<T, V> Lesson<T, V> for Same {
+///     ghost fact = { λ v messages closed. Unit {0} };
+/// }
+/// ```
 pub trait Lesson<T, V> {
     ghost fact: { V → List T → Bool → Type 0 };
 }

@@ -8,6 +8,18 @@ use std::marker::PhantomData;
 
 /// The caller's rule: over the messages that the channel holds, the oldest first, whether it is
 /// closed, and what each pass knows.
+///
+/// ```
+/// struct InTwos;
+///
+/// impl<T> Protocol<T, ()> for InTwos {
+///     ghost holds = { λ messages closed views. Unit {0} };
+///
+///     ghost first = { tt };
+///
+///     ghost fits = { λ capacity. capacity ≡ Some 2 };
+/// }
+/// ```
 pub trait Protocol<T, V> {
     ghost holds: { List T → Bool → List V → Type 0 };
 

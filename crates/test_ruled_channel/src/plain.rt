@@ -27,8 +27,7 @@ pub fn send_all<R: Wait>(rt: &R, channel: &Channel, mut pass: Pass<u32, ()>, cou
     requires { IsPassOf channel.now pass }
 {
     for number in 1..=count {
-        let Ok(Ok(())) =
-            channel.send_blocking_as::<Unruled, Unruled, _>(rt, &mut pass, number)
+        let Ok(Ok(())) = channel.send_blocking_as::<Unruled, Unruled, _>(rt, &mut pass, number)
         else {
             return false;
         };
