@@ -131,3 +131,7 @@ module _ {T W : Type 0} (found now : Channel T W) where
   taken_err error true [] e is = (refl, sym (ap (λ r. was_ended (err_of error r)) e), is)
   taken_err error false [] e is = (refl, sym (ap (λ r. was_ended (err_of error r)) e), is)
   taken_err error closed (x ∷ xs) e is = absurd (true≢false (sym (ap is_ok e)))
+
+-- what is known of the capacity of a channel that has none
+pub fits_none : {T W : Type 0} (core found : Channel T W) (fits : Option ℕ → Type 0) → core ≡ found → core.capacity ≡ None → fits found.capacity → fits None
+fits_none {T} {W} core found fits shows none f = subst fits none (subst (λ (c : Channel T W). fits c.capacity) (sym shows) f)

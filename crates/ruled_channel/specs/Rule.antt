@@ -27,7 +27,7 @@ module _ {T V : Type 0} (fits : Option ℕ → Type 0) (holds : List T → Bool 
         → get_elem? views pass ≡ some v
         → (w : V) × holds (messages ++ m ∷ []) false (slice_set views pass w) × then v m w
 
-    -- the same of a full channel, where d leaves at the front and m joins at the back
+    -- the same when a full channel gives d, at its front, for m, at its back
     abbrev pub Displaces : ℕ → V → T → (V → Option T → T → V → Type 0) → Type 0
     Displaces pass v m then =
         (d : T) (messages : List T) (views : List V) → IsFilled fits (d ∷ messages)
@@ -46,7 +46,7 @@ module _ {T V : Type 0} (holds : List T → Bool → List V → Type 0) where
       → holds (m ∷ messages) closed views → get_elem? views pass ≡ some v
       → (w : V) × holds messages closed (slice_set views pass w) × then v m w
 
-  -- the same where a receive finds the channel closed and empty
+  -- the same when a receive finds the channel closed and empty
   abbrev pub Ends : ℕ → V → (V → V → Type 0) → Type 0
   Ends pass v then =
       (views : List V) → holds [] true views → get_elem? views pass ≡ some v

@@ -165,7 +165,7 @@ impl<T: Drop, V, P: Protocol<T, V>> RuledChannel<T, V, P> {
         unreachable!()
     }
 
-    // `try_send_as`, which leaves the sleeper's mark in the list where the channel is full.
+    // `try_send_as`, which leaves the sleeper's mark in the list if the channel is full.
     fn send_or_wait<M: Sent<T, V>, L: Lesson<T, V>, R: Wait>(
         &self,
         rt: &R,
@@ -214,7 +214,7 @@ impl<T: Drop, V, P: Protocol<T, V>> RuledChannel<T, V, P> {
         }
     }
 
-    // `try_recv_as`, which leaves the sleeper's mark in the list where the channel is empty.
+    // `try_recv_as`, which leaves the sleeper's mark in the list if the channel is empty.
     fn recv_or_wait<M: Received<T, V>, E: AtEnd<V>, R: Wait>(
         &self,
         rt: &R,

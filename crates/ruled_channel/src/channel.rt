@@ -1,5 +1,5 @@
 //! The channel and its calls that don't wait for others' messages.
-ghost use Rattle.std.specs.Prelude.{◌≡◌, [], ◌∷◌, false, true, Some, IfOk, IfErr};
+ghost use Rattle.std.specs.Prelude.{◌≡◌, [], ◌∷◌, false, true, Some, None, IfOk, IfErr};
 ghost use Rattle.crossbeam_utils.specs.Register.{TurnsAt};
 ghost use Rattle.channel_model.specs.Errors.{message_of};
 ghost use Rattle.ruled_mutex.specs.Passes.{IsSamePass, view, number, found, made, Holds};
@@ -133,7 +133,7 @@ impl<T: Drop, V, P: Protocol<T, V>> RuledChannel<T, V, P> {
             (λ error. (message_of error ≡ message) × (view pass.new ≡ view pass.old)
             × Refuses P.fits (L.fact (view pass.old)) error)) }
         ensures memory { IfErr result
-            (λ error. (error.0 ≡ message) × (view pass.new ≡ view pass.old)) }
+            (λ error. (error.0 ≡ message) × (view pass.new ≡ view pass.old) × P.fits None) }
     {
         let held = self.mutex.lock(rt, pass);
         let mut bell = Ringer::new();
@@ -182,7 +182,7 @@ impl<T: Drop, V, P: Protocol<T, V>> RuledChannel<T, V, P> {
             (λ error. (error.0 ≡ message) × (view pass.new ≡ view pass.old)
             × LearnedOf (λ messages. L.fact (view pass.old) messages true))) }
         ensures memory { IfErr result
-            (λ error. (error.0 ≡ message) × (view pass.new ≡ view pass.old)) }
+            (λ error. (error.0 ≡ message) × (view pass.new ≡ view pass.old) × P.fits None) }
     {
         let held = self.mutex.lock(rt, pass);
         let mut bell = Ringer::new();

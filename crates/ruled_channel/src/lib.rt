@@ -1,5 +1,24 @@
-//! A channel under a caller's rule over the messages that it holds, whether it is closed, and what
-//! each pass knows.
+//! A channel under a caller's rule over its messages, its closing and what each pass knows.
+//!
+//! A [`Protocol`] states the rule, of the messages, the oldest first, of the closed flag and of the
+//! views of all passes. A [`Pass`] is what one thread has of the channel: a view, and no bytes. A
+//! call whose name ends in `_as` asks for a proof that the rule allows its step, whatever the others
+//! did before, and tells what its answer says of the view: a [`Sent`], a [`Received`] and so on.
+//! So what came through the channel is known once two views are joined.
+//!
+//! Threads share the channel by reference, each with a pass of its own, made by
+//! [`RuledChannel::another`]. It is closed by a call; dropping a pass closes nothing. Under
+//! [`Unruled`], the rule that asks nothing, the calls are plain ones.
+//!
+//! No contract says that a blocked thread is woken, or that a blocking call returns.
+//!
+//! ```
+//! let (channel, mut pass) = bounded_with::<u64, (), Unruled>(rt.alloc(), 1)?;
+//! let sent = channel.try_send_as::<Unruled, Unruled, _>(&rt, &mut pass, 5)?;
+//! assert_eq!(rt; sent, Ok(()));
+//! let got = channel.try_recv_as::<Unruled, Unruled, Unruled, _>(&rt, &mut pass);
+//! assert_eq!(rt; got, Ok(5));
+//! ```
 #![tactic(auto)]
 
 mod blocking;

@@ -12,7 +12,7 @@ use std::alloc::Global;
 /// messages is taken here, or refused.
 ///
 /// ```
-/// let (channel, mut pass) = bounded_with::<u64, (), Unruled>(rt.alloc(), 1)?;
+/// let (channel, mut pass): (RuledChannel<u64, (), Unruled>, _) = bounded_with(rt.alloc(), 1)?;
 /// let sent = channel.try_send_as::<Unruled, Unruled, _>(&rt, &mut pass, 5)?;
 /// assert_eq!(rt; sent, Ok(()));
 /// let sent = channel.try_send_as::<Unruled, Unruled, _>(&rt, &mut pass, 6)?;
@@ -33,7 +33,7 @@ pub fn bounded_with<T: Drop, V, P: Protocol<T, V>>(
 /// An open and empty channel without a capacity, and its first pass.
 ///
 /// ```
-/// let (channel, mut pass) = unbounded_with::<u64, (), Unruled>(rt.alloc())?;
+/// let (channel, mut pass): (RuledChannel<u64, (), Unruled>, _) = unbounded_with(rt.alloc())?;
 /// let sent = channel.try_send_as::<Unruled, Unruled, _>(&rt, &mut pass, 5)?;
 /// assert_eq!(rt; sent, Ok(()));
 /// ```

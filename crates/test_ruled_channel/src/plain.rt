@@ -1,11 +1,13 @@
 //! Threads on a channel under the rule that asks nothing.
 ghost use Rattle.ruled_channel.specs.Passes.{IsPassOf};
 
-use ruled_channel::{Join, Pass, RuledChannel, Split, Unruled};
+use ruled_channel::{Join, RuledChannel, Split, TryRecvError, Unruled};
 use std::sync::Wait;
-use std::thread::{Threads, join};
+use std::thread::{Threads, join, yield_now};
 
 pub type Channel = RuledChannel<u32, (), Unruled>;
+
+pub type Pass = ruled_channel::Pass<u32, ()>;
 
 /// A view that knows nothing is cut in two that know nothing.
 pub struct Halves;
@@ -22,21 +24,8 @@ impl Join<()> for Halves {
     ghost spent = { tt };
 }
 
-/// Sends the numbers from 1, and answers whether all went in.
-pub fn send_all<R: Wait>(rt: &R, channel: &Channel, mut pass: Pass<u32, ()>, count: u32) -> bool
-    requires { IsPassOf channel.now pass }
-{
-    for number in 1..=count {
-        let Ok(Ok(())) = channel.send_blocking_as::<Unruled, Unruled, _>(rt, &mut pass, number)
-        else {
-            return false;
-        };
-    }
-    true
-}
-
-/// What a receiver got until the end, or until memory was refused: how many numbers, their sum, and
-/// whether each was greater than the one before.
+/// What a receiver got: how many numbers, their sum, and whether each was greater than the one
+/// before.
 #[derive(Clone, Copy, Debug, PartialEq, Eq)]
 pub struct Got {
     pub count: u32,
@@ -44,57 +33,262 @@ pub struct Got {
     pub rising: bool,
 }
 
-/// Receives until the channel is closed and empty.
-pub fn receive_all<R: Wait>(rt: &R, channel: &Channel, mut pass: Pass<u32, ()>) -> Got
+impl Got {
+    fn and(self, last: u32, number: u32) -> Got {
+        Got {
+            count: self.count.wrapping_add(1),
+            sum: self.sum.wrapping_add(u64::from(number)),
+            rising: self.rising && last < number,
+        }
+    }
+}
+
+/// Sends the numbers from 1, and answers whether all went in.
+pub fn send_all<R: Wait>(rt: &R, channel: &Channel, mut pass: Pass, count: u32) -> bool
     requires { IsPassOf channel.now pass }
 {
+    for number in 1..=count {
+        match channel.send_blocking_as::<Unruled, Unruled, _>(rt, &mut pass, number) {
+            Ok(Ok(())) => {}
+            _ => return false,
+        }
+    }
+    true
+}
+
+/// The next number, or none if the channel is closed and empty. It sleeps while the channel is
+/// empty, or looks again and again.
+pub fn next<R: Wait>(rt: &R, channel: &Channel, pass: &mut Pass, sleeps: bool) -> Option<u32>
+    requires { IsPassOf channel.now pass.old }
+    ensures { IsPassOf channel.now pass.new }
+{
+    if sleeps {
+        return match channel.recv_blocking_as::<Unruled, Unruled, _>(rt, pass) {
+            Ok(Ok(number)) => Some(number),
+            _ => None,
+        };
+    }
+    for _ in rt.forever() {
+        match channel.try_recv_as::<Unruled, Unruled, Unruled, _>(rt, pass) {
+            Ok(number) => return Some(number),
+            Err(TryRecvError::Empty) => yield_now(),
+            Err(TryRecvError::Closed) => return None,
+        }
+    }
+    unreachable!()
+}
+
+/// Receives until the channel is closed and empty.
+pub fn receive_all<R: Wait>(rt: &R, channel: &Channel, mut pass: Pass, sleeps: bool) -> Got
+    requires { IsPassOf channel.now pass }
+{
+    let mut last = 0;
     let mut got = Got {
         count: 0,
         sum: 0,
         rising: true,
     };
-    let mut last = 0;
     for _ in rt.forever() {
-        let Ok(Ok(number)) = channel.recv_blocking_as::<Unruled, Unruled, _>(rt, &mut pass) else {
+        let Some(number) = next(rt, channel, &mut pass, sleeps) else {
             break;
         };
-        got.rising = got.rising && last < number;
-        got.count = got.count.wrapping_add(1);
-        got.sum = got.sum.wrapping_add(u64::from(number));
+        got = got.and(last, number);
         last = number;
     }
     got
+}
+
+/// Closes the channel, and answers whether it was open.
+pub fn close<R: Wait>(rt: &R, channel: &Channel, mut pass: Pass) -> bool
+    requires { IsPassOf channel.now pass }
+{
+    channel.close_as::<Unruled, _>(rt, &mut pass)
+}
+
+/// Sends the numbers from 1, and then closes.
+pub fn send_and_close<R: Wait>(rt: &R, channel: &Channel, mut pass: Pass, count: u32) -> bool
+    requires { IsPassOf channel.now pass }
+{
+    let other = channel.another::<Halves>(&mut pass);
+    let sent = send_all(rt, channel, pass, count);
+    close(rt, channel, other);
+    sent
 }
 
 /// One thread sends the numbers from 1 and closes, another receives them.
 pub fn relay<R: Threads + Wait + Sync>(
     rt: &R,
     channel: &Channel,
-    mut pass: Pass<u32, ()>,
+    mut pass: Pass,
     count: u32,
+    sleeps: bool,
 ) -> (bool, Got)
     requires { IsPassOf channel.now pass }
 {
     let other = channel.another::<Halves>(&mut pass);
-    let last = channel.another::<Halves>(&mut pass);
     join(
         rt,
         move || -> bool
-            requires { IsPassOf channel.now pass × IsPassOf channel.now last }
-        {
-            let sent = send_all(rt, channel, pass, count);
-            close(rt, channel, last);
-            sent
-        },
+            requires { IsPassOf channel.now pass }
+        { send_and_close(rt, channel, pass, count) },
         move || -> Got
             requires { IsPassOf channel.now other }
-        { receive_all(rt, channel, other) },
+        { receive_all(rt, channel, other, sleeps) },
     )
 }
 
-/// Closes the channel, and answers whether it was open.
-pub fn close<R: Wait>(rt: &R, channel: &Channel, mut pass: Pass<u32, ()>) -> bool
+/// Two threads send the numbers from 1, and close when both are done.
+pub fn send_in_pair<R: Threads + Wait + Sync>(
+    rt: &R,
+    channel: &Channel,
+    mut pass: Pass,
+    each: u32,
+) -> (bool, bool)
     requires { IsPassOf channel.now pass }
 {
-    channel.close_as::<Unruled, _>(rt, &mut pass)
+    let other = channel.another::<Halves>(&mut pass);
+    let last = channel.another::<Halves>(&mut pass);
+    let sent = join(
+        rt,
+        move || -> bool
+            requires { IsPassOf channel.now pass }
+        { send_all(rt, channel, pass, each) },
+        move || -> bool
+            requires { IsPassOf channel.now other }
+        { send_all(rt, channel, other, each) },
+    );
+    close(rt, channel, last);
+    sent
+}
+
+/// Two threads receive until the end.
+pub fn receive_in_pair<R: Threads + Wait + Sync>(
+    rt: &R,
+    channel: &Channel,
+    mut pass: Pass,
+) -> (Got, Got)
+    requires { IsPassOf channel.now pass }
+{
+    let other = channel.another::<Halves>(&mut pass);
+    join(
+        rt,
+        move || -> Got
+            requires { IsPassOf channel.now pass }
+        { receive_all(rt, channel, pass, true) },
+        move || -> Got
+            requires { IsPassOf channel.now other }
+        { receive_all(rt, channel, other, true) },
+    )
+}
+
+/// Two senders and two receivers.
+pub fn two_and_two<R: Threads + Wait + Sync>(
+    rt: &R,
+    channel: &Channel,
+    mut pass: Pass,
+    each: u32,
+) -> ((bool, bool), (Got, Got))
+    requires { IsPassOf channel.now pass }
+{
+    let other = channel.another::<Halves>(&mut pass);
+    join(
+        rt,
+        move || -> (bool, bool)
+            requires { IsPassOf channel.now pass }
+        { send_in_pair(rt, channel, pass, each) },
+        move || -> (Got, Got)
+            requires { IsPassOf channel.now other }
+        { receive_in_pair(rt, channel, other) },
+    )
+}
+
+/// One thread sends more than fits while another closes: the sender comes back, and not all was
+/// sent.
+pub fn close_a_full_one<R: Threads + Wait + Sync>(
+    rt: &R,
+    channel: &Channel,
+    mut pass: Pass,
+) -> (bool, bool)
+    requires { IsPassOf channel.now pass }
+{
+    let other = channel.another::<Halves>(&mut pass);
+    join(
+        rt,
+        move || -> bool
+            requires { IsPassOf channel.now pass }
+        { send_all(rt, channel, pass, 9) },
+        move || -> bool
+            requires { IsPassOf channel.now other }
+        {
+            yield_now();
+            close(rt, channel, other)
+        },
+    )
+}
+
+/// Sends back each number that it receives.
+pub fn echo<R: Wait>(
+    rt: &R,
+    questions: &Channel,
+    answers: &Channel,
+    mut listens: Pass,
+    mut replies: Pass,
+)
+    requires { IsPassOf questions.now listens × IsPassOf answers.now replies }
+{
+    for _ in rt.forever() {
+        let Ok(Ok(number)) = questions.recv_blocking_as::<Unruled, Unruled, _>(rt, &mut listens)
+        else {
+            return;
+        };
+        let _sent = answers.try_send_as::<Unruled, Unruled, _>(rt, &mut replies, number);
+    }
+}
+
+/// Forces each number in, and waits for its answer. It says how many came back.
+pub fn ask<R: Wait>(
+    rt: &R,
+    questions: &Channel,
+    answers: &Channel,
+    mut asks: Pass,
+    mut listens: Pass,
+    count: u32,
+) -> u32
+    requires { IsPassOf questions.now asks × IsPassOf answers.now listens }
+{
+    let mut back = 0_u32;
+    for number in 0..count {
+        let _displaced = questions.force_send_as::<Unruled, Unruled, _>(rt, &mut asks, number);
+        match answers.recv_blocking_as::<Unruled, Unruled, _>(rt, &mut listens) {
+            Ok(Ok(answer)) if answer == number => back = back.wrapping_add(1),
+            _ => return back,
+        }
+    }
+    questions.close_as::<Unruled, _>(rt, &mut asks);
+    back
+}
+
+/// One thread asks, another sends each number back. It says how many came back.
+pub fn converse<R: Threads + Wait + Sync>(
+    rt: &R,
+    questions: &Channel,
+    answers: &Channel,
+    mut asks: Pass,
+    mut replies: Pass,
+    count: u32,
+) -> u32
+    requires { IsPassOf questions.now asks × IsPassOf answers.now replies }
+{
+    let hears = questions.another::<Halves>(&mut asks);
+    let listens = answers.another::<Halves>(&mut replies);
+    let (back, ()) = join(
+        rt,
+        move || -> u32
+            requires { IsPassOf questions.now asks × IsPassOf answers.now listens }
+        { ask(rt, questions, answers, asks, listens, count) },
+        move || -> ()
+            requires { IsPassOf questions.now hears × IsPassOf answers.now replies }
+        { echo(rt, questions, answers, hears, replies) },
+    );
+    back
 }

@@ -1,12 +1,10 @@
 //! What each call answers under the rule that asks nothing, and that whoever sleeps is woken.
-use crate::plain::{Channel, Got, Halves, close, receive_all, relay, send_all};
+use crate::plain::{Halves, close_a_full_one, converse, relay, two_and_two};
 use ruled_channel::{
-    OutOfMemory, RecvError, SendError, TryRecvError, TrySendError, Unruled, bounded_with,
-    unbounded_with,
+    RecvError, SendError, TryRecvError, TrySendError, Unruled, bounded_with, unbounded_with,
 };
 use std::alloc::AllocError;
 use std::test::*;
-use std::thread::join;
 
 #[test]
 fn a_full_channel_hands_the_message_back(rt: HostRuntime) -> Result<(), Fail> {
@@ -141,15 +139,55 @@ fn a_thousand_numbers_are_relayed(rt: HostRuntime) -> Result<(), Fail> {
     let Ok((channel, pass)) = bounded_with::<u32, (), Unruled>(rt.alloc(), 4) else {
         return Err(AllocError.into());
     };
-    let (sent, got) = relay(&rt, &channel, pass, 1000);
+    let (sent, got) = relay(&rt, &channel, pass, 1000, true);
     assert!(rt; sent);
+    assert_eq!(rt; (got.count, got.sum, got.rising), (1000, 500_500, true));
+    Ok(())
+}
+
+#[test]
+fn a_receive_that_does_not_sleep_wakes_the_sender(rt: HostRuntime) -> Result<(), Fail> {
+    let Ok((channel, pass)) = bounded_with::<u32, (), Unruled>(rt.alloc(), 1) else {
+        return Err(AllocError.into());
+    };
+    let (sent, got) = relay(&rt, &channel, pass, 1000, false);
+    assert!(rt; sent);
+    assert_eq!(rt; (got.count, got.sum, got.rising), (1000, 500_500, true));
+    Ok(())
+}
+
+#[test]
+fn two_senders_and_two_receivers_share_a_place(rt: HostRuntime) -> Result<(), Fail> {
+    let Ok((channel, pass)) = bounded_with::<u32, (), Unruled>(rt.alloc(), 1) else {
+        return Err(AllocError.into());
+    };
+    let (sent, (one, other)) = two_and_two(&rt, &channel, pass, 500);
+    assert_eq!(rt; sent, (true, true));
+    assert_eq!(rt; one.count.wrapping_add(other.count), 1000);
+    assert_eq!(rt; one.sum.wrapping_add(other.sum), 250_500);
+    Ok(())
+}
+
+#[test]
+fn a_sender_that_sleeps_is_woken_by_closing(rt: HostRuntime) -> Result<(), Fail> {
+    let Ok((channel, pass)) = bounded_with::<u32, (), Unruled>(rt.alloc(), 1) else {
+        return Err(AllocError.into());
+    };
+    assert_eq!(rt; close_a_full_one(&rt, &channel, pass), (false, true));
+    Ok(())
+}
+
+#[test]
+fn forced_sends_and_plain_ones_wake_a_receiver(rt: HostRuntime) -> Result<(), Fail> {
+    let Ok((questions, asks)) = bounded_with::<u32, (), Unruled>(rt.alloc(), 1) else {
+        return Err(AllocError.into());
+    };
+    let Ok((answers, replies)) = unbounded_with::<u32, (), Unruled>(rt.alloc()) else {
+        return Err(AllocError.into());
+    };
     assert_eq!(rt;
-        got,
-        Got {
-            count: 1000,
-            sum: 500_500,
-            rising: true
-        }
+        converse(&rt, &questions, &answers, asks, replies, 1000),
+        1000
     );
     Ok(())
 }

@@ -1,6 +1,6 @@
 use Rattle.std.proofs.Common.{Ok, refl, sym, ap, ◌∙◌}
 use Rattle.ruled_mutex.specs.Passes.{found}
-use Rattle.ruled_channel.proofs.Answered.{alike, forced_err, forced_some}
+use Rattle.ruled_channel.proofs.Answered.{alike, fits_none, forced_err, forced_some}
 use Rattle.ruled_channel.proofs.Steps.{keeps, displaces}
 use Rattle.ruled_channel.proofs.channel.RuledChannel.force_send_as.Goals as goal
 
@@ -18,3 +18,7 @@ give_back-requires-in-Ok-Err-clause-rule g c = let same = c.lock-held.ensures.sa
 pub give_back-requires-in-Err-clause-rule : goal.give_back-requires-in-Err-clause-rule
 give_back-requires-in-Err-clause-rule g c = let same = c.lock-held.ensures.same in let shows = c.value_mut-core.ensures.value ∙ c.lock-held.ensures.held.1 in
     keeps c.value_mut-core.result.now c.force_send.new.self g.P.Protocol.fits g.P.Protocol.holds (found c.lock-held.result) g.L.Lesson.fact _ _ _ _ same.0.1 same.1 shows (alike _ _ c.in-Err.ensures.unchanged) c.requires.lesson
+
+pub returns-in-Err-clause-memory : goal.returns-in-Err-clause-memory
+returns-in-Err-clause-memory g c = let shows = c.value_mut-core.ensures.value ∙ c.lock-held.ensures.held.1 in let told = c.give_back-in-Err.ensures.rule in
+    (c.in-Err.ensures.handed_back, told.0 ∙ c.lock-held.ensures.same.1, fits_none c.value_mut-core.result.now (found c.lock-held.result) g.P.Protocol.fits shows c.in-Err.ensures.wanted.1 told.1)

@@ -1,6 +1,6 @@
 use Rattle.std.proofs.Common.{sym, ◌∙◌}
 use Rattle.ruled_mutex.specs.Passes.{found, view}
-use Rattle.ruled_channel.proofs.Answered.{alike, sent_err, refuses}
+use Rattle.ruled_channel.proofs.Answered.{alike, fits_none, sent_err, refuses}
 use Rattle.ruled_channel.proofs.Steps.{keeps}
 use Rattle.ruled_channel.proofs.channel.RuledChannel.try_send_as.Goals as goal
 
@@ -18,3 +18,7 @@ returns-in-Ok-Err-clause-refused g c = let same = c.lock-held.ensures.same in le
     let here = c.in-Ok-Err in let told = c.give_back-in-Ok-Err.ensures.rule in
     let says = refuses c.value_mut-core.result.now c.try_send.new.self g.P.Protocol.fits g.L.Lesson.fact (view c.args.pass.now) _ (found c.lock-held.result) c.args.message here.error same.1 shows (sym here.field-0-is ∙ here.ensures.reply) told.1 told.2 in
     (says.0, told.0 ∙ same.1, says.1)
+
+pub returns-in-Err-clause-memory : goal.returns-in-Err-clause-memory
+returns-in-Err-clause-memory g c = let shows = c.value_mut-core.ensures.value ∙ c.lock-held.ensures.held.1 in let told = c.give_back-in-Err.ensures.rule in
+    (c.in-Err.ensures.handed_back, told.0 ∙ c.lock-held.ensures.same.1, fits_none c.value_mut-core.result.now (found c.lock-held.result) g.P.Protocol.fits shows c.in-Err.ensures.wanted.1 told.1)
