@@ -202,6 +202,13 @@ pub fn two_and_two<R: Threads + Wait + Sync>(
     )
 }
 
+// Lets others run for a while.
+fn give_turns() {
+    for _ in 0..1000 {
+        yield_now();
+    }
+}
+
 /// One thread sends more than fits while another closes: the sender comes back, and not all was
 /// sent.
 pub fn close_a_full_one<R: Threads + Wait + Sync>(
@@ -220,7 +227,7 @@ pub fn close_a_full_one<R: Threads + Wait + Sync>(
         move || -> bool
             requires { IsPassOf channel.now other }
         {
-            yield_now();
+            give_turns();
             close(rt, channel, other)
         },
     )
