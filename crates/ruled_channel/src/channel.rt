@@ -143,9 +143,9 @@ impl<T: Drop, V, P: Protocol<T, V>> RuledChannel<T, V, P> {
                 self.give_back::<Pushed<M>>(pass, held, bell);
                 Ok(Ok(()))
             }
-            Ok(Err(error)) => {
+            Ok(Err(refused)) => {
                 self.give_back::<Kept<P, L>>(pass, held, bell);
-                Ok(Err(error))
+                Ok(Err(refused))
             }
             Err(error) => {
                 self.give_back::<Kept<P, L>>(pass, held, bell);

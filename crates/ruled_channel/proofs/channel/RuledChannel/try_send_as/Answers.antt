@@ -16,7 +16,7 @@ give_back-requires-in-Err-clause-rule g c = let same = c.lock-held.ensures.same 
 pub returns-in-Ok-Err-clause-refused : goal.returns-in-Ok-Err-clause-refused
 returns-in-Ok-Err-clause-refused g c = let same = c.lock-held.ensures.same in let shows = c.value_mut-core.ensures.value ∙ c.lock-held.ensures.held.1 in
     let here = c.in-Ok-Err in let told = c.give_back-in-Ok-Err.ensures.rule in
-    let says = refuses c.value_mut-core.result.now c.try_send.new.self g.P.Protocol.fits g.L.Lesson.fact (view c.args.pass.now) _ (found c.lock-held.result) c.args.message here.error same.1 shows (sym here.field-0-is ∙ here.ensures.reply) told.1 told.2 in
+    let says = refuses c.value_mut-core.result.now c.try_send.new.self g.P.Protocol.fits g.L.Lesson.fact (view c.args.pass.now) _ (found c.lock-held.result) c.args.message here.refused same.1 shows (sym here.field-0-is ∙ here.ensures.reply) told.1 told.2 in
     (says.0, told.0 ∙ same.1, says.1)
 
 pub returns-in-Err-clause-memory : goal.returns-in-Err-clause-memory
