@@ -132,10 +132,10 @@ impl<'a, T: Drop, R: Wait + Clone + Drop> Model for RecvMany<'a, T, R> {
 impl<T: Drop, R: Wait + Clone + Drop> Sender<T, R> {
     /// Sends all these messages into the channel, from the front.
     ///
-    /// The operation waits while the channel is full, and gives an error if it is closed. They go in
-    /// as there is room, at most [`ROUND_LIMIT`] together, and others may come in between. If there
-    /// are none it is ready at once, also if the channel is closed. It does nothing until it is
-    /// polled.
+    /// The operation waits while the channel is full, and gives an error if it is closed. They go
+    /// in as there is room, at most [`ROUND_LIMIT`] together, and others may come in between. If
+    /// there are none it is ready at once, also if the channel is closed. It does nothing until it
+    /// is polled.
     ///
     /// # Examples
     ///

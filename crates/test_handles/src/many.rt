@@ -94,7 +94,7 @@ fn receives_of_several_rounds(rt: HostRuntime) -> Result<(), Fail> {
         let all = Some(Ok(limit));
         assert_eq!(rt; ready(&task, &mut r.recv_many(&mut into, limit)), all);
         rise(&rt, &into, limit);
-        let rest = Some(Ok(3 * ROUND_LIMIT - limit));
+        let rest = Some(Ok((3 * ROUND_LIMIT).saturating_sub(limit)));
         assert_eq!(rt; ready(&task, &mut r.recv_many(&mut into, usize::MAX)), rest);
         rise(&rt, &into, 3 * ROUND_LIMIT);
     }
@@ -111,8 +111,8 @@ fn a_send_of_many_polled_to_its_end(rt: HostRuntime) -> Result<(), Fail> {
         assert!(rt; is_pending(&task, &mut send));
         assert!(rt; !send.is_terminated());
         assert_eq!(rt; send.sent(), sent);
-        assert_eq!(rt; r.try_recv(), Ok(sent - 2));
-        assert_eq!(rt; r.try_recv(), Ok(sent - 1));
+        assert_eq!(rt; r.try_recv(), Ok(sent.saturating_sub(2)));
+        assert_eq!(rt; r.try_recv(), Ok(sent.saturating_sub(1)));
     }
     assert!(rt; matches!(&ready(&task, &mut send), Some(Ok(Ok(())))));
     assert!(rt; send.is_terminated());
@@ -131,7 +131,10 @@ fn a_send_of_several_rounds(rt: HostRuntime) -> Result<(), Fail> {
     assert!(rt; matches!(&ready(&task, &mut send), Some(Ok(Ok(())))));
     assert_eq!(rt; send.sent(), 2 * ROUND_LIMIT + 1);
     let mut into = Vec::new(alloc);
-    assert_eq!(rt; r.try_recv_many(&mut into, usize::MAX), Ok(Ok(2 * ROUND_LIMIT + 1)));
+    assert_eq!(rt;
+        r.try_recv_many(&mut into, usize::MAX),
+        Ok(Ok(2 * ROUND_LIMIT + 1))
+    );
     rise(&rt, &into, 2 * ROUND_LIMIT + 1);
     Ok(())
 }

@@ -1,4 +1,4 @@
-//! Operations that move many messages: each waits as one, and tells as many as so many single calls.
+//! Operations that move many messages: each waits as one, and tells as many as single calls do.
 use crate::waiting::{channel, numbers};
 use async_channel::{Group, SendError};
 use futures::task::Poll;
@@ -45,7 +45,11 @@ fn a_message_tells_one_receive_of_many(rt: HostRuntime) -> Result<(), Fail> {
 fn a_batch_tells_as_many_receives_of_many(rt: HostRuntime) -> Result<(), Fail> {
     let (s, r) = channel(&rt, rt.alloc(), None)?;
     let weak = s.downgrade()?;
-    let tasks = [MockTask::new(&rt)?, MockTask::new(&rt)?, MockTask::new(&rt)?];
+    let tasks = [
+        MockTask::new(&rt)?,
+        MockTask::new(&rt)?,
+        MockTask::new(&rt)?,
+    ];
     let (mut a, mut b) = (Vec::new(rt.alloc()), Vec::new(rt.alloc()));
     let mut stream = r.try_clone()?;
     let (mut first, mut second) = (r.recv_many(&mut a, 5), r.recv_many(&mut b, 5));
@@ -72,8 +76,15 @@ fn a_batch_tells_as_many_receives_of_many(rt: HostRuntime) -> Result<(), Fail> {
 #[test]
 fn a_receive_of_many_tells_as_many_sends(rt: HostRuntime) -> Result<(), Fail> {
     let (s, r) = channel(&rt, rt.alloc(), Some(3))?;
-    assert_eq!(rt; s.try_send_many(&mut messages(rt.alloc(), 1, 3)?), Ok(Ok(3)));
-    let tasks = [MockTask::new(&rt)?, MockTask::new(&rt)?, MockTask::new(&rt)?];
+    assert_eq!(rt;
+        s.try_send_many(&mut messages(rt.alloc(), 1, 3)?),
+        Ok(Ok(3))
+    );
+    let tasks = [
+        MockTask::new(&rt)?,
+        MockTask::new(&rt)?,
+        MockTask::new(&rt)?,
+    ];
     let (mut first, mut second) = (s.send(4), s.send_many(messages(rt.alloc(), 5, 6)?));
     let mut third = s.send(7);
     assert!(rt; is_pending(&tasks[0], &mut first) && is_pending(&tasks[1], &mut second));
@@ -146,7 +157,10 @@ fn a_send_of_many_that_is_given_up_hands_on(rt: HostRuntime) -> Result<(), Fail>
         assert!(rt; other.is_woken());
         assert_eq!(rt; numbers(&weak, Group::Sends), (1, 1));
         assert!(rt; matches!(&other.poll(&mut second), Poll::Ready(Ok(Ok(())))));
-        assert_eq!(rt; (numbers(&weak, Group::Sends), r.try_recv()), ((0, 0), Ok(4)));
+        assert_eq!(rt;
+            (numbers(&weak, Group::Sends), r.try_recv()),
+            ((0, 0), Ok(4))
+        );
     }
     Ok(())
 }
