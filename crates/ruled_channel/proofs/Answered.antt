@@ -5,7 +5,6 @@ use Rattle.std.proofs.Common.{◌≡◌, ℕ, Bool, true, false, true≢false, L
 use Rattle.channel_model.specs.declared.errors.OutOfMemory.{OutOfMemory}
 use Rattle.channel_model.specs.declared.errors.SendError.{SendError}
 use Rattle.channel_model.specs.declared.errors.TrySendError.{TrySendError}
-use Rattle.channel_model.specs.declared.errors.TrySendError.TheVariants.{Full, Closed}
 use Rattle.channel_model.specs.declared.errors.TryRecvError.{TryRecvError}
 use Rattle.channel_model.specs.Errors.{message_of, was_ended}
 use Rattle.channel_model.specs.Tables.{OnReady, OnWait, try_send_answer, force_send_answer, try_recv_answer, send_poll}

@@ -1,6 +1,6 @@
 -- The rule over what the lock guards, and what each step tells of that. No public clause cites this
 -- module.
-use Rattle.std.specs.Prelude.{◌≡◌, ◌≢◌, ℕ, Bool, not, List, [], ◌∷◌, ◌++◌, Option, Some, None}
+use Rattle.std.specs.Prelude.{◌≡◌, ◌≢◌, ℕ, Bool, not, List, [], ◌∷◌, ◌++◌, Option, Some}
 use Rattle.channel_core.specs.Channel.{Channel}
 
 module _ {T V W : Type 0} where

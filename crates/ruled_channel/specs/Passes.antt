@@ -1,5 +1,5 @@
 -- What a clause says of a channel's passes and of its answers.
-use Rattle.std.specs.Prelude.{◌≡◌, ℕ, Bool, true, false, not, List, [], ◌∷◌, ◌++◌, Option, Some, None}
+use Rattle.std.specs.Prelude.{◌≡◌, ℕ, Bool, true, false, List, [], Option}
 use Rattle.channel_core.specs.Channel.{Channel}
 use Rattle.channel_model.specs.declared.errors.TrySendError.{TrySendError}
 use Rattle.channel_model.specs.declared.errors.TrySendError.TheVariants.{Full, Closed}

@@ -1,4 +1,4 @@
-use Rattle.std.proofs.Common.{refl, ◌∙◌}
+use Rattle.std.proofs.Common.{refl}
 use Rattle.ruled_mutex.specs.Passes.{found, made}
 use Rattle.ruled_channel.proofs.Answered.{alike}
 use Rattle.ruled_channel.proofs.Steps.{keeps}

@@ -1,4 +1,4 @@
-use Rattle.std.proofs.Common.{◌∙◌, Err, ap}
+use Rattle.std.proofs.Common.{◌∙◌, ap}
 use Rattle.futures.specs.declared.task.Poll.TheVariants.{Ready}
 use Rattle.ruled_mutex.specs.Passes.{found}
 use Rattle.ruled_channel.proofs.Answered.{alike, polled_closed, send_waits}
