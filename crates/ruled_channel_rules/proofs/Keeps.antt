@@ -1,0 +1,257 @@
+-- Each move keeps the rule.
+use Rattle.std.proofs.Common.{◌≡◌, ◌≢◌, ◌⊎◌, ℕ, ◌+◌, zero, suc, Bool, not, true, false, true≢false, Option, List, [], ◌∷◌, ◌++◌, length, set, sym, refl, ap, ◌∙◌, subst, ⊎_elim, append_assoc, arith}
+use Rattle.std.proofs.lemmas.List.{append-nil, length-append}
+use Rattle.std.specs.List.{flat_map}
+use mathlib.Core.Option.{some, some-ne-none, some-injective}
+use lib.ListN.{get_elem?}
+use Rattle.atomic_table.proofs.Lists.{at_set, at_snoc}
+use Rattle.ruled_channel.specs.Rule.{Sends, Receives, Closes, Ends, Forks, Merges, Learns}
+use Rattle.ruled_channel_rules.specs.declared.log.Log.{Log}
+use Rattle.ruled_channel_rules.specs.Merged.{IsMerge, IsMergeOf, AllArrived}
+use Rattle.ruled_channel_rules.specs.Whole.{log, hub_log, sent, got, Knows, IsWhole, more, with_sent, with_got, with_closed, with_end, sender_log, receiver_log, spent_log, either, together, one_sender_more, one_receiver_more}
+use Rattle.ruled_channel_rules.proofs.Merging.{grows, joins, trades, merge_none}
+
+cons-ne-nil : {X : Type 0} (x : X) (xs : List X) → x ∷ xs ≢ []
+cons-ne-nil x xs e = some-ne-none x (ap (λ l. get_elem? l 0) e)
+
+no : {P : Type 0} → false ≡ true → P
+no e = absurd (true≢false (sym e))
+
+one_of : {P : Type 0} (a b : Bool) → (a ≡ true → P) → (b ≡ true → P) → either a b ≡ true → P
+one_of true b p q e = p refl
+one_of false b p q e = q e
+
+none : {X : Type 0} (xs : List X) → length xs ≡ 0 → xs ≡ []
+none [] e = refl
+none (x ∷ xs) e = absurd (omega arith)
+
+only : {X : Type 0} (a x b : List X) → length x ≡ length (a ++ (x ++ b)) → a ++ (x ++ b) ≡ x
+only a x b e =
+    let la = length-append a (x ++ b) in
+    let lb = length-append x b in
+    let ea : a ≡ [] = none a (omega arith) in
+    let eb : b ≡ [] = none b (omega arith) in
+    ap (λ l. l ++ (x ++ b)) ea ∙ ap (λ l. x ++ l) eb ∙ append-nil x
+
+module _ {T : Type 0} where
+  abbrev All : (ℕ → Log T → Type 0) → List (Log T) → Type 0
+  All F views = (pass : ℕ) (v : Log T) → get_elem? views pass ≡ some v → F pass v
+
+  all_set : (F : ℕ → Log T → Type 0) (views : List (Log T)) (pass : ℕ) (w : Log T) → F pass w → ((j : ℕ) (u : Log T) → j ≢ pass → get_elem? views j ≡ some u → F j u) → All F (set views pass w)
+  all_set F views pass w mine others j u e = ⊎_elim (λ (x : (j ≡ pass) × (w ≡ u)). subst (λ (y : ℕ × Log T). F y.0 y.1) (λ i. (sym x.0 i, x.1 i)) mine)
+      (λ (x : (j ≢ pass) × (get_elem? views j ≡ some u)). others j u x.0 x.1) (at_set views pass j w u e)
+
+  set_other : (views : List (Log T)) (i j : ℕ) (a b : Log T) → j ≢ i → set (set views i a) j b ≡ set (set views j b) i a
+  set_other [] i j a b n = refl
+  set_other (x ∷ xs) zero zero a b n = absurd (n refl)
+  set_other (x ∷ xs) zero (suc j) a b n = refl
+  set_other (x ∷ xs) (suc i) zero a b n = refl
+  set_other (x ∷ xs) (suc i) (suc j) a b n = ap (λ (l : List (Log T)). x ∷ l) (set_other xs i j a b (λ e. n (ap suc e)))
+
+  at_other : (views : List (Log T)) (i j : ℕ) (a b : Log T) → j ≢ i → get_elem? views j ≡ some b → get_elem? (set views i a) j ≡ some b
+  at_other [] i j a b n e = e
+  at_other (x ∷ xs) zero zero a b n e = absurd (n refl)
+  at_other (x ∷ xs) zero (suc j) a b n e = e
+  at_other (x ∷ xs) (suc i) zero a b n e = e
+  at_other (x ∷ xs) (suc i) (suc j) a b n e = at_other xs i j a b (λ e. n (ap suc e)) e
+
+  module _ (f : Log T → List (List T)) where
+    -- the lists of one pass stand among those of all
+    abbrev Around : List (Log T) → ℕ → Log T → Type 0
+    Around views pass v = (a : List (List T)) × (b : List (List T)) × (flat_map f views ≡ a ++ (f v ++ b)) × ((w : Log T) → flat_map f (set views pass w) ≡ a ++ (f w ++ b))
+
+    around : (views : List (Log T)) (pass : ℕ) (v : Log T) → get_elem? views pass ≡ some v → Around views pass v
+    around [] pass v at = absurd (some-ne-none v (sym at))
+    around (x ∷ xs) zero v at = ([], flat_map f xs, ap (λ (u : Log T). f u ++ flat_map f xs) (some-injective x v at), λ w. refl)
+    around (x ∷ xs) (suc pass) v at = let r = around xs pass v at in (
+      f x ++ r.0,
+      r.1,
+      ap (λ l. f x ++ l) r.2 ∙ sym (append_assoc (f x) r.0 (f v ++ r.1)),
+      λ w. ap (λ l. f x ++ l) (r.3 w) ∙ sym (append_assoc (f x) r.0 (f w ++ r.1)),
+    )
+
+    same_flat : (views : List (Log T)) (pass : ℕ) (v w : Log T) → get_elem? views pass ≡ some v → f w ≡ f v → flat_map f (set views pass w) ≡ flat_map f views
+    same_flat views pass v w at e = let r = around views pass v at in r.3 w ∙ ap (λ (l : List (List T)). r.0 ++ (l ++ r.1)) e ∙ sym r.2
+
+    flat_last : (views : List (Log T)) (w : Log T) → flat_map f (views ++ w ∷ []) ≡ flat_map f views ++ f w
+    flat_last [] w = append-nil (f w)
+    flat_last (x ∷ xs) w = ap (λ l. f x ++ l) (flat_last xs w) ∙ sym (append_assoc (f x) (flat_map f xs) (f w))
+
+    -- the lists of one pass go to another
+    hands_over : (P : List (List T) → Type 0) → ((one two after : List (List T)) → P (one ++ (two ++ after)) → P (two ++ (one ++ after)))
+        → (views : List (Log T)) (pass other : ℕ) (v w both spent : Log T) → other ≢ pass → get_elem? views pass ≡ some v → get_elem? views other ≡ some w → f both ≡ f v ++ f w → f spent ≡ []
+        → P (flat_map f views) → P (flat_map f (set (set views pass both) other spent))
+    hands_over P trade views pass other v w both spent apart at at' eb es p =
+        let left = set views other spent in
+        let r = around views other w at' in
+        let s = around left pass v (at_other views other pass spent v (λ e. apart (sym e)) at) in
+        let rest : flat_map f left ≡ r.0 ++ r.1 = r.3 spent ∙ ap (λ (l : List (List T)). r.0 ++ (l ++ r.1)) es in
+        let split : r.0 ++ r.1 ≡ (s.0 ++ f v) ++ s.1 = sym rest ∙ s.2 ∙ sym (append_assoc s.0 (f v) s.1) in
+        let q : P (f w ++ (r.0 ++ r.1)) = trade r.0 (f w) r.1 (subst P r.2 p) in
+        let t : P ((s.0 ++ f v) ++ (f w ++ s.1)) = trade (f w) (s.0 ++ f v) s.1 (subst (λ (l : List (List T)). P (f w ++ l)) split q) in
+        let joined : (s.0 ++ f v) ++ (f w ++ s.1) ≡ flat_map f (set left pass both) =
+        append_assoc s.0 (f v) (f w ++ s.1) ∙ ap (λ (l : List (List T)). s.0 ++ l) (sym (append_assoc (f v) (f w) s.1)) ∙ ap (λ (l : List (List T)). s.0 ++ (l ++ s.1)) (sym eb) ∙ sym (s.3 both) in
+        subst P (joined ∙ ap (flat_map f) (sym (set_other views pass other both spent apart))) t
+
+    -- where one pass has as many lists as there are, it has them all
+    has_all : (views : List (Log T)) (pass : ℕ) (v : Log T) → get_elem? views pass ≡ some v → length (f v) ≡ length (flat_map f views) → flat_map f views ≡ f v
+    has_all views pass v at e = let r = around views pass v at in r.2 ∙ only r.0 (f v) r.1 (e ∙ ap (λ (l : List (List T)). length l) r.2)
+
+  as_long : (a b : List (List T)) (x y : List T) → length (a ++ x ∷ b) ≡ length (a ++ y ∷ b)
+  as_long a b x y = length-append a (x ∷ b) ∙ sym (length-append a (y ∷ b))
+
+  length_trade : (n : ℕ) (one two after : List (List T)) → length (one ++ (two ++ after)) ≡ n → length (two ++ (one ++ after)) ≡ n
+  length_trade n one two after e = omega (arith, length-append one (two ++ after), length-append two after, length-append two (one ++ after), length-append one after)
+
+  -- what the others know stays
+  module _ (messages messages' : List T) (closed closed' : Bool) (hub s s' g g' : ℕ) (kc : closed ≡ true → closed' ≡ true) (k : (closed ≡ true) × (messages ≡ []) → (closed' ≡ true) × (messages' ≡ [])) (es : s' ≡ s) (eg : g' ≡ g) where
+    carry : (j : ℕ) (u : Log T) → Knows messages closed hub s g j u → Knows messages' closed' hub s' g' j u
+    carry j u o = ((λ p. let q = o.0 p in (q.0, q.1 ∙ sym es, q.2 ∙ sym eg)), (λ p. kc (o.1 p)), λ p. k (o.2 p))
+
+  at_first : (v u : Log T) (j : ℕ) → get_elem? (v ∷ []) j ≡ some u → j ≡ 0
+  at_first v u zero e = refl
+  at_first v u (suc j) e = absurd (some-ne-none u (sym e))
+
+  pub begins : IsWhole {T = T} [] false (hub_log 0 0 ∷ [])
+  begins = (
+    0,
+    [],
+    refl,
+    refl,
+    all_set (Knows [] false 0 0 0) (spent_log ∷ []) 0 (hub_log 0 0) ((λ _. (refl, refl, refl)), (λ e. no e), λ e. no e)
+        (λ j u other e. absurd (other (at_first spent_log u j e))),
+  )
+
+  -- the rule after a step by which one view changes
+  pub sends : (fits : Option ℕ → Type 0) (pass : ℕ) (v : Log T) (m : T) (xs : List T) (others : List (List T)) → v.sent ≡ xs ∷ others → Sends fits IsWhole pass v m (λ u x w. w ≡ with_sent u x)
+  sends fits pass v m xs others is messages views room h at =
+      let w = with_sent v m in
+      let r = around sent views pass v at in
+      let was : flat_map sent views ≡ r.0 ++ (xs ∷ (others ++ r.1)) = r.2 ∙ ap (λ (l : List (List T)). r.0 ++ (l ++ r.1)) is in
+      let now : flat_map sent (set views pass w) ≡ r.0 ++ ((xs ++ m ∷ []) ∷ (others ++ r.1)) = r.3 w ∙ ap (λ (l : List (List T)). r.0 ++ (more l m ++ r.1)) is in
+      let grown = grows (h.1 ++ messages) r.0 xs (others ++ r.1) m (subst (IsMergeOf (h.1 ++ messages)) was h.2) in
+      let same : flat_map got (set views pass w) ≡ flat_map got views = same_flat got views pass v w at refl in
+      let long : length (flat_map sent (set views pass w)) ≡ length (flat_map sent views) = ap (λ (l : List (List T)). length l) now ∙ as_long r.0 (others ++ r.1) _ xs ∙ sym (ap (λ (l : List (List T)). length l) was) in
+      let c = carry messages (messages ++ m ∷ []) false false h.0 _ (length (flat_map sent (set views pass w))) _ (length (flat_map got (set views pass w))) (λ e. no e) (λ e. no e.0) long (ap (λ (l : List (List T)). length l) same) in (
+        w,
+        (
+          h.0,
+          h.1,
+          subst (λ (z : List T × List (List T)). IsMergeOf z.0 z.1) (λ i. (append_assoc h.1 messages (m ∷ []) i, sym now i)) grown,
+          subst (IsMergeOf h.1) (sym same) h.3,
+          all_set _ views pass w (c pass v (h.4 pass v at)) (λ j u other e. c j u (h.4 j u e)),
+        ),
+        refl,
+      )
+
+  pub receives : (pass : ℕ) (v : Log T) (xs : List T) (others : List (List T)) → v.got ≡ xs ∷ others → Receives IsWhole pass v (λ u x w. w ≡ with_got u x)
+  receives pass v xs others is m messages closed views h at =
+      let w = with_got v m in
+      let r = around got views pass v at in
+      let was : flat_map got views ≡ r.0 ++ (xs ∷ (others ++ r.1)) = r.2 ∙ ap (λ (l : List (List T)). r.0 ++ (l ++ r.1)) is in
+      let now : flat_map got (set views pass w) ≡ r.0 ++ ((xs ++ m ∷ []) ∷ (others ++ r.1)) = r.3 w ∙ ap (λ (l : List (List T)). r.0 ++ (more l m ++ r.1)) is in
+      let grown = grows h.1 r.0 xs (others ++ r.1) m (subst (IsMergeOf h.1) was h.3) in
+      let same : flat_map sent (set views pass w) ≡ flat_map sent views = same_flat sent views pass v w at refl in
+      let long : length (flat_map got (set views pass w)) ≡ length (flat_map got views) = ap (λ (l : List (List T)). length l) now ∙ as_long r.0 (others ++ r.1) _ xs ∙ sym (ap (λ (l : List (List T)). length l) was) in
+      let c = carry (m ∷ messages) messages closed closed h.0 _ (length (flat_map sent (set views pass w))) _ (length (flat_map got (set views pass w))) (λ e. e) (λ e. absurd (cons-ne-nil m messages e.1)) (ap (λ (l : List (List T)). length l) same) long in (
+        w,
+        (
+          h.0,
+          h.1 ++ m ∷ [],
+          subst (λ (z : List T × List (List T)). IsMergeOf z.0 z.1) (λ i. (sym (append_assoc h.1 (m ∷ []) messages) i, sym same i)) h.2,
+          subst (IsMergeOf (h.1 ++ m ∷ [])) (sym now) grown,
+          all_set _ views pass w (c pass v (h.4 pass v at)) (λ j u other e. c j u (h.4 j u e)),
+        ),
+        refl,
+      )
+
+  -- a view that changes in what it has found alone
+  turned : (messages : List T) (closed closed' : Bool) (views : List (Log T)) (pass : ℕ) (v w : Log T) → IsWhole messages closed views → get_elem? views pass ≡ some v
+      → w.sent ≡ v.sent → w.got ≡ v.got → (closed ≡ true → closed' ≡ true) → ((closed ≡ true) × (messages ≡ []) → (closed' ≡ true) × (messages ≡ []))
+      → ((hub s g : ℕ) → Knows messages closed hub s g pass v → Knows messages closed' hub s g pass w) → IsWhole messages closed' (set views pass w)
+  turned messages closed closed' views pass v w h at es eg kc k mine =
+      let ss = same_flat sent views pass v w at es in
+      let sg = same_flat got views pass v w at eg in
+      let ls : length (flat_map sent (set views pass w)) ≡ length (flat_map sent views) = ap (λ (l : List (List T)). length l) ss in
+      let lg : length (flat_map got (set views pass w)) ≡ length (flat_map got views) = ap (λ (l : List (List T)). length l) sg in
+      let c = carry messages messages closed closed' h.0 _ _ _ _ kc k ls lg in (
+        h.0,
+        h.1,
+        subst (IsMergeOf (h.1 ++ messages)) (sym ss) h.2,
+        subst (IsMergeOf h.1) (sym sg) h.3,
+        all_set _ views pass w (subst (λ (n : ℕ × ℕ). Knows messages closed' h.0 n.0 n.1 pass w) (λ i. (sym ls i, sym lg i)) (mine h.0 _ _ (h.4 pass v at))) (λ j u other e. c j u (h.4 j u e)),
+      )
+
+  pub closes : (pass : ℕ) (v : Log T) → Closes IsWhole pass v (λ u was w. (w ≡ with_closed u) × (u.closed ≡ true → was ≡ false))
+  closes pass v messages closed views h at = (
+    with_closed v,
+    turned messages closed true views pass v (with_closed v) h at refl refl (λ e. refl) (λ e. (refl, e.1)) (λ hub s g o. (o.0, (λ _. refl), λ p. (refl, (o.2 p).1))),
+    (refl, λ p. ap not ((h.4 pass v at).1 p)),
+  )
+
+  pub ends : (pass : ℕ) (v : Log T) → Ends IsWhole pass v (λ u w. w ≡ with_end u)
+  ends pass v views h at = (with_end v, turned [] true true views pass v (with_end v) h at refl refl (λ e. e) (λ e. e) (λ hub s g o. (o.0, (λ _. refl), λ _. (refl, refl))), refl)
+
+  -- who makes the passes makes one that has sent s and got g, which are empty
+  parted : (pass : ℕ) (v : Log T) (n k : ℕ) (s g : List (List T)) → v.makes ≡ true → n ≡ v.senders + length s → k ≡ v.receivers + length g
+      → ((zs : List T) (l : List (List T)) → IsMergeOf zs l → IsMergeOf zs (l ++ s)) → ((zs : List T) (l : List (List T)) → IsMergeOf zs l → IsMergeOf zs (l ++ g))
+      → Forks IsWhole pass v (record v { senders = n; receivers = k }) (log false 0 0 false false s g)
+  parted pass v n k s g makes en ek js jg messages closed views h at =
+      let left : Log T = record v { senders = n; receivers = k } in
+      let right : Log T = log false 0 0 false false s g in
+      let vs : List (Log T) = set views pass left in
+      let fs : flat_map sent (vs ++ right ∷ []) ≡ flat_map sent views ++ s = flat_last sent vs right ∙ ap (λ l. l ++ s) (same_flat sent views pass v left at refl) in
+      let fg : flat_map got (vs ++ right ∷ []) ≡ flat_map got views ++ g = flat_last got vs right ∙ ap (λ l. l ++ g) (same_flat got views pass v left at refl) in
+      let ls : length (flat_map sent (vs ++ right ∷ [])) ≡ length (flat_map sent views) + length s = ap (λ (l : List (List T)). length l) fs ∙ length-append (flat_map sent views) s in
+      let lg : length (flat_map got (vs ++ right ∷ [])) ≡ length (flat_map got views) + length g = ap (λ (l : List (List T)). length l) fg ∙ length-append (flat_map got views) g in
+      let mine = h.4 pass v at in
+      let q = mine.0 makes in
+      let F : ℕ → Log T → Type 0 = Knows messages closed h.0 (length (flat_map sent (vs ++ right ∷ []))) (length (flat_map got (vs ++ right ∷ []))) in
+      let old : All F vs = all_set F views pass left ((λ _. (q.0, en ∙ ap (λ x. x + length s) q.1 ∙ sym ls, ek ∙ ap (λ x. x + length g) q.2 ∙ sym lg)), mine.1, mine.2)
+      (λ j u other e. let theirs = h.4 j u e in ((λ p. absurd (other ((theirs.0 p).0 ∙ sym q.0))), theirs.1, theirs.2)) in (
+        h.0,
+        h.1,
+        subst (IsMergeOf (h.1 ++ messages)) (sym fs) (js (h.1 ++ messages) (flat_map sent views) h.2),
+        subst (IsMergeOf h.1) (sym fg) (jg h.1 (flat_map got views) h.3),
+        λ j u e. ⊎_elim (λ x. old j u x) (λ (is : right ≡ u). ((λ p. no (ap (λ (y : Log T). y.makes) is ∙ p)), (λ p. no (ap (λ (y : Log T). y.closed) is ∙ p)), λ p. no (ap (λ (y : Log T). y.ended) is ∙ p))) (at_snoc vs right u j e),
+      )
+
+  stays : (zs : List T) (l : List (List T)) → IsMergeOf zs l → IsMergeOf zs (l ++ [])
+  stays zs l m = subst (IsMergeOf zs) (sym (append-nil l)) m
+
+  pub makes_sender : (pass : ℕ) (v : Log T) → v.makes ≡ true → Forks IsWhole pass v (one_sender_more v) (sender_log false [])
+  makes_sender pass v makes = parted pass v (v.senders + 1) v.receivers ([] ∷ []) [] makes refl (omega arith) joins stays
+
+  pub makes_receiver : (pass : ℕ) (v : Log T) → v.makes ≡ true → Forks IsWhole pass v (one_receiver_more v) (receiver_log false false [])
+  makes_receiver pass v makes = parted pass v v.senders (v.receivers + 1) [] ([] ∷ []) makes (omega arith) refl stays joins
+
+  pub takes_back : (pass : ℕ) (v : Log T) (other : ℕ) (w : Log T) → Merges IsWhole pass v other w (together v w) spent_log
+  takes_back pass v other w messages closed views h at apart at' =
+      let both = together v w in
+      let was : get_elem? views other ≡ some w = ⊎_elim (λ x. absurd (apart x.0)) (λ x. x.1) (at_set views pass other both w at') in
+      let new : List (Log T) = set (set views pass both) other spent_log in
+      let ls = hands_over sent (λ l. length l ≡ length (flat_map sent views)) (length_trade _) views pass other v w both spent_log apart at was refl refl refl in
+      let lg = hands_over got (λ l. length l ≡ length (flat_map got views)) (length_trade _) views pass other v w both spent_log apart at was refl refl refl in
+      let c = carry messages messages closed closed h.0 _ (length (flat_map sent new)) _ (length (flat_map got new)) (λ e. e) (λ e. e) ls lg in
+      let mine = h.4 pass v at in
+      let theirs = h.4 other w was in
+      let F : ℕ → Log T → Type 0 = Knows messages closed h.0 (length (flat_map sent new)) (length (flat_map got new)) in (
+        h.0,
+        h.1,
+        hands_over sent (IsMergeOf (h.1 ++ messages)) (trades (h.1 ++ messages)) views pass other v w both spent_log apart at was refl refl h.2,
+        hands_over got (IsMergeOf h.1) (trades h.1) views pass other v w both spent_log apart at was refl refl h.3,
+        all_set F (set views pass both) other spent_log ((λ p. no p), (λ p. no p), λ p. no p)
+            (λ j u n e. all_set F views pass both ((c pass v mine).0, (λ p. one_of v.closed w.closed mine.1 theirs.1 p), λ p. one_of v.ended w.ended mine.2 theirs.2 p) (λ j u other e. c j u (h.4 j u e)) j u e),
+      )
+
+  -- who made the others, and has them back, knows that all arrived
+  pub settles : (pass : ℕ) (v : Log T) → v.makes ≡ true → length v.sent ≡ v.senders → length v.got ≡ v.receivers → v.ended ≡ true → Learns IsWhole pass v (λ messages closed. AllArrived v.sent v.got)
+  settles pass v makes all_sent all_got ended messages closed views h at =
+      let mine = h.4 pass v at in
+      let q = mine.0 makes in
+      let ss = has_all sent views pass v at (all_sent ∙ q.1) in
+      let sg = has_all got views pass v at (all_got ∙ q.2) in (
+        h.1,
+        subst (λ (z : List T × List (List T)). IsMergeOf z.0 z.1) (λ i. ((ap (λ l. h.1 ++ l) (mine.2 ended).1 ∙ append-nil h.1) i, ss i)) h.2,
+        subst (IsMergeOf h.1) sg h.3,
+      )

@@ -1,0 +1,50 @@
+-- What a clause says of a channel whose messages all arrive, and of its handles.
+use Rattle.std.specs.Prelude.{◌≡◌, ℕ, Bool, true, List, [], ◌∷◌}
+use Rattle.ruled_mutex.specs.Passes.{view}
+use Rattle.ruled_channel.specs.Passes.{IsPassOf}
+use Rattle.ruled_channel_rules.specs.declared.log.Log.{Log}
+use Rattle.ruled_channel_rules.specs.declared.handles.Channel.{Channel}
+use Rattle.ruled_channel_rules.specs.declared.handles.Hub.{Hub}
+use Rattle.ruled_channel_rules.specs.declared.handles.Sender.{Sender}
+use Rattle.ruled_channel_rules.specs.declared.handles.Receiver.{Receiver}
+use Rattle.ruled_channel_rules.specs.Whole.{sender_log, receiver_log}
+
+module _ {T : Type 0} where
+  abbrev pub first : List (List T) → List T
+  first [] = []
+  first (xs ∷ more) = xs
+
+  -- what a sender has sent, in order
+  abbrev pub sent_by : Sender T → List T
+  sent_by s = first (view s.pass).sent
+
+  -- what a receiver has got, in order
+  abbrev pub got_by : Receiver T → List T
+  got_by r = first (view r.pass).got
+
+  -- whether it knows that the channel is closed
+  abbrev pub sender_closed : Sender T → Bool
+  sender_closed s = (view s.pass).closed
+
+  abbrev pub receiver_closed : Receiver T → Bool
+  receiver_closed r = (view r.pass).closed
+
+  -- whether it found the channel closed and empty
+  abbrev pub has_ended : Receiver T → Bool
+  has_ended r = (view r.pass).ended
+
+  -- how many senders and receivers a hub has made, and what those sent and got that it has back
+  abbrev pub known : Hub T → Log T
+  known m = view m.pass
+
+  -- they are of this channel
+  abbrev pub IsHubOf : Channel T → Hub T → Type 0
+  IsHubOf c m = IsPassOf c.ruled m.pass × ((view m.pass).makes ≡ true)
+
+  abbrev pub IsSenderOf : Channel T → Sender T → Type 0
+  IsSenderOf c s = IsPassOf c.ruled s.pass × (view s.pass ≡ sender_log (sender_closed s) (sent_by s))
+
+  abbrev pub IsReceiverOf : Channel T → Receiver T → Type 0
+  IsReceiverOf c r =
+      IsPassOf c.ruled r.pass
+      × (view r.pass ≡ receiver_log (receiver_closed r) (has_ended r) (got_by r))

@@ -1,0 +1,91 @@
+-- The rule: what was sent is what was got and then what the channel holds. Each sender and each
+-- receiver knows its own part, and who made them knows how many there are.
+use Rattle.std.specs.Prelude.{◌≡◌, ℕ, ◌+◌, Bool, true, false, List, [], ◌∷◌, ◌++◌, length}
+use Rattle.std.specs.List.{flat_map}
+use mathlib.Core.Option.{some}
+use lib.ListN.{get_elem?}
+use Rattle.ruled_channel_rules.specs.declared.log.Log.{Log}
+use Rattle.ruled_channel_rules.specs.Merged.{IsMergeOf}
+
+abbrev pub either : Bool → Bool → Bool
+either true b = true
+either false b = b
+
+module _ {T : Type 0} where
+  abbrev pub log : Bool → ℕ → ℕ → Bool → Bool → List (List T) → List (List T) → Log T
+  log makes senders receivers closed ended sent got = record {
+    makes = makes;
+    senders = senders;
+    receivers = receivers;
+    closed = closed;
+    ended = ended;
+    sent = sent;
+    got = got;
+  }
+
+  abbrev pub sent : Log T → List (List T)
+  sent v = v.sent
+
+  abbrev pub got : Log T → List (List T)
+  got v = v.got
+
+  -- one pass makes the others, and knows how many; who knows that it is closed, or found
+  -- the end, is right for ever
+  abbrev pub Knows : List T → Bool → ℕ → ℕ → ℕ → ℕ → Log T → Type 0
+  Knows messages closed hub senders receivers pass v =
+      (v.makes ≡ true → (pass ≡ hub) × (v.senders ≡ senders) × (v.receivers ≡ receivers))
+      × (v.closed ≡ true → closed ≡ true)
+      × (v.ended ≡ true → (closed ≡ true) × (messages ≡ []))
+
+  abbrev pub IsWhole : List T → Bool → List (Log T) → Type 0
+  IsWhole messages closed views =
+      (hub : ℕ) × (taken : List T)
+      × IsMergeOf (taken ++ messages) (flat_map sent views) × IsMergeOf taken (flat_map got views)
+      × ((pass : ℕ) (v : Log T) → get_elem? views pass ≡ some v
+      → Knows messages closed hub (length (flat_map sent views)) (length (flat_map got views)) pass v)
+
+  -- what a step makes of a view
+
+  -- the first list has one more at its end
+  abbrev pub more : List (List T) → T → List (List T)
+  more [] m = []
+  more (xs ∷ others) m = (xs ++ m ∷ []) ∷ others
+
+  abbrev pub with_sent : Log T → T → Log T
+  with_sent v m = record v { sent = more v.sent m }
+
+  abbrev pub with_got : Log T → T → Log T
+  with_got v m = record v { got = more v.got m }
+
+  abbrev pub with_closed : Log T → Log T
+  with_closed v = record v { closed = true }
+
+  abbrev pub with_end : Log T → Log T
+  with_end v = record v { closed = true; ended = true }
+
+  abbrev pub one_sender_more : Log T → Log T
+  one_sender_more v = record v { senders = v.senders + 1 }
+
+  abbrev pub one_receiver_more : Log T → Log T
+  one_receiver_more v = record v { receivers = v.receivers + 1 }
+
+  -- who makes the others, a sender, a receiver, and a pass that is used up
+  abbrev pub hub_log : ℕ → ℕ → Log T
+  hub_log senders receivers = log true senders receivers false false [] []
+
+  abbrev pub sender_log : Bool → List T → Log T
+  sender_log closed xs = log false 0 0 closed false (xs ∷ []) []
+
+  abbrev pub receiver_log : Bool → Bool → List T → Log T
+  receiver_log closed ended xs = log false 0 0 closed ended [] (xs ∷ [])
+
+  abbrev pub spent_log : Log T
+  spent_log = log false 0 0 false false [] []
+
+  abbrev pub together : Log T → Log T → Log T
+  together v w = record v {
+    closed = either v.closed w.closed;
+    ended = either v.ended w.ended;
+    sent = v.sent ++ w.sent;
+    got = v.got ++ w.got;
+  }

@@ -1,0 +1,19 @@
+//! A channel of which is proved that all that is sent arrives, in order and once.
+//!
+//! A [`Hub`] makes the senders and the receivers of a [`Channel`], and takes them back. A sender
+//! knows what it has sent, a receiver what it has received. Once all are back, and a receiver found
+//! the channel closed and empty, the hub knows that what was sent is what was received:
+//! [`Hub::settle_pair`] of one sender and one receiver, [`Hub::settle_to_one`] of several senders,
+//! [`Hub::settle`] of several of both.
+//!
+//! Handles have no bytes, and a call is told its channel. Dropping a handle closes nothing; without
+//! it the hub can't settle.
+//!
+//! What no contract says: that a call returns, or that somebody closes the channel.
+#![tactic(auto)]
+
+mod handles;
+mod log;
+
+pub use handles::{Channel, Hub, Receiver, Sender, bounded, unbounded};
+pub use ruled_channel::{NoMemory, OutOfMemory, RecvError, SendError};

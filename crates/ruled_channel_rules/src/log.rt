@@ -1,0 +1,76 @@
+//! The rule, and what each step tells.
+ghost use Rattle.std.specs.Prelude.{◌≡◌, [], true, false};
+ghost use Rattle.ruled_channel_rules.specs.Merged.{AllArrived};
+ghost use Rattle.ruled_channel_rules.specs.Whole.{IsWhole, hub_log, sender_log, receiver_log, spent_log, with_sent, with_got, with_closed, with_end, one_sender_more, one_receiver_more, together};
+
+use ruled_channel::{AtEnd, Closed, Join, Lesson, Protocol, Received, Sent, Split};
+use std::collections::LinkedList;
+
+/// What a pass knows. No value of it is made.
+pub struct Log<T> {
+    /// Whether it makes the senders and the receivers.
+    pub makes: bool,
+    /// How many it has made.
+    pub senders: u64,
+    pub receivers: u64,
+    /// Whether it knows that the channel is closed.
+    pub closed: bool,
+    /// Whether it found the channel closed and empty.
+    pub ended: bool,
+    /// What each sender has sent that it speaks for, and what each receiver has got.
+    pub sent: LinkedList<LinkedList<T>>,
+    pub got: LinkedList<LinkedList<T>>,
+}
+
+/// What was sent is what was got and then what the channel holds.
+pub struct Whole;
+
+impl<T> Protocol<T, Log<T>> for Whole {
+    ghost holds = { IsWhole };
+
+    ghost first = { hub_log 0 0 };
+}
+
+impl<T> Sent<T, Log<T>> for Whole {
+    ghost then = { λ v m w. w ≡ with_sent v m };
+}
+
+impl<T> Received<T, Log<T>> for Whole {
+    ghost then = { λ v m w. w ≡ with_got v m };
+}
+
+impl<T> AtEnd<Log<T>> for Whole {
+    ghost then = { λ v w. w ≡ with_end v };
+}
+
+impl<T> Closed<Log<T>> for Whole {
+    ghost then = { λ v was_open w. (w ≡ with_closed v) × (v.closed ≡ true → was_open ≡ false) };
+}
+
+impl<T> Lesson<T, Log<T>> for Whole {
+    ghost fact = { λ v messages closed. AllArrived v.sent v.got };
+}
+
+impl<T> Join<Log<T>> for Whole {
+    ghost both = { together };
+
+    ghost spent = { spent_log };
+}
+
+/// A sender is made.
+pub struct ForSender;
+
+impl<T> Split<Log<T>> for ForSender {
+    ghost left = { one_sender_more };
+
+    ghost right = { λ v. sender_log false [] };
+}
+
+/// A receiver is made.
+pub struct ForReceiver;
+
+impl<T> Split<Log<T>> for ForReceiver {
+    ghost left = { one_receiver_more };
+
+    ghost right = { λ v. receiver_log false false [] };
+}
