@@ -180,8 +180,7 @@ fn try_out(parts: &[Part; 2], others: usize, is_closed: bool) -> usize {
     })
 }
 
-const SIDES: [[usize; 2]; 4] =
-    [[SENDERS, SENDERS], [SENDERS, RECEIVERS], [RECEIVERS, SENDERS], [RECEIVERS, RECEIVERS]];
+const SIDES: [[usize; 2]; 3] = [[SENDERS, SENDERS], [SENDERS, RECEIVERS], [RECEIVERS, RECEIVERS]];
 
 /// Every pair of acts.
 fn pairs() -> impl Iterator<Item = [Act; 2]> {
