@@ -218,7 +218,7 @@ impl<T: Drop> Receiver<T> {
     /// assert_eq!(rt; sender.send_all(&rt, &channel, &[1, 2]), 2);
     /// sender.close(&rt, &channel);
     /// let all = receiver.recv_all(&rt, rt.alloc(), &channel)?;
-    /// assert_eq!(rt; all.as_slice(), [1, 2]);
+    /// assert_eq!(rt; all.as_slice(), [1, 2].as_slice());
     /// ```
     pub fn recv_all<R: Wait>(
         &mut self,
@@ -320,7 +320,7 @@ impl<T: Drop> Hub<T> {
     /// let all = receiver.recv_all(&rt, rt.alloc(), &channel)?;
     /// hub.take_sender(&channel, sender);
     /// hub.settle_to_one(&rt, &channel, receiver);
-    /// assert_eq!(rt; all.as_slice(), [1, 2]);
+    /// assert_eq!(rt; all.as_slice(), [1, 2].as_slice());
     /// ```
     pub fn take_sender(&mut self, channel: &Channel<T>, sender: Sender<T>)
         requires own { IsHubOf channel.now self.old × IsSenderOf channel.now sender }
@@ -344,7 +344,7 @@ impl<T: Drop> Hub<T> {
     /// hub.take_sender(&channel, sender);
     /// hub.take_receiver(&channel, receiver);
     /// hub.settle(&rt, &channel);
-    /// assert_eq!(rt; all.as_slice(), [1, 2]);
+    /// assert_eq!(rt; all.as_slice(), [1, 2].as_slice());
     /// ```
     pub fn take_receiver(&mut self, channel: &Channel<T>, receiver: Receiver<T>)
         requires own { IsHubOf channel.now self.old × IsReceiverOf channel.now receiver }
@@ -368,7 +368,7 @@ impl<T: Drop> Hub<T> {
     /// hub.take_sender(&channel, sender);
     /// hub.take_receiver(&channel, receiver);
     /// hub.settle(&rt, &channel);
-    /// assert_eq!(rt; all.as_slice(), [1, 2]);
+    /// assert_eq!(rt; all.as_slice(), [1, 2].as_slice());
     /// ```
     pub fn settle<R: Wait>(&mut self, rt: &R, channel: &Channel<T>)
         requires own { IsHubOf channel.now self.old }
@@ -394,7 +394,7 @@ impl<T: Drop> Hub<T> {
     /// sender.close(&rt, &channel);
     /// let all = receiver.recv_all(&rt, rt.alloc(), &channel)?;
     /// hub.settle_pair(&rt, &channel, sender, receiver);
-    /// assert_eq!(rt; all.as_slice(), [1, 2]);
+    /// assert_eq!(rt; all.as_slice(), [1, 2].as_slice());
     /// ```
     pub fn settle_pair<R: Wait>(
         self,
@@ -427,7 +427,7 @@ impl<T: Drop> Hub<T> {
     /// let all = receiver.recv_all(&rt, rt.alloc(), &channel)?;
     /// hub.take_sender(&channel, sender);
     /// hub.settle_to_one(&rt, &channel, receiver);
-    /// assert_eq!(rt; all.as_slice(), [1, 2]);
+    /// assert_eq!(rt; all.as_slice(), [1, 2].as_slice());
     /// ```
     pub fn settle_to_one<R: Wait>(self, rt: &R, channel: &Channel<T>, receiver: Receiver<T>)
         requires own { IsHubOf channel.now self × IsReceiverOf channel.now receiver }
