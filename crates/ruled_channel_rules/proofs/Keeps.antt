@@ -7,9 +7,9 @@ use lib.ListN.{get_elem?}
 use Rattle.atomic_table.proofs.Lists.{at_set, at_snoc}
 use Rattle.ruled_channel.specs.Rule.{Sends, Receives, Closes, Ends, Forks, Merges, Learns}
 use Rattle.ruled_channel_rules.specs.declared.log.Log.{Log}
-use Rattle.ruled_channel_rules.specs.Merged.{IsMerge, IsMergeOf, AllArrived}
+use Rattle.ruled_channel_rules.specs.Merged.{IsMergeOf, AllArrived}
 use Rattle.ruled_channel_rules.specs.Whole.{log, hub_log, sent, got, Knows, IsWhole, more, with_sent, with_got, with_closed, with_end, sender_log, receiver_log, spent_log, either, together, one_sender_more, one_receiver_more}
-use Rattle.ruled_channel_rules.proofs.Merging.{grows, joins, trades, merge_none}
+use Rattle.ruled_channel_rules.proofs.Merging.{grows, joins, trades}
 
 cons-ne-nil : {X : Type 0} (x : X) (xs : List X) → x ∷ xs ≢ []
 cons-ne-nil x xs e = some-ne-none x (ap (λ l. get_elem? l 0) e)

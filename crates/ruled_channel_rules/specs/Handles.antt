@@ -1,5 +1,5 @@
 -- What a clause says of a channel whose messages all arrive, and of its handles.
-use Rattle.std.specs.Prelude.{◌≡◌, ℕ, Bool, true, List, [], ◌∷◌}
+use Rattle.std.specs.Prelude.{◌≡◌, Bool, true, List, [], ◌∷◌}
 use Rattle.ruled_mutex.specs.Passes.{view}
 use Rattle.ruled_channel.specs.Passes.{IsPassOf}
 use Rattle.ruled_channel_rules.specs.declared.log.Log.{Log}
@@ -42,7 +42,8 @@ module _ {T : Type 0} where
   IsHubOf c m = IsPassOf c.ruled m.pass × ((view m.pass).makes ≡ true)
 
   abbrev pub IsSenderOf : Channel T → Sender T → Type 0
-  IsSenderOf c s = IsPassOf c.ruled s.pass × (view s.pass ≡ sender_log (sender_closed s) (sent_by s))
+  IsSenderOf c s =
+      IsPassOf c.ruled s.pass × (view s.pass ≡ sender_log (sender_closed s) (sent_by s))
 
   abbrev pub IsReceiverOf : Channel T → Receiver T → Type 0
   IsReceiverOf c r =

@@ -42,7 +42,8 @@ module _ {T : Type 0} where
       (hub : ℕ) × (taken : List T)
       × IsMergeOf (taken ++ messages) (flat_map sent views) × IsMergeOf taken (flat_map got views)
       × ((pass : ℕ) (v : Log T) → get_elem? views pass ≡ some v
-      → Knows messages closed hub (length (flat_map sent views)) (length (flat_map got views)) pass v)
+      → Knows messages closed hub (length (flat_map sent views))
+      (length (flat_map got views)) pass v)
 
   -- what a step makes of a view
 
