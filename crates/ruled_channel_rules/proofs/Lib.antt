@@ -1,4 +1,3 @@
 pub mod Merging
 pub mod Keeps
 pub mod Settled
-pub mod Stages
