@@ -1,4 +1,6 @@
 //! One thread: a message in and out at once, many in and then out, and calls that pass no message.
+ghost use Rattle.std.specs.Prelude.{◌<◌};
+
 use crate::peers::{Crossbeam, Futures, Here, Peer, Tokio, UnboundedFutures, UnboundedTokio};
 use crate::report::{Form, channel, row};
 use anyhow::Result;
