@@ -14,7 +14,7 @@ MESSAGE, DISPLACED, BORROWED, TELLS = "m", "q", "b", "v"
 # names of lanes and numbers of messages, which stand in no column
 NAMES, MESSAGES = "h", "d"
 # what stands before a reply of the terminal's form
-MARK = "*"
+MARK = "* "
 
 # A row: the line, its reply, the lanes (in the terminal's form alone), how many names have none,
 # the messages held, and who waits in each list.
@@ -113,6 +113,7 @@ def text_rows(text):
     """The rows of a terminal's form."""
     head, *lines = text.split("\n\n")[0].split("\n")
     columns = [head.index(title) for title in ("line", "reply", "names", "held", "waiting")]
+    columns[1] -= len(MARK)
     rows = []
     for line in lines:
         if line[: columns[1]].strip():
@@ -122,5 +123,5 @@ def text_rows(text):
         line, reply, names, held, waiting = cells_of(row, columns)
         lanes, plus, rest = names.partition("+")
         lists = lists_in(waiting.split())
-        line = line.removesuffix(MARK).strip()
-        yield Row(line, reply, lanes.rstrip(), plus + rest, held.split(), *lists)
+        reply = reply.removeprefix(MARK).strip()
+        yield Row(line.strip(), reply, lanes.rstrip(), plus + rest, held.split(), *lists)

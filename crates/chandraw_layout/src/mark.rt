@@ -189,7 +189,7 @@ pub fn mark_bytes(mark: Mark) -> &'static [u8]
         Mark::Bar => b"h10\"/>",
         Mark::PathEnd => b"\"/>",
         Mark::Newline => b"\n",
-        Mark::TerminalHead => b"      line                 reply           names",
+        Mark::TerminalHead => b"      line                 reply         names",
         Mark::TerminalHeld => b"held         waiting\n",
         Mark::TerminalPoll => b"        polled by",
         Mark::Legend =>

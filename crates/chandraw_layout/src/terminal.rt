@@ -20,7 +20,7 @@ const POLL: usize = 17;
 
 const REPLY: usize = 27;
 
-const NAMES: usize = 43;
+const NAMES: usize = 41;
 
 // what stands before a reply
 const MARK: usize = 2;
