@@ -1,4 +1,3 @@
 pub mod Answered
 pub mod Steps
 pub mod Same
-pub mod Polls

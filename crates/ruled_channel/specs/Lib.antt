@@ -1,4 +1,3 @@
 pub mod Rule
 pub mod Guarded
 pub mod Passes
-pub mod Receiving
