@@ -4,8 +4,11 @@
 The pictures of docs/pictures are drawn anew from examples/NAME.chan and compared, and so is the
 terminal's form in docs/TOOLS.md. Each picture has to be XML that Python's parser accepts, with a
 row of less than 1 KB for each line that the built chanrun prints of the same script, and that line
-in it, and room for all of them; statuses and messages have to be chanrun's. The replies to `len`
-and `notice` have to agree with the messages and the waiting lists beside them. The rows of
+in it, and room for all of them; statuses and messages have to be chanrun's. A row more is there for
+each poll of settling that is pending. Behind each mark, a tab in SVG and a star for a terminal, has
+to stand a reply, in order. Columns and keys have to be there for what occurs, and for nothing else.
+The replies to `len` and `notice` have to agree with the messages and the waiting lists beside them.
+The rows of
 examples.py have to show, in both forms, what stands there, and a cell that is too small how many
 others there are. The terminal's form has to keep to 100 columns of ASCII. Where a request for
 memory is refused, the picture has to be whole still, or else a beginning of it, with the message
@@ -26,13 +29,14 @@ import subprocess
 import sys
 import tempfile
 import xml.etree.ElementTree as ElementTree
+from html import unescape
 
 TOP = pathlib.Path(__file__).resolve().parent.parent.parent
 sys.path.insert(0, str(TOP / "tools"))
 
 from random_scripts import LARGEST, random_script  # noqa: E402
 import examples  # noqa: E402
-from rows import LISTS, svg_rows, svg_strokes, text_rows  # noqa: E402
+from rows import LISTS, SVG, TELLS, svg_rows, svg_strokes, text_rows  # noqa: E402
 from states import states_of  # noqa: E402
 
 PICTURES = ("handed_on", "forced", "closes")
@@ -51,6 +55,10 @@ NARROW = 7
 TEXT = "{http://www.w3.org/2000/svg}text"
 LINES_AT = "44"
 REPLIES_AT = "236"
+# a text's class where it is a poll of settling, and where it names a lane
+POLLS, NAMES = "p", "h"
+# the lines that a key explains
+KEYS = set("wtvmqbce")
 # what stands behind a name in the waiting lists, by the reply to `notice`
 MARKS = {"absent": [], "untold": [""], "told": ["!"]}
 
@@ -72,7 +80,7 @@ def run(program, given, arguments=()):
 
 
 def replies_in(root):
-    """The texts of the replies that a picture shows, in order."""
+    """The texts of the replies that a picture shows, and of the pending polls of settling."""
     return [
         text for text in root.iter(TEXT)
         if text.get("x") == REPLIES_AT and text.get("class") != "g"
@@ -90,6 +98,41 @@ def wrong_with_places(root, shown):
     return wrong
 
 
+def wrong_with_marks(picture, replies):
+    """What is wrong with what stands behind the marks."""
+    marked = [part.split(b"<")[0] for part in picture.split(b"\t>")[1:]]
+    right = [unescape(text.decode()) for text in marked] == replies
+    right = right and picture.count(b"\t") == len(replies)
+    return [] if right else ["behind the marks stands something else than the replies"]
+
+
+def wrong_with_keys(root):
+    """What is wrong with the frame: its size and words, and a key or a column for what occurs."""
+    keys = [key for key in root if key.tag == SVG + "g"]
+    explained = {path.get("class") for key in keys for path in key.iter(SVG + "path")}
+    drawn = {path.get("class") for path in root.findall(SVG + "path")}
+    named = {name.text for key in keys for name in key.iter(SVG + "tspan")}
+    names = {
+        re.sub(r"\d+", "0", text.text) for text in root.iter(TEXT) if text.get("class") == NAMES
+    }
+    size = f'0 0 {root.get("width")} {root.get("height")}'
+    wrong = [] if root.get("viewBox") == size else ["its viewBox isn't its size"]
+    if root.find(SVG + "title") is None or root.find(SVG + "desc") is None:
+        wrong.append("it has no title or no description")
+    if explained != drawn & KEYS or named != names:
+        wrong.append(f"keys {explained}, {named} beside {drawn}, {names}")
+    return wrong
+
+
+def wrong_with_columns(picture):
+    """Whether there is a column that nothing stands in."""
+    root = ElementTree.fromstring(picture)
+    titles = {text.text for text in root.iter(TEXT) if text.get("class") == "g"}
+    rows = list(svg_rows(picture))
+    used = {name for name in ("held", *LISTS) if any(getattr(row, name) for row in rows)}
+    return [] if titles - {"line", "reply", "names"} == used else [f"columns {titles}, not {used}"]
+
+
 def cells_in(root):
     """Each row with a reply: its line, its reply, what is held, and who waits, as words."""
     titles = {
@@ -98,13 +141,13 @@ def cells_in(root):
     lists = {titles[name] for name in ("sends", "receives", "streams", "closed") if name in titles}
     rows = {}
     for text in root.iter(TEXT):
-        if text.get("class") != "g":
+        if text.get("class") != "g" and text.get("y"):
             rows.setdefault(text.get("y"), []).append((text.get("x"), text.text or ""))
     for cells in rows.values():
         shown = dict(cells)
         if REPLIES_AT in shown:
             waiting = [word for x, cell in cells if x in lists for word in cell.split()]
-            held = shown.get(titles["held"], "").split()
+            held = shown.get(titles.get("held"), "").split()
             yield shown.get(LINES_AT, ""), shown[REPLIES_AT], held, waiting
 
 
@@ -131,12 +174,16 @@ def wrong_with_rows(picture, replies):
         return [f"it is no XML: {error}"]
     shown = replies_in(root)
     wrong = wrong_with_places(root, shown) + wrong_with_cells(root)
-    if [text.text or "" for text in shown] != replies:
+    wrong += wrong_with_marks(picture, replies)
+    if replies:
+        wrong += wrong_with_keys(root) + wrong_with_columns(picture)
+    if [text.text or "" for text in shown if text.get("class") != POLLS] != replies:
         wrong.append("the replies aren't chanrun's")
-    rows = picture.split(b"\n")[11:-2] if replies else []
+    lines = picture.split(b"\n")
+    rows = [row for row in lines if b' x="236" y="' in row and b'class="g"' not in row]
     if any(len(row) >= ROW_BYTES for row in rows):
         wrong.append("a row has 1 KB or more")
-    if len(picture) >= FRAME_BYTES + ROW_BYTES * len(replies):
+    if len(rows) != len(shown) or len(picture) >= FRAME_BYTES + ROW_BYTES * len(rows):
         wrong.append("it is too large")
     return wrong
 
@@ -149,8 +196,13 @@ def wrong_with_text(text, replies):
         wrong.append("the terminal's form has more than 100 columns")
     if not all(line.isprintable() and line.isascii() for line in lines):
         wrong.append("the terminal's form has what can't be printed")
-    if any(reply not in text.decode() for reply in replies):
-        wrong.append("the terminal's form lacks a reply")
+    marked = text.decode("ascii", "replace").split("*")[1:]
+    right = len(marked) == len(replies)
+    right = right and all(
+        re.match(f" {re.escape(reply)}( |\n)", part) for reply, part in zip(replies, marked)
+    )
+    if not right:
+        wrong.append("behind the marks of the terminal's form stands something else")
     return wrong
 
 
@@ -333,9 +385,9 @@ def wrong_with_example(example, strokes, programs):
     wrong = first_difference("SVG", in_svg, [row._replace(lanes=None) for row in wanted])
     polled = [row._replace(line=row.line.removesuffix(" settling")) for row in wanted]
     wrong += first_difference("text", in_text, polled)
-    if strokes is not None:
-        wrong += first_difference("lines", sorted(svg_strokes(picture)), sorted(strokes))
-    return wrong
+    shapes = {TELLS} | {stroke.shape for stroke in strokes}
+    drawn = [stroke for stroke in svg_strokes(picture) if stroke.shape in shapes]
+    return wrong + first_difference("lines", sorted(drawn), sorted(strokes))
 
 
 def is_cut(cell, words):
@@ -351,13 +403,14 @@ def wrong_with_states(given, programs):
     """The first row in which a form shows other messages or lists than the rules ask for."""
     replies = run(programs["chanrun"], given).stdout.decode().split("\n")[:-1]
     in_svg, in_text, _picture = rows_shown(given, programs)
-    for svg, text, (held, *lists) in zip(in_svg, in_text, states_of(given, replies)):
+    states = list(states_of(given, replies))
+    for svg, text, (held, *lists) in zip(in_svg, in_text, states):
         waiting = [word for name in LISTS for word in getattr(text, name)]
         right = is_cut(svg.held, held) and is_cut(text.held, held)
         right = right and all(is_cut(getattr(svg, it), who) for it, who in zip(LISTS, lists))
         if not right or not is_cut(waiting, sum(lists, [])):
             return [f"{svg} and {text}, not {held}, {lists}"]
-    return [] if len(in_svg) == len(in_text) == len(replies) else ["a row is missing"]
+    return [] if len(in_svg) == len(in_text) == len(states) else ["a row is missing"]
 
 
 def wrong_with_cuts(programs):

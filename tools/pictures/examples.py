@@ -4,7 +4,13 @@ A row is its line and reply, and then, between slashes: the lanes, the messages 
 in sends, receives, streams and closed operations.
 """
 
-from rows import BORROWED, DISPLACED, MESSAGE, Row, Stroke
+from rows import BORROWED, DISPLACED, MESSAGE, TELLS, Row, Stroke
+
+
+def tells(row, caller, *told):
+    """The arrows of a row to those who were told."""
+    return [Stroke(TELLS, caller, row, name, row) for name in told]
+
 
 # All four lists, each with two who wait, and told ones at the head of each.
 LISTS = """\
@@ -33,6 +39,7 @@ next r1 => pending / ||:||!::|! / / o5! / o1! / r1 / o2 o3
 poll o5 => ok / ||!||!::|| / 7 / / o1! / r1! / o2 o3
 settle => settled 2 1 / ||!||!::|| / 7 / / o1! / r1! / o2 o3
 polled by settling => o1 ok 7 / ||!|||::|| / / / / r1! / o2 o3
+polled by settling => r1 pending / ||:|||::|| / / / / r1 / o2 o3
 notice r1 => untold / ||:|||::|| / / / / r1 / o2 o3
 drop o0 => done / ||:|x|::|| / / / / r1 / o2 o3
 drop o1 => done / ||:| x::|| / / / / r1 / o2 o3
@@ -42,6 +49,15 @@ drop r1 => done / ==x===!!== / / / / / o2! o3!
 poll o3 => ready / |     !||| / / / / / o2!
 poll o2 => ready / |     |||| / / / / /
 """
+
+LISTS_STROKES = [
+    *tells(13, "s0", "o0", "r1", "r2"),
+    *tells(18, "o0", "o4"),
+    *tells(19, "o4", "o1"),
+    *tells(20, "r2", "o5"),
+    *tells(22, "o5", "r1"),
+    *tells(31, "r1", "o2", "o3"),
+]
 
 # Names borrowed and messages taken by lanes to the left and to the right.
 SIDES = """\
@@ -70,10 +86,10 @@ SIDES_STROKES = [
     Stroke(BORROWED, "r1", 4, "o0", 4),
     Stroke(BORROWED, "s1", 6, "o1", 6),
     Stroke(BORROWED, "s1", 7, "o2", 7),
-    Stroke(MESSAGE, "o2", 8, "r1", 9),
-    Stroke(MESSAGE, "s1", 10, "o0", 11),
-    Stroke(MESSAGE, "s1", 12, "r1", 14),
-    Stroke(MESSAGE, "s1", 13, "r1", 16),
+    Stroke(MESSAGE, "o2", 8, "r1", 9, "7"),
+    Stroke(MESSAGE, "s1", 10, "o0", 11, "8"),
+    Stroke(MESSAGE, "s1", 12, "r1", 14, "9"),
+    Stroke(MESSAGE, "s1", 13, "r1", 16, "10"),
 ]
 
 # Messages that are displaced; who was told in vain waits last anew, and who was told and is given
@@ -102,13 +118,16 @@ clone s0 s5 => done / |||:s| / 6 / o0 / / /
 """
 
 TURNS_STROKES = [
-    Stroke(DISPLACED, "s0", 2, "s1", 3),
-    Stroke(DISPLACED, "s1", 3, "s0", 4),
+    Stroke(DISPLACED, "s0", 2, "s1", 3, "1"),
+    Stroke(DISPLACED, "s1", 3, "s0", 4, "2"),
     Stroke(BORROWED, "s0", 5, "o0", 5),
     Stroke(BORROWED, "s0", 7, "o1", 7),
     Stroke(BORROWED, "s1", 9, "o2", 9),
-    Stroke(MESSAGE, "s0", 4, "r0", 12),
-    Stroke(MESSAGE, "s1", 13, "r0", 15),
+    Stroke(MESSAGE, "s0", 4, "r0", 12, "3"),
+    Stroke(MESSAGE, "s1", 13, "r0", 15, "7"),
+    *tells(12, "r0", "o0"),
+    *tells(15, "r0", "o1"),
+    *tells(16, "o1", "o2"),
 ]
 
 # A told stream whose receiver a live receive borrows is polled by settling, at its own turn.
@@ -124,16 +143,25 @@ send o2 s0 3 => done / <---o / 1 / o1 / o0! / r0! /
 poll o2 => pending / |!!:: / 1 / o1 o2 / o0! / r0! /
 settle => settled 5 4 / |!!:: / 1 / o1 o2 / o0! / r0! /
 polled by settling => o0 ok 1 / |!|!: / / o1! o2 / / r0! /
+polled by settling => r0 pending / |:|!: / / o1! o2 / / r0 /
 polled by settling => o1 ok / |!||: / 2 / o2 / / r0! /
 polled by settling => r0 some 2 / ||||! / / o2! / / /
 polled by settling => o2 ok / ||||| / 3 / / / /
 """
 
+BORROWED_STREAM_STROKES = [
+    *tells(4, "s0", "r0", "o0"),
+    *tells(10, "o0", "o1"),
+    *tells(12, "o1", "r0"),
+    *tells(13, "r0", "o2"),
+]
+
+# the rows of each, and its lines of some shapes
 EXAMPLES = {
-    "all lists": (LISTS, None),
+    "all lists": (LISTS, LISTS_STROKES),
     "both sides": (SIDES, SIDES_STROKES),
     "turns": (TURNS, TURNS_STROKES),
-    "a stream polled by settling": (BORROWED_STREAM, None),
+    "a stream polled by settling": (BORROWED_STREAM, BORROWED_STREAM_STROKES),
 }
 
 # How many names, messages and waits there are in the end where cells are too small for them.

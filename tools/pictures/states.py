@@ -59,12 +59,11 @@ class Followed(Channel):
         return None
 
     def settle(self):
-        """The rows of settling: what is shown before its polls, and after each that was ready."""
+        """The rows of settling: what is shown before its polls, and after each."""
         yield self.shown()
         while (name := self.first_told()) is not None:
-            reply = self.poll_stream(name) if name[0] == "r" else self.poll(name)
-            if reply != "pending":
-                yield self.shown()
+            self.poll_stream(name) if name[0] == "r" else self.poll(name)
+            yield self.shown()
 
     def follow(self, line, reply):
         """Does a line that was answered so."""
@@ -82,7 +81,7 @@ class Followed(Channel):
 
 
 def states_of(script, replies):
-    """What the row of each reply shows."""
+    """What each row shows, but for the first one."""
     first, *lines = script.decode("latin-1").split("\n")
     channel, replies = Followed(first), iter(replies)
     for line, reply in zip(lines, replies):

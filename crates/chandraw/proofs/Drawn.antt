@@ -6,6 +6,7 @@ use Rattle.std.proofs.lemmas.Grind.{flat_map-append}
 use Rattle.std.specs.Io.KnownBytes.{Appends}
 use Rattle.chanrun.proofs.Known.{appends_none, appends_more}
 use Rattle.chandraw.specs.Fragments.{fragments_bytes, row_bytes}
+use Rattle.chandraw.proofs.Marked.{in_picture}
 use Rattle.chandraw.specs.Picture.{AreRows, HasPicture, HasRows, row_line}
 use Rattle.chandraw_layout.specs.declared.fragment.Form.{Form}
 use Rattle.chandraw_layout.specs.declared.fragment.Fragment.{Fragment}
@@ -49,15 +50,30 @@ pub framed : (form : Form) (text : List ℕ) (opening closing : List Fragment) (
     → HasPicture form text a d
 framed form text opening closing a b c d before rows behind = (
   fragments_bytes form opening ++ (rows.0 ++ fragments_bytes form closing),
-  record { opening = opening; middle = rows.0; closing = closing; rows = rows.1; whole = refl },
+  record {
+    opening = opening;
+    middle = rows.0;
+    closing = closing;
+    rows = rows.1;
+    whole = refl;
+    marks = in_picture form opening closing rows.1.rows rows.0 rows.1.drawn;
+  },
   appends_more a b d (fragments_bytes form opening) _ before (appends_more b c d rows.0 (fragments_bytes form closing) rows.2 behind),
 )
 
 -- fragments alone
 pub blank : (form : Form) (fragments : List Fragment) (a b : Option (List ℕ)) → Appends a b (fragments_bytes form fragments)
     → HasPicture form [] a b
+unfolding no_rows
 blank form fragments a b written = (
   fragments_bytes form fragments ++ [],
-  record { opening = fragments; middle = []; closing = []; rows = no_rows form; whole = refl },
+  record {
+    opening = fragments;
+    middle = [];
+    closing = [];
+    rows = no_rows form;
+    whole = refl;
+    marks = in_picture form fragments [] [] [] refl;
+  },
   subst (λ (bytes : List ℕ). Appends a b bytes) (sym (append-nil (fragments_bytes form fragments))) written,
 )

@@ -1,5 +1,5 @@
--- The bytes of the fragments of a picture. No byte of a text stands there but escaped.
-use Rattle.std.specs.Prelude.{ℕ, ◌==◌, ◌&&◌, ◌++◌, ◌∷◌, [], List, codes, if◌then◌else◌, nat_le, String, string_bytes}
+-- The bytes of the fragments of a picture, in which a text is escaped, and of its rows.
+use Rattle.std.specs.Prelude.{ℕ, ◌+◌, ◌==◌, ◌&&◌, ◌++◌, ◌∷◌, [], List, codes, if◌then◌else◌, nat_le, String, string_bytes}
 use Rattle.std.specs.List.{flat_map}
 use Rattle.std.specs.Fmt.{decimal}
 use Rattle.chandraw_layout.specs.Marks.{mark_bytes}
@@ -26,7 +26,7 @@ named_byte byte =
 -- a byte as text
 abbrev pub escaped_byte : Form → ℕ → List ℕ
 escaped_byte Svg byte = named_byte byte
-escaped_byte Terminal byte = printed byte
+escaped_byte Terminal byte = if byte == 42 then 63 ∷ [] else printed byte
 
 -- bytes as text
 abbrev pub escaped : Form → List ℕ → List ℕ
@@ -41,8 +41,24 @@ fragment_bytes form (Text text) = escaped form text.items
 abbrev pub fragments_bytes : Form → List Fragment → List ℕ
 fragments_bytes form fragments = flat_map (fragment_bytes form) fragments
 
--- a reply, escaped, between fragments
+-- the byte that marks a reply: the tab in SVG, the star for a terminal
+abbrev pub mark_byte : Form → ℕ
+mark_byte Svg = 9
+mark_byte Terminal = 42
+
+-- how often a byte stands among these
+abbrev pub times : (byte : ℕ) → List ℕ → ℕ
+times byte [] = 0
+times byte (b ∷ bs) = (if b == byte then 1 else 0) + times byte bs
+
+-- what stands before a reply
+abbrev pub reply_mark : Form → List ℕ
+reply_mark Svg = 9 ∷ codes ">"
+reply_mark Terminal = 42 ∷ codes " "
+
+-- a reply, escaped, behind its mark and between fragments
 abbrev pub row_bytes : Form → Row → List ℕ
 row_bytes form row =
     fragments_bytes form row.head.items
-    ++ (escaped form (string_bytes row.reply) ++ fragments_bytes form row.tail.items)
+    ++ (reply_mark form
+    ++ (escaped form (string_bytes row.reply) ++ fragments_bytes form row.tail.items))

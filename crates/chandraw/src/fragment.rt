@@ -1,6 +1,6 @@
 //! The bytes of what a picture is made of.
 ghost use Rattle.std.specs.Prelude.{◌≡◌, ◌++◌, OnOk};
-ghost use Rattle.chandraw.specs.Fragments.{escaped, escaped_byte, named_byte, fragment_bytes, fragments_bytes, printed, row_bytes};
+ghost use Rattle.chandraw.specs.Fragments.{escaped, escaped_byte, named_byte, fragment_bytes, fragments_bytes, printed, reply_mark, row_bytes};
 
 use chandraw_layout::{Form, Fragment, mark_bytes};
 use std::alloc::{AllocError, Global};
@@ -46,7 +46,8 @@ fn add_byte(page: &mut Vec<u8>, form: Form, byte: u8) -> Result<(), AllocError>
 {
     match form {
         Form::Svg => add_named(page, byte),
-        Form::Terminal => add_printed(page, byte),
+        // A star stands before a reply, and nowhere else.
+        Form::Terminal => add_printed(page, if byte == b'*' { b'?' } else { byte }),
     }
 }
 
@@ -93,6 +94,16 @@ pub(crate) fn add_fragments(
     Ok(())
 }
 
+// What stands before a reply, and nowhere else.
+fn reply_mark(form: Form) -> &'static [u8]
+    ensures { result.now ≡ reply_mark form }
+{
+    match form {
+        Form::Svg => b"\t>",
+        Form::Terminal => b"* ",
+    }
+}
+
 /// Adds a row.
 pub(crate) fn add_row(
     alloc: Global,
@@ -103,6 +114,7 @@ pub(crate) fn add_row(
     ensures { OnOk result (page.new.items ≡ page.old.items ++ row_bytes form row.now) }
 {
     add_fragments(alloc, page, form, row.head.as_slice())?;
+    page.extend_from_slice(reply_mark(form))?;
     add_text(page, form, row.reply.as_bytes())?;
     add_fragments(alloc, page, form, row.tail.as_slice())
 }

@@ -1,8 +1,9 @@
 //! A script as a picture: its bytes, and a picture of what its lines do.
 //!
 //! The picture is made of rows, one for each line that a script's replies have (`fragment`). In the
-//! middle of each stands the reply, and around it what `chandraw_layout` puts there: marks, which
-//! are constants, numbers, and escaped texts. `draw` goes through the lines and their answers.
+//! middle of each stands the reply, behind a byte that stands nowhere else, and around it what
+//! `chandraw_layout` puts there: marks, which are constants, numbers, and escaped texts. `draw` goes
+//! through the lines and their answers.
 #![tactic(auto)]
 
 mod draw;

@@ -2,14 +2,14 @@
 use crate::lane::{Lane, handle, operation};
 use crate::name::{Name, NameKind, name_of, named};
 use channel_core::Group;
-use channel_model::{Reply, Step, Who};
+use channel_model::{Reply, Side, Step, Who};
 use futures::task::Poll;
 
 /// What a step is about.
 #[derive(Clone, Copy)]
 pub(crate) enum Act {
     Ask,
-    Close,
+    Close(Name),
     Make(Lane),
     End(Name),
     Send(Name, u64),
@@ -80,7 +80,8 @@ pub(crate) fn act_of(step: &Step<u64>, row: u64) -> Act {
         Step::TrySend(sender, message) => Act::Send(named(NameKind::Sender, *sender), *message),
         Step::ForceSend(sender, message) => Act::Send(named(NameKind::Sender, *sender), *message),
         Step::TryRecv(receiver) => Act::Take(named(NameKind::Receiver, *receiver)),
-        Step::Close(_) => Act::Close,
+        Step::Close(Side::Sender(name)) => Act::Close(named(NameKind::Sender, *name)),
+        Step::Close(Side::Receiver(name)) => Act::Close(named(NameKind::Receiver, *name)),
         Step::Poll(op) => Act::Poll(Who::Op(*op)),
         Step::PollNext(receiver) => Act::Poll(Who::Receiver(*receiver)),
         _ => Act::Ask,
@@ -93,6 +94,19 @@ pub(crate) fn subject_of(act: Act) -> Option<Name> {
         Act::Poll(who) => Some(name_of(who)),
         Act::End(name) => Some(name),
         _ => None,
+    }
+}
+
+/// Who makes a call that may tell others, if a name does.
+pub(crate) fn caller_of(act: Act) -> Option<Name> {
+    match act {
+        Act::Close(name) => Some(name),
+        Act::End(name) => Some(name),
+        Act::Send(name, _) => Some(name),
+        Act::Take(name) => Some(name),
+        Act::Poll(who) => Some(name_of(who)),
+        Act::Ask => None,
+        Act::Make(_) => None,
     }
 }
 

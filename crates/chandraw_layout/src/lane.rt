@@ -54,6 +54,8 @@ pub(crate) struct Stroke {
     pub trace: Trace,
     pub from: Place,
     pub to: Place,
+    /// The message that goes along it, if one does.
+    pub message: Option<u64>,
 }
 
 /// A handle's lane, which begins in this row.

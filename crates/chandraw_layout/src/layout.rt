@@ -1,20 +1,23 @@
 //! A picture that is being drawn: a row for each reply, in either form.
 //!
-//! The table makes each command in a row of its own, and each poll of settling that was ready in a
-//! further one. Of each row the form says what stands before and behind its reply.
+//! The table makes each command in a row of its own, and each poll of settling in a further one. Of
+//! each row with a reply the form says what stands before and behind it. The row of a pending poll
+//! has none, and stands before what comes next.
 ghost use Rattle.channel_model.specs.Capacity.{HasPositiveCapacity};
 
 use crate::fragment::{Form, Fragment, Fragments};
 use crate::mark::Mark;
+use crate::name::Name;
 use crate::size::{Size, size_of};
 use crate::table::Table;
 use crate::{svg, terminal};
-use channel_model::{Kind, OutOfMemory};
+use channel_model::Kind;
 use chanrun::grammar::Command;
 use chanrun::parse::Line;
 use chanrun::replay::Answered;
 use chanrun::script::ScriptError;
 use std::alloc::{AllocError, Global};
+use std::mem;
 
 /// What stands in a row as it was given.
 #[derive(Clone, Copy)]
@@ -56,7 +59,10 @@ pub struct Layout {
     form: Form,
     table: Table,
     size: Size,
+    // whether the polls of a settling are still to be made
     settles: bool,
+    // the rows of the pending polls that the next row stands below
+    polls: Fragments,
 }
 
 impl Layout {
@@ -69,7 +75,7 @@ impl Layout {
     ) -> Result<Layout, ScriptError>
         requires { HasPositiveCapacity kind }
     {
-        let size = size_of(lines);
+        let size = size_of(alloc, kind, lines)?;
         let table = Table::new(alloc, kind)?;
         Ok(Layout {
             alloc,
@@ -77,6 +83,7 @@ impl Layout {
             table,
             size,
             settles: false,
+            polls: Fragments::new(alloc),
         })
     }
 
@@ -84,22 +91,38 @@ impl Layout {
     pub fn opening(&mut self, first: &[u8]) -> Result<Vec<Fragment>, ScriptError> {
         self.table.begin()?;
         let fragments = match self.form {
-            Form::Svg => svg::opening(self.alloc, &self.table, self.size, first),
-            Form::Terminal => terminal::opening(self.alloc, &self.table, self.size, first),
+            Form::Svg => svg::opening(self.alloc, &self.table, &self.size, first),
+            Form::Terminal => terminal::opening(self.alloc, &self.table, &self.size, first),
         };
         self.table.end_row();
         Ok(fragments?)
     }
 
-    // Makes a command.
-    fn follow(&mut self, command: Command) -> Result<(), OutOfMemory> {
-        match command {
-            Command::Make(step) => return self.table.make_row(step),
-            Command::Notice(_) => {}
-            Command::Settle => self.settles = true,
+    // Adds the row of a pending poll of settling.
+    fn add_poll(&mut self, name: Name) -> Result<(), AllocError> {
+        let (alloc, polls) = (self.alloc, &mut self.polls);
+        match self.form {
+            Form::Svg => svg::add_poll(polls, alloc, &self.table, &self.size, name)?,
+            Form::Terminal => terminal::add_poll(polls, alloc, &self.table, &self.size, name)?,
         }
-        self.table.begin_row();
+        self.table.end_row();
         Ok(())
+    }
+
+    // Polls who was told, to the next poll that is ready.
+    fn poll_on(&mut self) -> Result<(), ScriptError> {
+        for _ in 0..u64::MAX {
+            match self.table.poll_row()? {
+                Some(polled) if !polled.is_ready => self.add_poll(polled.name)?,
+                _ => return Ok(()),
+            }
+        }
+        Ok(())
+    }
+
+    // The rows of the pending polls so far, which are no longer kept.
+    fn take_polls(&mut self) -> Fragments {
+        mem::replace(&mut self.polls, Fragments::new(self.alloc))
     }
 
     /// Makes the row of these texts, and answers what stands before its reply, and what behind it.
@@ -108,13 +131,15 @@ impl Layout {
         texts: RowTexts<'_>,
     ) -> Result<(Vec<Fragment>, Vec<Fragment>), ScriptError> {
         if texts.is_first {
-            self.follow(texts.line.command)?;
+            self.table.follow(texts.line.command)?;
+            self.settles = texts.line.command == Command::Settle;
         } else {
-            self.table.poll_row()?;
+            self.poll_on()?;
         }
+        let polls = self.take_polls();
         let row = match self.form {
-            Form::Svg => svg::row(self.alloc, &self.table, self.size, texts),
-            Form::Terminal => terminal::row(self.alloc, &self.table, self.size, texts),
+            Form::Svg => svg::row(polls, self.alloc, &self.table, &self.size, texts),
+            Form::Terminal => terminal::row(polls, self.alloc, &self.table, &self.size, texts),
         };
         self.table.end_row();
         Ok(row?)
@@ -124,7 +149,7 @@ impl Layout {
     pub fn end_line(&mut self) -> Result<(), ScriptError> {
         if self.settles {
             self.settles = false;
-            self.table.poll_rest()?;
+            self.poll_on()?;
         }
         Ok(())
     }
@@ -132,9 +157,10 @@ impl Layout {
     /// What stands behind the last reply.
     pub fn closing(&mut self) -> Result<Vec<Fragment>, ScriptError> {
         self.table.end_all()?;
+        let polls = self.take_polls();
         Ok(match self.form {
-            Form::Svg => svg::closing(self.alloc, &self.table)?,
-            Form::Terminal => terminal::closing(self.alloc)?,
+            Form::Svg => svg::closing(polls, &self.table)?,
+            Form::Terminal => terminal::closing(polls)?,
         })
     }
 }

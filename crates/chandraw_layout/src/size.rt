@@ -1,60 +1,116 @@
-//! How large a picture is, which is written before its first row.
+//! What a picture has to show, which is known before its first row is written.
 //!
-//! Each reply has a row, and there are as many lanes as names live at once, up to the number of
-//! lanes.
-use crate::act::{Act, act_of, is_done};
-use crate::lane::LANES;
-use channel_model::{Reply, Step};
-use chanrun::grammar::Command;
-use chanrun::replay::{Answer, Answered};
+//! The lines are done on a table of their own for it, as they are for the rows, and of each row is
+//! noted what stands in it.
+ghost use Rattle.channel_model.specs.Capacity.{HasPositiveCapacity};
 
-/// How many rows stand behind the first one, and how many lanes there are.
-#[derive(Clone, Copy)]
+use crate::item::Item;
+use crate::table::Table;
+use channel_core::Group;
+use channel_model::{Kind, OutOfMemory};
+use chanrun::grammar::Command;
+use chanrun::replay::Answered;
+use std::alloc::Global;
+
+/// How many rows stand behind the first one, how many lanes there are, and what occurs.
+#[derive(Drop)]
 pub(crate) struct Size {
     pub rows: u64,
     pub lanes: usize,
+    items: Vec<Item>,
 }
 
-// The lines so far, and how many names live.
-#[derive(Clone, Copy)]
-struct Measure {
-    live: usize,
-    size: Size,
-}
-
-impl Measure {
-    fn add_rows(&mut self, count: usize) {
-        self.size.rows = self.size.rows.saturating_add(count as u64);
+impl Size {
+    /// Whether there is such a thing in the picture.
+    pub fn has(&self, item: Item) -> bool {
+        self.items.contains(&item)
     }
 
-    // Notes a step that was answered so.
-    fn note_step(&mut self, step: &Step<u64>, reply: &Reply<u64>) {
-        match act_of(step, 0) {
-            Act::Make(_) if is_done(reply) => self.live = self.live.saturating_add(1),
-            Act::End(_) if is_done(reply) => self.live = self.live.saturating_sub(1),
-            _ => {}
-        }
-        self.size.lanes = self.size.lanes.max(self.live).min(LANES);
-    }
-
-    // Notes a line.
-    fn note(&mut self, answered: &Answered) {
-        self.add_rows(1);
-        match (&answered.line.command, &answered.answer) {
-            (Command::Make(step), Answer::Replied(reply)) => self.note_step(step, reply),
-            (_, Answer::Settled(settled)) => self.add_rows(settled.finished.len()),
-            _ => {}
+    // Notes a thing, if it occurs.
+    fn note(&mut self, item: Item, occurs: bool) -> Result<(), OutOfMemory> {
+        if !occurs || self.has(item) || self.items.push(item).is_ok() {
+            Ok(())
+        } else {
+            Err(OutOfMemory)
         }
     }
+
+    // Notes the kinds of the names, where one begins.
+    fn note_names(&mut self, table: &Table) -> Result<(), OutOfMemory> {
+        if table.row_made.is_none() {
+            return Ok(());
+        }
+        for lane in table.lanes.iter() {
+            if let Some(lane) = lane {
+                self.note(Item::Name(lane.name.kind), true)?;
+            }
+        }
+        Ok(())
+    }
+
+    // Notes who waits in a row, and what is held.
+    fn note_columns(&mut self, table: &Table) -> Result<(), OutOfMemory> {
+        self.note(Item::Held, !table.held.is_empty())?;
+        self.note(Item::List(Group::Sends), !table.sends.is_empty())?;
+        self.note(Item::List(Group::Receives), !table.receives.is_empty())?;
+        self.note(Item::List(Group::Streams), !table.streams.is_empty())?;
+        self.note(Item::List(Group::Closeds), !table.closeds.is_empty())
+    }
+
+    // Notes the lines of a row.
+    fn note_lines(&mut self, table: &Table) -> Result<(), OutOfMemory> {
+        for stroke in table.row_strokes.iter() {
+            self.note(Item::Line(stroke.trace), true)?;
+        }
+        self.note(Item::Tells, !table.row_told.is_empty())?;
+        self.note(Item::Closing, table.row_closes)?;
+        self.note(Item::End, table.row_ended.is_some())
+    }
+
+    // Notes a row, and ends it.
+    fn note_row(&mut self, table: &mut Table) -> Result<(), OutOfMemory> {
+        self.rows = table.row;
+        self.lanes = table.lanes.len();
+        self.note_names(table)?;
+        self.note_columns(table)?;
+        self.note_lines(table)?;
+        table.end_row();
+        Ok(())
+    }
+
+    // Notes the rows of the polls of settling.
+    fn note_polls(&mut self, table: &mut Table) -> Result<(), OutOfMemory> {
+        for _ in 0..u64::MAX {
+            if table.poll_row()?.is_none() {
+                return Ok(());
+            }
+            self.note_row(table)?;
+        }
+        Ok(())
+    }
 }
 
-/// How large the picture of these lines is.
-pub(crate) fn size_of(lines: &[Answered]) -> Size {
-    // the first two names are those of the first handles
-    let size = Size { rows: 0, lanes: 2 };
-    let mut measure = Measure { live: 2, size };
+/// What the picture of these lines has to show.
+pub(crate) fn size_of(alloc: Global, kind: Kind, lines: &[Answered]) -> Result<Size, OutOfMemory>
+    requires { HasPositiveCapacity kind }
+{
+    let items = Vec::new(alloc);
+    let mut size = Size {
+        rows: 0,
+        lanes: 0,
+        items,
+    };
+    let mut table = Table::new(alloc, kind)?;
+    table.begin()?;
+    size.note_row(&mut table)?;
     for answered in lines {
-        measure.note(answered);
+        table.follow(answered.line.command)?;
+        size.note_row(&mut table)?;
+        if answered.line.command == Command::Settle {
+            size.note_polls(&mut table)?;
+        }
     }
-    measure.size
+    table.end_all()?;
+    size.note_lines(&table)?;
+    Ok(size)
 }

@@ -1,21 +1,25 @@
 //! The picture in SVG: time goes down, a row a reply.
 //!
 //! From left to right stand the number of the line, the line, the reply, a lane for each live name,
-//! the messages held, and the four waiting lists. Of what lasts (a name, a wait, a notice, a
-//! message on its way) one line is drawn when it ends.
+//! the messages held, and the four waiting lists, as far as one is ever used. Of what lasts (a name,
+//! a wait, a notice, a message on its way) one line is drawn when it ends. Who is told by a call is
+//! shown by an arrow in its row.
 use crate::cells::{held_cell, waiting_cell};
 use crate::fragment::{Fragment, Fragments};
+use crate::item::{COLUMNS, Item};
 use crate::lane::LANES;
 use crate::layout::RowTexts;
 use crate::mark::Mark;
 use crate::name::{Name, name_text};
 use crate::size::Size;
-use crate::svg::lines::{add_closing, add_end, add_strokes};
-use crate::svg::places::{cells_x, height, lane_x, list_x, text_y};
+use crate::svg::key::{add_keys, width};
+use crate::svg::lines::{add_closing, add_end, add_strokes, add_tells};
+use crate::svg::places::{column_x, height, lane_x, text_y};
 use crate::table::Table;
-use channel_model::Who;
+use channel_core::Group;
 use std::alloc::{AllocError, Global};
 
+mod key;
 mod lines;
 mod places;
 
@@ -30,41 +34,54 @@ const HELD_WIDTH: usize = 16;
 
 const LIST_WIDTH: usize = 11;
 
-// Adds a title over a column.
-fn add_title(fragments: &mut Fragments, x: u64, name: Mark) -> Result<(), AllocError> {
-    fragments.mark(Mark::Title)?;
-    fragments.number(x)?;
-    fragments.mark(name)
-}
-
-// Adds what every picture has: the style, the shapes and what they mean.
-fn add_head(fragments: &mut Fragments) -> Result<(), AllocError> {
-    fragments.mark(Mark::SvgHead)?;
-    fragments.mark(Mark::SvgStyle)?;
-    fragments.mark(Mark::SvgArrow)?;
-    fragments.mark(Mark::SvgCross)?;
-    fragments.mark(Mark::SvgRows)?;
-    fragments.mark(Mark::SvgLegend)?;
-    fragments.mark(Mark::SvgLegendEnd)?;
-    fragments.mark(Mark::SvgTitles)
-}
-
-// Adds how large the picture is, and what every picture has.
-fn add_frame(fragments: &mut Fragments, size: Size) -> Result<(), AllocError> {
+// Adds how large the picture is, and what it is a picture of.
+fn add_frame(fragments: &mut Fragments, size: &Size, first: &[u8]) -> Result<(), AllocError> {
+    let (width, height) = (width(size), height(size));
     fragments.mark(Mark::SvgStart)?;
-    fragments.number(list_x(size, 4).max(720))?;
+    fragments.number(width)?;
     fragments.mark(Mark::SvgHeight)?;
-    fragments.number(height(size))?;
-    add_head(fragments)
+    fragments.number(height)?;
+    fragments.mark(Mark::SvgViewBox)?;
+    fragments.number(width)?;
+    fragments.mark(Mark::Space)?;
+    fragments.number(height)?;
+    fragments.mark(Mark::SvgTitle)?;
+    fragments.text(first)?;
+    fragments.mark(Mark::SvgDescription)
 }
 
-// Adds the titles of the cells behind the lanes.
-fn add_titles(fragments: &mut Fragments, size: Size) -> Result<(), AllocError> {
-    add_title(fragments, cells_x(size), Mark::HeldName)?;
-    add_title(fragments, list_x(size, 0), Mark::SendsName)?;
-    add_title(fragments, list_x(size, 1), Mark::ReceivesName)?;
-    add_title(fragments, list_x(size, 2), Mark::StreamsName)?;
-    add_title(fragments, list_x(size, 3), Mark::ClosedsName)
+// Adds what every picture has: the style, the shapes, and the ground.
+fn add_style(fragments: &mut Fragments) -> Result<(), AllocError> {
+    fragments.mark(Mark::SvgTexts)?;
+    fragments.mark(Mark::SvgLines)?;
+    fragments.mark(Mark::SvgDark)?;
+    fragments.mark(Mark::SvgArrow)?;
+    fragments.mark(Mark::SvgTell)?;
+    fragments.mark(Mark::SvgCross)?;
+    fragments.mark(Mark::SvgRows)
+}
+
+fn title_of(column: Item) -> Mark {
+    match column {
+        Item::List(Group::Sends) => Mark::SendsName,
+        Item::List(Group::Receives) => Mark::ReceivesName,
+        Item::List(Group::Streams) => Mark::StreamsName,
+        Item::List(Group::Closeds) => Mark::ClosedsName,
+        _ => Mark::HeldName,
+    }
+}
+
+// Adds the titles of the columns.
+fn add_titles(fragments: &mut Fragments, size: &Size) -> Result<(), AllocError> {
+    fragments.mark(Mark::SvgTitles)?;
+    for column in COLUMNS {
+        if size.has(column) {
+            fragments.mark(Mark::Title)?;
+            fragments.number(column_x(size, column))?;
+            fragments.mark(title_of(column))?;
+        }
+    }
+    fragments.mark(Mark::Newline)
 }
 
 // Adds the names of all lanes.
@@ -81,11 +98,13 @@ fn add_names(fragments: &mut Fragments, alloc: Global, table: &Table) -> Result<
 pub(crate) fn opening(
     alloc: Global,
     table: &Table,
-    size: Size,
+    size: &Size,
     first: &[u8],
 ) -> Result<Vec<Fragment>, AllocError> {
     let mut fragments = Fragments::new(alloc);
-    add_frame(&mut fragments, size)?;
+    add_frame(&mut fragments, size, first)?;
+    add_style(&mut fragments)?;
+    add_keys(&mut fragments, size)?;
     add_titles(&mut fragments, size)?;
     add_line(&mut fragments, 0, 1, first)?;
     add_names(&mut fragments, alloc, table)?;
@@ -165,18 +184,6 @@ fn add_cell(fragments: &mut Fragments, row: u64, x: u64, text: &[u8]) -> Result<
     fragments.mark(Mark::TextEnd)
 }
 
-// Adds those who wait in a list.
-fn add_list(
-    fragments: &mut Fragments,
-    alloc: Global,
-    table: &Table,
-    x: u64,
-    list: &[Who],
-) -> Result<(), AllocError> {
-    let cell = waiting_cell(alloc, table, list, LIST_WIDTH)?;
-    add_cell(fragments, table.row, x, cell.as_slice())
-}
-
 // Adds how many names have no lane.
 fn add_rest(fragments: &mut Fragments, alloc: Global, table: &Table) -> Result<(), AllocError> {
     if table.rest.is_empty() {
@@ -186,52 +193,31 @@ fn add_rest(fragments: &mut Fragments, alloc: Global, table: &Table) -> Result<(
     add_cell(fragments, table.row, lane_x(LANES), rest.as_bytes())
 }
 
-// Adds the messages held.
-fn add_held(
-    fragments: &mut Fragments,
-    alloc: Global,
-    table: &Table,
-    size: Size,
-) -> Result<(), AllocError> {
-    let held = held_cell(alloc, table, HELD_WIDTH)?;
-    add_cell(fragments, table.row, cells_x(size), held.as_slice())
+// What stands in a column.
+fn column_cell(alloc: Global, table: &Table, column: Item) -> Result<Vec<u8>, AllocError> {
+    match column {
+        Item::List(group) => waiting_cell(alloc, table, table.list(group), LIST_WIDTH),
+        _ => held_cell(alloc, table, HELD_WIDTH),
+    }
 }
 
-// Adds the waiting lists.
-fn add_lists(
+// Adds the messages held, and who waits.
+fn add_columns(
     fragments: &mut Fragments,
     alloc: Global,
     table: &Table,
-    size: Size,
+    size: &Size,
 ) -> Result<(), AllocError> {
-    add_list(
-        fragments,
-        alloc,
-        table,
-        list_x(size, 0),
-        table.sends.as_slice(),
-    )?;
-    add_list(
-        fragments,
-        alloc,
-        table,
-        list_x(size, 1),
-        table.receives.as_slice(),
-    )?;
-    add_list(
-        fragments,
-        alloc,
-        table,
-        list_x(size, 2),
-        table.streams.as_slice(),
-    )?;
-    add_list(
-        fragments,
-        alloc,
-        table,
-        list_x(size, 3),
-        table.closeds.as_slice(),
-    )
+    for column in COLUMNS {
+        let cell = column_cell(alloc, table, column)?;
+        add_cell(
+            fragments,
+            table.row,
+            column_x(size, column),
+            cell.as_slice(),
+        )?;
+    }
+    Ok(())
 }
 
 // Adds what became of the names in a row.
@@ -239,10 +225,11 @@ fn add_changes(
     fragments: &mut Fragments,
     alloc: Global,
     table: &Table,
-    size: Size,
+    size: &Size,
 ) -> Result<(), AllocError> {
     add_strokes(fragments, table.row_strokes.as_slice())?;
     add_end(fragments, table)?;
+    add_tells(fragments, alloc, table)?;
     add_closing(fragments, table, size)?;
     if let Some(name) = table.row_made {
         add_name(fragments, alloc, table, name)?;
@@ -250,15 +237,8 @@ fn add_changes(
     Ok(())
 }
 
-// Adds the line, or that it is a poll of settling.
-fn add_line_or_poll(
-    fragments: &mut Fragments,
-    row: u64,
-    texts: RowTexts<'_>,
-) -> Result<(), AllocError> {
-    if texts.is_first {
-        return add_line(fragments, row, texts.line.number, texts.line.text);
-    }
+// Adds that a row is a poll of settling.
+fn add_settling(fragments: &mut Fragments, row: u64) -> Result<(), AllocError> {
     fragments.mark(Mark::PollText)?;
     fragments.number(text_y(row))?;
     fragments.mark(Mark::PollName)
@@ -270,7 +250,11 @@ fn add_texts(
     table: &Table,
     texts: RowTexts<'_>,
 ) -> Result<(), AllocError> {
-    add_line_or_poll(fragments, table.row, texts)?;
+    if texts.is_first {
+        add_line(fragments, table.row, texts.line.number, texts.line.text)?;
+    } else {
+        add_settling(fragments, table.row)?;
+    }
     fragments.mark(if table.row_refused {
         Mark::RefusedText
     } else {
@@ -280,52 +264,64 @@ fn add_texts(
     fragments.mark(if texts.reply.len() > REPLY_WIDTH {
         Mark::SqueezedReply
     } else {
-        Mark::TextStart
+        Mark::ReplyStart
     })
 }
 
-// What stands before a reply.
-fn head(alloc: Global, table: &Table, texts: RowTexts<'_>) -> Result<Vec<Fragment>, AllocError> {
-    let mut fragments = Fragments::new(alloc);
-    add_texts(&mut fragments, table, texts)?;
-    Ok(fragments.list)
-}
-
-// Adds what stands behind a reply.
+// Adds what a row shows of the channel.
 fn add_cells(
     fragments: &mut Fragments,
     alloc: Global,
     table: &Table,
-    size: Size,
+    size: &Size,
 ) -> Result<(), AllocError> {
-    fragments.mark(Mark::TextEnd)?;
     add_changes(fragments, alloc, table, size)?;
     add_rest(fragments, alloc, table)?;
-    add_held(fragments, alloc, table, size)?;
-    add_lists(fragments, alloc, table, size)?;
+    add_columns(fragments, alloc, table, size)?;
     fragments.mark(Mark::Newline)
 }
 
+/// Adds the row of a pending poll of settling.
+pub(crate) fn add_poll(
+    fragments: &mut Fragments,
+    alloc: Global,
+    table: &Table,
+    size: &Size,
+    name: Name,
+) -> Result<(), AllocError> {
+    add_settling(fragments, table.row)?;
+    fragments.mark(Mark::PendingText)?;
+    fragments.number(text_y(table.row))?;
+    fragments.mark(Mark::TextStart)?;
+    fragments.text(name_text(alloc, name)?.as_bytes())?;
+    fragments.mark(Mark::PendingEnd)?;
+    add_cells(fragments, alloc, table, size)
+}
+
 // What stands behind a reply.
-fn tail(alloc: Global, table: &Table, size: Size) -> Result<Vec<Fragment>, AllocError> {
+fn tail(alloc: Global, table: &Table, size: &Size) -> Result<Vec<Fragment>, AllocError> {
     let mut fragments = Fragments::new(alloc);
+    fragments.mark(Mark::TextEnd)?;
     add_cells(&mut fragments, alloc, table, size)?;
     Ok(fragments.list)
 }
 
-/// What stands before a reply, and what behind it.
+/// What stands before a reply, behind the rows of these polls, and what behind it.
 pub(crate) fn row(
+    polls: Fragments,
     alloc: Global,
     table: &Table,
-    size: Size,
+    size: &Size,
     texts: RowTexts<'_>,
 ) -> Result<(Vec<Fragment>, Vec<Fragment>), AllocError> {
-    Ok((head(alloc, table, texts)?, tail(alloc, table, size)?))
+    let mut head = polls;
+    add_texts(&mut head, table, texts)?;
+    Ok((head.list, tail(alloc, table, size)?))
 }
 
-/// What stands behind the last reply: the lines of all that lasts.
-pub(crate) fn closing(alloc: Global, table: &Table) -> Result<Vec<Fragment>, AllocError> {
-    let mut fragments = Fragments::new(alloc);
+/// What stands behind the last reply: the rows of these polls, and the lines of all that lasts.
+pub(crate) fn closing(polls: Fragments, table: &Table) -> Result<Vec<Fragment>, AllocError> {
+    let mut fragments = polls;
     add_strokes(&mut fragments, table.row_strokes.as_slice())?;
     fragments.mark(Mark::SvgEnd)?;
     Ok(fragments.list)

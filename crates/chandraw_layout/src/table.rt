@@ -14,9 +14,10 @@
 //! the polls of settling.
 ghost use Rattle.channel_model.specs.Capacity.{HasPositiveCapacity};
 
-use crate::act::{Act, act_of, subject_of};
+use crate::act::{Act, act_of, caller_of, subject_of};
 use crate::lane::{Held, LANES, Lane, Place, Stroke, Trace, handle};
 use crate::name::{Name, NameKind, named};
+use channel_core::Group;
 use channel_model::{Kind, Notice, OutOfMemory, Refusal, Reply, Step, Who};
 use channel_run::Run;
 use std::alloc::Global;
@@ -39,6 +40,9 @@ pub(crate) struct Table {
     pub closeds: Vec<Who>,
     pub row: u64,
     pub row_strokes: Vec<Stroke>,
+    /// The lane of who called, and the lanes of those who were told by it.
+    pub row_caller: Option<usize>,
+    pub row_told: Vec<usize>,
     pub row_made: Option<Name>,
     pub row_ended: Option<usize>,
     pub row_refused: bool,
@@ -63,6 +67,8 @@ impl Table {
             closeds: Vec::new(alloc),
             row: 0,
             row_strokes: Vec::new(alloc),
+            row_caller: None,
+            row_told: Vec::new(alloc),
             row_made: None,
             row_ended: None,
             row_refused: false,
@@ -92,6 +98,16 @@ impl Table {
         self.run.notice_of(who)
     }
 
+    /// Who waits in a list.
+    pub fn list(&self, list: Group) -> &[Who] {
+        match list {
+            Group::Sends => self.sends.as_slice(),
+            Group::Receives => self.receives.as_slice(),
+            Group::Streams => self.streams.as_slice(),
+            Group::Closeds => self.closeds.as_slice(),
+        }
+    }
+
     // What is known of a live name.
     fn known(&self, name: Name) -> Option<Lane> {
         match place_of(self.lanes.as_slice(), name) {
@@ -110,7 +126,14 @@ impl Table {
 
     // Adds a line to the row.
     fn draw(&mut self, trace: Trace, from: Place, to: Place) -> Result<(), OutOfMemory> {
-        room(self.row_strokes.push(Stroke { trace, from, to }).is_ok())
+        let message = None;
+        let stroke = Stroke {
+            trace,
+            from,
+            to,
+            message,
+        };
+        room(self.row_strokes.push(stroke).is_ok())
     }
 
     // Adds a line along a lane, from this row to the present one.
@@ -126,6 +149,9 @@ impl Table {
     pub fn make_row(&mut self, step: Step<u64>) -> Result<(), OutOfMemory> {
         self.begin_row();
         let act = act_of(&step, self.row);
+        if let Some(name) = caller_of(act) {
+            self.row_caller = Some(self.lane_of(name));
+        }
         let (lane, before) = match subject_of(act) {
             Some(name) => (self.known(name), self.notice_at(name)),
             None => (None, Notice::Absent),
@@ -162,6 +188,8 @@ impl Table {
     /// Ends a row: what was to be drawn in it is drawn.
     pub fn end_row(&mut self) {
         self.row_strokes.clear();
+        self.row_caller = None;
+        self.row_told.clear();
         self.row_made = None;
         self.row_ended = None;
         self.row_refused = false;

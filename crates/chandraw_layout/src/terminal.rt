@@ -7,7 +7,7 @@ use crate::fragment::{Fragment, Fragments};
 use crate::lane::{LANES, Lane};
 use crate::layout::RowTexts;
 use crate::mark::Mark;
-use crate::name::NameKind;
+use crate::name::{Name, NameKind, name_text};
 use crate::size::Size;
 use crate::table::Table;
 use channel_model::{Notice, Who};
@@ -16,9 +16,14 @@ use std::alloc::{AllocError, Global};
 // where the cells begin, and the last column
 const LINE: usize = 6;
 
-const REPLY: usize = 25;
+const POLL: usize = 17;
+
+const REPLY: usize = 27;
 
 const NAMES: usize = 41;
+
+// what stands before a reply
+const MARK: usize = 2;
 
 const COLUMNS: usize = 100;
 
@@ -79,13 +84,13 @@ fn add_line(
 }
 
 // where the messages held begin
-fn held_column(size: Size) -> usize {
+fn held_column(size: &Size) -> usize {
     let rest = if size.lanes >= LANES { REST } else { 1 };
     NAMES.saturating_add(size.lanes.max(5)).saturating_add(rest)
 }
 
 // Adds the titles of the columns.
-fn add_titles(fragments: &mut Fragments, alloc: Global, size: Size) -> Result<(), AllocError> {
+fn add_titles(fragments: &mut Fragments, alloc: Global, size: &Size) -> Result<(), AllocError> {
     fragments.mark(Mark::TerminalHead)?;
     add_gap(fragments, alloc, NAMES.saturating_add(5), held_column(size))?;
     fragments.mark(Mark::TerminalHeld)
@@ -95,7 +100,7 @@ fn add_titles(fragments: &mut Fragments, alloc: Global, size: Size) -> Result<()
 pub(crate) fn opening(
     alloc: Global,
     table: &Table,
-    size: Size,
+    size: &Size,
     first: &[u8],
 ) -> Result<Vec<Fragment>, AllocError> {
     let mut fragments = Fragments::new(alloc);
@@ -144,7 +149,7 @@ fn add_arrow(letters: &mut [u8], from: usize, to: usize) {
 }
 
 // Adds the letters of all lanes.
-fn add_letters(letters: &mut Vec<u8>, table: &Table, size: Size) -> Result<(), AllocError> {
+fn add_letters(letters: &mut Vec<u8>, table: &Table, size: &Size) -> Result<(), AllocError> {
     for at in 0..size.lanes {
         letters.push(match table.lanes.get(at) {
             Some(lane) => lane_letter(table, lane),
@@ -204,7 +209,7 @@ fn add_names(
     fragments: &mut Fragments,
     alloc: Global,
     table: &Table,
-    size: Size,
+    size: &Size,
 ) -> Result<usize, AllocError> {
     let mut names = Vec::new(alloc);
     add_letters(&mut names, table, size)?;
@@ -278,7 +283,7 @@ fn add_cells(
     fragments: &mut Fragments,
     alloc: Global,
     table: &Table,
-    size: Size,
+    size: &Size,
 ) -> Result<(), AllocError> {
     let column = add_names(fragments, alloc, table, size)?;
     let held_at = held_column(size);
@@ -290,29 +295,49 @@ fn add_cells(
     fragments.mark(Mark::Newline)
 }
 
-// What stands before a reply.
-fn head(alloc: Global, table: &Table, texts: RowTexts<'_>) -> Result<Vec<Fragment>, AllocError> {
-    let mut fragments = Fragments::new(alloc);
+// Adds what stands before a reply.
+fn add_texts(
+    fragments: &mut Fragments,
+    alloc: Global,
+    table: &Table,
+    texts: RowTexts<'_>,
+) -> Result<(), AllocError> {
     if texts.is_first {
-        add_line(
-            &mut fragments,
-            alloc,
-            table,
-            texts.line.number,
-            texts.line.text,
-            REPLY,
-        )?;
+        let (number, line) = (texts.line.number, texts.line.text);
+        add_line(fragments, alloc, table, number, line, REPLY - MARK)
     } else {
-        fragments.mark(Mark::TerminalPoll)?;
+        add_settling(fragments, alloc)
     }
-    Ok(fragments.list)
+}
+
+// Adds that a row is a poll of settling, and goes on to the mark of its reply.
+fn add_settling(fragments: &mut Fragments, alloc: Global) -> Result<(), AllocError> {
+    fragments.mark(Mark::TerminalPoll)?;
+    add_gap(fragments, alloc, POLL, REPLY - MARK)
+}
+
+/// Adds the row of a pending poll of settling.
+pub(crate) fn add_poll(
+    fragments: &mut Fragments,
+    alloc: Global,
+    table: &Table,
+    size: &Size,
+    name: Name,
+) -> Result<(), AllocError> {
+    let name = name_text(alloc, name)?;
+    let reply = format!(in alloc; "{name} pending")?;
+    fragments.mark(Mark::TerminalPoll)?;
+    add_gap(fragments, alloc, POLL, REPLY)?;
+    fragments.text(reply.as_bytes())?;
+    add_gap(fragments, alloc, REPLY.saturating_add(reply.len()), NAMES)?;
+    add_cells(fragments, alloc, table, size)
 }
 
 // What stands behind a reply.
 fn tail(
     alloc: Global,
     table: &Table,
-    size: Size,
+    size: &Size,
     texts: RowTexts<'_>,
 ) -> Result<Vec<Fragment>, AllocError> {
     let mut fragments = Fragments::new(alloc);
@@ -322,19 +347,22 @@ fn tail(
     Ok(fragments.list)
 }
 
-/// What stands before a reply, and what behind it.
+/// What stands before a reply, behind the rows of these polls, and what behind it.
 pub(crate) fn row(
+    polls: Fragments,
     alloc: Global,
     table: &Table,
-    size: Size,
+    size: &Size,
     texts: RowTexts<'_>,
 ) -> Result<(Vec<Fragment>, Vec<Fragment>), AllocError> {
-    Ok((head(alloc, table, texts)?, tail(alloc, table, size, texts)?))
+    let mut head = polls;
+    add_texts(&mut head, alloc, table, texts)?;
+    Ok((head.list, tail(alloc, table, size, texts)?))
 }
 
-/// What stands behind the last reply: what the letters mean.
-pub(crate) fn closing(alloc: Global) -> Result<Vec<Fragment>, AllocError> {
-    let mut fragments = Fragments::new(alloc);
+/// What stands behind the last reply: the rows of these polls, and what the letters mean.
+pub(crate) fn closing(polls: Fragments) -> Result<Vec<Fragment>, AllocError> {
+    let mut fragments = polls;
     fragments.mark(Mark::Legend)?;
     fragments.mark(Mark::LegendEnd)?;
     Ok(fragments.list)

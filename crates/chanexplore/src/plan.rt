@@ -1,8 +1,10 @@
 //! What the input says: the channel, the lines before the parties, and the parties' lines.
-ghost use Rattle.std.specs.Prelude.{[], IfOk};
+ghost use Rattle.std.specs.Prelude.{◌≡◌, [], map, IfOk};
 ghost use Rattle.channel_model.specs.Capacity.{HasPositiveCapacity};
 ghost use Rattle.channel_run.specs.StandsFor.{StandsFor};
+ghost use Rattle.chanrun.specs.Grammar.{words_of};
 ghost use Rattle.chanrun.specs.Script.{past_after_all};
+ghost use Rattle.chanexplore.specs.Reading.{act_of, await_in, awaited_in, commanding};
 
 use crate::party::{Act, Opening};
 use channel_model::{Kind, OutOfMemory, Who};
@@ -78,16 +80,54 @@ fn party_name(line: &[u8]) -> Option<Result<&[u8], Fault>> {
     }
 }
 
-/// Who is awaited by a line, or what is wrong with it; none for another line.
-fn awaited(line: &[u8]) -> Option<Result<Who, Fault>> {
-    if line == b"await".as_slice() {
-        return Some(Err(Fault::WrongWordCount));
+// The parts of a line between single spaces.
+fn split_words(alloc: Global, line: &[u8]) -> Result<Vec<&[u8]>, AllocError>
+    ensures { IfOk result (λ words. map (λ word. word.now) words.items ≡ words_of line.now) }
+{
+    line.split(|byte| *byte == b' ').collect(alloc)
+}
+
+// The words behind `await`: the one name of who is awaited.
+fn awaited_in(words: &[&[u8]]) -> Result<Who, Fault>
+    ensures { result ≡ awaited_in (map (λ word. word.now) words.now) }
+{
+    match words {
+        [name] => who_of(name),
+        _ => Err(Fault::WrongWordCount),
     }
-    let name = line.strip_prefix(b"await ")?;
-    if name.contains(&b' ') {
-        Some(Err(Fault::WrongWordCount))
+}
+
+// Who is awaited, if the first word is `await`.
+fn await_in(words: &[&[u8]]) -> Option<Result<Who, Fault>>
+    ensures { result ≡ await_in (map (λ word. word.now) words.now) }
+{
+    let [verb, others @ ..] = words else {
+        return None;
+    };
+    if *verb == b"await".as_slice() {
+        Some(awaited_in(others))
     } else {
-        Some(who_of(name))
+        None
+    }
+}
+
+// Who is awaited by a line, if it begins with `await`.
+fn awaited(alloc: Global, line: &[u8]) -> Result<Option<Result<Who, Fault>>, AllocError>
+    ensures { IfOk result (λ who. who ≡ await_in (words_of line.now)) }
+{
+    let words = split_words(alloc, line)?;
+    Ok(await_in(words.as_slice()))
+}
+
+// A party has the commands of scripts, but it can't settle.
+fn commanding(command: Result<Command, Fault>) -> Result<Act, Fault>
+    ensures { result ≡ commanding command }
+{
+    match command {
+        Ok(Command::Make(step)) => Ok(Act::Make(step)),
+        Ok(Command::Notice(who)) => Ok(Act::Notice(who)),
+        Ok(Command::Settle) => Err(Fault::UnknownCommand),
+        Err(fault) => Err(fault),
     }
 }
 
@@ -101,22 +141,20 @@ fn awaited(line: &[u8]) -> Option<Result<Who, Fault>> {
 /// let act = act_of(rt.alloc(), b"settle".as_slice())?;
 /// assert!(rt; matches!(act, Err(Fault::UnknownCommand)));
 /// ```
-pub fn act_of(alloc: Global, line: &[u8]) -> Result<Result<Act, Fault>, AllocError> {
-    if line.len() > LINE_LIMIT {
+pub fn act_of(alloc: Global, line: &[u8]) -> Result<Result<Act, Fault>, AllocError>
+    ensures { IfOk result (λ said. said ≡ act_of line.now) }
+{
+    if LINE_LIMIT < line.len() {
         return Ok(Err(Fault::LineTooLong));
     }
-    if let Some(who) = awaited(line) {
+    if let Some(who) = awaited(alloc, line)? {
         return Ok(match who {
             Ok(who) => Ok(Act::Await(who)),
             Err(fault) => Err(fault),
         });
     }
-    Ok(match command_of(alloc, line)? {
-        Ok(Command::Make(step)) => Ok(Act::Make(step)),
-        Ok(Command::Notice(who)) => Ok(Act::Notice(who)),
-        Ok(Command::Settle) => Err(Fault::UnknownCommand),
-        Err(fault) => Err(fault),
-    })
+    let command = command_of(alloc, line)?;
+    Ok(commanding(command))
 }
 
 // Does the lines that stand before the parties, in order.

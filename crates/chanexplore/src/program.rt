@@ -1,4 +1,10 @@
 //! The whole program over its devices.
+ghost use Rattle.std.specs.Prelude.{◌≡◌, ℕ, ◌≤◌, ◌^◌, [], max, IfOk};
+ghost use Rattle.chanrun.specs.Script.{past_after_all};
+ghost use Rattle.chanexplore.specs.Lines.{acts_in};
+ghost use Rattle.chanexplore.specs.Orders.{all_orders};
+ghost use Rattle.chanexplore.specs.Reading.{AllowsOrders, IsCountOf};
+ghost use Rattle.chanexplore.specs.Reports.{IsExplored};
 
 use crate::outcomes::Outcomes;
 use crate::party::Turn;
@@ -102,30 +108,58 @@ impl<W: Watch> Visitor for Watched<'_, W> {
 /// let number = String::from_str(rt.alloc(), "5")?;
 /// assert_eq!(rt; orders_allowed(&[word, number]), Some(5));
 /// ```
-pub fn orders_allowed(arguments: &[String]) -> Option<u64> {
+pub fn orders_allowed(arguments: &[String]) -> Option<u64>
+    ensures { AllowsOrders arguments.now result }
+{
     match arguments {
         [] => Some(USUAL_ORDERS),
         [word, number] => {
-            if word.as_str() != "--orders" {
-                return None;
-            }
-            match number.as_str().parse::<u64>() {
-                Ok(count) if count >= 1 && count <= MOST_ORDERS => Some(count),
-                _ => None,
+            if word.as_str() == "--orders" {
+                count_in(number.as_str())
+            } else {
+                None
             }
         }
         _ => None,
     }
 }
 
-// Makes each order of a plan up to the limit, and writes what they came to.
-fn explore_plan<W: Sink, P: Watch>(
+// The number from 1 to [`MOST_ORDERS`] that a word spells, if it spells one.
+fn count_in(word: &str) -> Option<u64>
+    ensures { IsCountOf word.now result }
+{
+    match word.parse::<u64>() {
+        Ok(count) if count >= 1 && count <= MOST_ORDERS => Some(count),
+        _ => None,
+    }
+}
+
+/// Makes each order of a plan up to the limit, and writes what they came to. It answers whether there
+/// is no other order.
+///
+/// # Examples
+///
+/// ```
+/// let input = b"unbounded\nparty one\nlen s0\nparty two\nlen r0\n";
+/// let plan = plan_of(rt.alloc(), input.as_slice())?;
+/// let mut writer = FromStd::new(Vec::new(rt.alloc()));
+/// let whole = explore_plan(rt.alloc(), 2, &plan, &mut writer, &mut Last(0))?;
+/// assert!(rt; whole);
+/// let report: Vec<u8> = writer.into_inner();
+/// assert!(rt; report.starts_with(b"orders 2\noutcomes 1\nstuck 0\n".as_slice()));
+/// ```
+pub fn explore_plan<W: Sink, P: Watch>(
     alloc: Global,
     limit: u64,
     plan: &Plan,
     writer: &mut W,
     watch: &mut P,
-) -> Result<bool, ScriptError> {
+) -> Result<bool, ScriptError>
+    ensures { (most : ℕ) → 2 ^ 64 ≤ most → IfOk result (λ whole. IsExplored
+        (all_orders plan.now.kind (past_after_all plan.now.kind [] plan.now.before.items)
+        (acts_in plan.now.parties.items) most) (max limit 1) whole
+        (W.written writer.old) (W.written writer.new)) }
+{
     let mut watched = Watched {
         outcomes: Outcomes::new(alloc, plan)?,
         orders: 0,

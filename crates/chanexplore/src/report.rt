@@ -16,6 +16,10 @@
 //! ```
 //!
 //! The script goes to the next empty line, or to the end.
+ghost use Rattle.std.specs.Prelude.{◌≡◌, ℕ, List, length, string_bytes, IfOk, OnOk};
+ghost use Rattle.std.specs.Io.KnownBytes.{Appends};
+ghost use Rattle.chanexplore.specs.Reports.{IsReported, head_text, more_text};
+
 use crate::outcomes::Tally;
 use crate::party::Act;
 use crate::plan::Plan;
@@ -161,10 +165,53 @@ fn write_outcome<W: Sink>(
     text: &str,
     tally: &Tally,
     writer: &mut W,
-) -> Result<(), ScriptError> {
+) -> Result<(), ScriptError>
+    ensures { OnOk result ((page : List ℕ)
+        × Appends (W.written writer.old) (W.written writer.new) page) }
+{
     let answers = answers_in(alloc, text)?;
     let page = outcome_page(alloc, plan, answers.as_slice(), tally)?;
     write_text(writer, page.text.as_slice())
+}
+
+// Writes the outcomes.
+fn write_outcomes<W: Sink>(
+    alloc: Global,
+    plan: &Plan,
+    outcomes: &[(String, Tally)],
+    writer: &mut W,
+) -> Result<(), ScriptError>
+    ensures { OnOk result ((text : List ℕ)
+        × Appends (W.written writer.old) (W.written writer.new) text) }
+{
+    for (text, tally) in outcomes {
+        write_outcome(alloc, plan, text.as_str(), tally, writer)?;
+    }
+    Ok(())
+}
+
+// Whether there are more orders than were made.
+fn more_text(whole: bool) -> &'static str
+    ensures { result.now ≡ more_text whole }
+{
+    if whole {
+        ""
+    } else {
+        ", and more: the limit is met"
+    }
+}
+
+// The first lines of a report.
+fn head_text(
+    alloc: Global,
+    searched: Searched,
+    outcomes: usize,
+    stuck: u64,
+) -> Result<String, AllocError>
+    ensures { IfOk result (λ text. string_bytes text ≡ head_text searched outcomes stuck) }
+{
+    let (orders, more) = (searched.orders, more_text(searched.whole));
+    format!(in alloc; "orders {orders}{more}\noutcomes {outcomes}\nstuck {stuck}\n")
 }
 
 /// Writes what a search came to.
@@ -190,18 +237,12 @@ pub fn write_report<W: Sink>(
     searched: Searched,
     outcomes: &[(String, Tally)],
     writer: &mut W,
-) -> Result<(), ScriptError> {
+) -> Result<(), ScriptError>
+    ensures { OnOk result (IsReported searched (length outcomes.now)
+        (W.written writer.old) (W.written writer.new)) }
+{
     let stuck = stuck_count(alloc, plan, outcomes)?;
-    let more = if searched.whole {
-        ""
-    } else {
-        ", and more: the limit is met"
-    };
-    let (orders, count) = (searched.orders, outcomes.len());
-    let head = format!(in alloc; "orders {orders}{more}\noutcomes {count}\nstuck {stuck}\n")?;
+    let head = head_text(alloc, searched, outcomes.len(), stuck)?;
     write_text(writer, head.as_bytes())?;
-    for (text, tally) in outcomes {
-        write_outcome(alloc, plan, text.as_str(), tally, writer)?;
-    }
-    Ok(())
+    write_outcomes(alloc, plan, outcomes, writer)
 }

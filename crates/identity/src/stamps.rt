@@ -31,7 +31,10 @@ impl Model for Stamp {
     ghost inverse = { λ number. record { number = number } };
 }
 
-/// Gives each number once, rising. A channel draws its stamp from one.
+/// Gives each channel its number. A program keeps one maker for all of its channels.
+///
+/// Each number is given once, rising. Two makers give the same numbers, so that `same_channel` may
+/// answer `true` of two channels that were made with a maker each.
 ///
 /// # Examples
 ///
@@ -55,7 +58,7 @@ impl Model for StampMaker {
 }
 
 impl StampMaker {
-    /// A maker that begins at 0.
+    /// A maker that begins at 0: the first thing that a program makes, and the only one of its kind.
     ///
     /// # Examples
     ///

@@ -1,3 +1,4 @@
 pub mod Rule
 pub mod Guarded
 pub mod Passes
+pub mod Receiving

@@ -26,6 +26,7 @@ mod channel;
 mod make;
 mod outcomes;
 mod protocol;
+mod receiving;
 mod ringer;
 
 pub use channel::{Pass, RuledChannel};
@@ -33,4 +34,5 @@ pub use channel_core::{NoMemory, OutOfMemory, RecvError, SendError, TryRecvError
 pub use make::{bounded_with, unbounded_with};
 pub use outcomes::{AtEnd, Closed, Forced, Lesson, Received, Sent};
 pub use protocol::Protocol;
+pub use receiving::Recv;
 pub use ruled_mutex::{Join, Split, Unruled};

@@ -1,11 +1,12 @@
 //! The lines of a picture in SVG: what lasts, what goes from lane to lane, and the closing.
 use crate::fragment::Fragments;
-use crate::lane::{Stroke, Trace};
+use crate::lane::{Place, Stroke, Trace};
 use crate::mark::Mark;
 use crate::size::Size;
-use crate::svg::places::{lane_x, list_x, middle_y, text_y};
+use crate::svg::key::width;
+use crate::svg::places::{lane_x, middle_y, text_y};
 use crate::table::Table;
-use std::alloc::AllocError;
+use std::alloc::{AllocError, Global};
 
 // the kinds of lines, those below others first
 const TRACES: [Trace; 6] = [
@@ -54,7 +55,12 @@ fn along_x(trace: Trace, lane: usize) -> u64 {
 
 // Adds a line from one place to another.
 fn add_stroke(fragments: &mut Fragments, stroke: Stroke) -> Result<(), AllocError> {
-    let Stroke { trace, from, to } = stroke;
+    let Stroke {
+        trace,
+        from,
+        to,
+        ..
+    } = stroke;
     let y = first_y(trace, from.row);
     if from.lane == to.lane {
         add_point(fragments, Mark::Move, along_x(trace, from.lane), y)?;
@@ -83,19 +89,75 @@ fn add_trace(
     fragments.mark(Mark::PathEnd)
 }
 
+// Adds the number of a message beside its line.
+fn add_message(fragments: &mut Fragments, stroke: Stroke) -> Result<(), AllocError> {
+    let Some(message) = stroke.message else {
+        return Ok(());
+    };
+    let (from, to) = (stroke.from, stroke.to);
+    let x = if from.lane == to.lane {
+        along_x(stroke.trace, from.lane)
+    } else {
+        lane_x(from.lane).saturating_add(lane_x(to.lane)) / 2
+    };
+    let y = middle_y(from.row).saturating_add(middle_y(to.row)) / 2;
+    fragments.mark(Mark::MessageText)?;
+    fragments.number(y.saturating_add(4))?;
+    fragments.mark(Mark::AtX)?;
+    fragments.number(x)?;
+    fragments.mark(Mark::TextStart)?;
+    fragments.number(message)?;
+    fragments.mark(Mark::TextEnd)
+}
+
 /// Adds the lines of a row.
 pub(crate) fn add_strokes(fragments: &mut Fragments, strokes: &[Stroke]) -> Result<(), AllocError> {
     for trace in TRACES {
         add_trace(fragments, strokes, trace)?;
     }
+    for stroke in strokes {
+        add_message(fragments, *stroke)?;
+    }
     Ok(())
+}
+
+// Adds an arrow along a row from a lane to these others, which lie one behind the other.
+fn add_arrow(fragments: &mut Fragments, from: Place, lanes: &[usize]) -> Result<(), AllocError> {
+    if lanes.is_empty() {
+        return Ok(());
+    }
+    let (x, y) = (lane_x(from.lane), middle_y(from.row));
+    add_point(fragments, Mark::TellsPath, x, y)?;
+    for lane in lanes {
+        fragments.mark(Mark::Along)?;
+        fragments.number(lane_x(*lane))?;
+    }
+    fragments.mark(Mark::PathEnd)
+}
+
+/// Adds the arrows from who called to those who were told by it, to the right and to the left.
+pub(crate) fn add_tells(
+    fragments: &mut Fragments,
+    alloc: Global,
+    table: &Table,
+) -> Result<(), AllocError> {
+    let Some(lane) = table.row_caller else {
+        return Ok(());
+    };
+    let row = table.row;
+    let told = table.row_told.as_slice().iter().copied();
+    let right: Vec<usize> = told.filter(|other| *other > lane).collect(alloc)?;
+    let told = table.row_told.as_slice().iter().rev().copied();
+    let left: Vec<usize> = told.filter(|other| *other < lane).collect(alloc)?;
+    add_arrow(fragments, Place { lane, row }, right.as_slice())?;
+    add_arrow(fragments, Place { lane, row }, left.as_slice())
 }
 
 /// Adds a line across a row in which the channel is closed.
 pub(crate) fn add_closing(
     fragments: &mut Fragments,
     table: &Table,
-    size: Size,
+    size: &Size,
 ) -> Result<(), AllocError> {
     if !table.row_closes {
         return Ok(());
@@ -103,7 +165,7 @@ pub(crate) fn add_closing(
     fragments.mark(Mark::ClosingPath)?;
     fragments.number(text_y(table.row).saturating_add(5))?;
     fragments.mark(Mark::Across)?;
-    fragments.number(list_x(size, 4))?;
+    fragments.number(width(size))?;
     fragments.mark(Mark::PathEnd)
 }
 

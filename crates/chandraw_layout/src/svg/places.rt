@@ -1,11 +1,12 @@
 //! Where rows, lanes and cells stand in a picture in SVG.
+use crate::item::{COLUMNS, Item};
 use crate::lane::LANES;
 use crate::size::Size;
 
 // how far rows and lanes are from one another, and where the first ones stand
 const ROW: u64 = 20;
 
-const TOP: u64 = 80;
+const TOP: u64 = 98;
 
 const LANE: u64 = 26;
 
@@ -33,8 +34,8 @@ pub(crate) fn lane_x(lane: usize) -> u64 {
         .saturating_add(LEFT)
 }
 
-/// Where the cells behind the lanes begin; beside all lanes stands a number for the rest.
-pub(crate) fn cells_x(size: Size) -> u64 {
+// Where the cells behind the lanes begin; beside all lanes stands a number for the rest.
+fn cells_x(size: &Size) -> u64 {
     let lanes = if size.lanes >= LANES {
         LANES + 2
     } else {
@@ -45,14 +46,39 @@ pub(crate) fn cells_x(size: Size) -> u64 {
         .saturating_add(LEFT)
 }
 
-/// Where the waiting list of this number begins.
-pub(crate) fn list_x(size: Size, number: u64) -> u64 {
-    cells_x(size)
-        .saturating_add(HELD)
-        .saturating_add(number.saturating_mul(LIST))
+fn width_of(column: Item) -> u64 {
+    match column {
+        Item::Held => HELD,
+        _ => LIST,
+    }
+}
+
+/// Where a column begins.
+pub(crate) fn column_x(size: &Size, column: Item) -> u64 {
+    let mut x = cells_x(size);
+    for other in COLUMNS {
+        if other == column {
+            break;
+        }
+        if size.has(other) {
+            x = x.saturating_add(width_of(other));
+        }
+    }
+    x
+}
+
+/// Where the cells end.
+pub(crate) fn cells_end(size: &Size) -> u64 {
+    let mut x = cells_x(size);
+    for column in COLUMNS {
+        if size.has(column) {
+            x = x.saturating_add(width_of(column));
+        }
+    }
+    x
 }
 
 /// How high a picture is: all rows, and one more for what lasts.
-pub(crate) fn height(size: Size) -> u64 {
+pub(crate) fn height(size: &Size) -> u64 {
     text_y(size.rows.saturating_add(1)).saturating_add(6)
 }

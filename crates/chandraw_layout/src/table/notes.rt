@@ -1,6 +1,6 @@
 //! What the table notes of a step: names that begin and end, who waits, messages, and the closing.
 use crate::act::{Act, has_taken, is_done};
-use crate::lane::{Held, LANES, Lane, Trace};
+use crate::lane::{Held, LANES, Lane, Stroke, Trace};
 use crate::name::{Name, NameKind, name_of, who_of};
 use crate::table::{Table, room};
 use channel_core::Group;
@@ -63,6 +63,9 @@ impl Table {
             return Ok(());
         }
         set_notice(self.lanes.as_mut_slice(), at, notice, self.row);
+        if notice == Notice::Told {
+            room(self.row_told.push(at).is_ok())?;
+        }
         self.end_notice(at, lane)
     }
 
@@ -108,8 +111,13 @@ impl Table {
     fn take(&mut self, trace: Trace, to: Name) -> Result<(), OutOfMemory> {
         match self.held.pop_front() {
             Some(held) => {
-                let to = self.here(to);
-                self.draw(trace, held.from, to)
+                let stroke = Stroke {
+                    trace,
+                    from: held.from,
+                    to: self.here(to),
+                    message: Some(held.message),
+                };
+                room(self.row_strokes.push(stroke).is_ok())
             }
             None => Ok(()),
         }
@@ -167,7 +175,7 @@ impl Table {
 
     // Notes that the channel is closed: by hand, or where a side has no handle any more.
     pub fn note_closing(&mut self, act: Act, reply: &Reply<u64>) {
-        let by_hand = matches!((act, reply), (Act::Close, Reply::Flag(true)));
+        let by_hand = matches!((act, reply), (Act::Close(_), Reply::Flag(true)));
         let ends = matches!((act, reply), (Act::End(_), Reply::Done));
         let lacks = ends && !(self.has_any(NameKind::Sender) && self.has_any(NameKind::Receiver));
         if (by_hand || lacks) && !self.is_closed {
