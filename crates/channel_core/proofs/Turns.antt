@@ -51,6 +51,16 @@ module _ {T : Type 0} where
   none_of (Some first) closed error is = absurd (cc)
   none_of None closed error is = refl
 
+  -- What is held after one send more, if it went in.
+  pub more_held : (count : ℕ) (messages rest : List T) → rest ≡ drop count messages
+      → (start now next : List T) → now ≡ start ++ take count messages
+      → next ≡ now ++ take 1 rest → next ≡ start ++ take (count + 1) messages
+  more_held count messages rest left start now next before step =
+      step ∙ ap (λ (held : List T). held ++ take 1 rest) before
+      ∙ append_assoc start (take count messages) (take 1 rest)
+      ∙ ap (λ (more : List T). start ++ more)
+      (rw (left, add-one) (sym (take_further count messages)))
+
 -- ---- steps
 
 module _ {T W : Type 0} where

@@ -100,6 +100,8 @@ impl<T: Drop, W: Drop> Core<T, W> {
             ≡ (sent_many (take (moved_count result) from.old.items) self.old).channel }
         ensures rung { RingsEach B.rings bell.old
             (sent_many (take (moved_count result) from.old.items) self.old).rung bell.new }
+        ensures held { self.new.messages
+            ≡ self.old.messages ++ take (moved_count result) from.old.items }
         ensures stops { moved_count result < limit → CanSendNoMore from.new.items self.new }
         ensures wanted { OnErr result (GrowsWithMessages self.old) }
     {
@@ -149,6 +151,7 @@ impl<T: Drop, W: Drop> Core<T, W> {
         ensures after { self.new ≡ (sent_many (take result from.old.items) self.old).channel }
         ensures rung { RingsEach B.rings bell.old
             (sent_many (take result from.old.items) self.old).rung bell.new }
+        ensures held { self.new.messages ≡ self.old.messages ++ take result from.old.items }
         ensures stops { result < most → CanSendNoMore from.new.items self.new }
     {
         for count in 0..most {
@@ -167,6 +170,8 @@ impl<T: Drop, W: Drop> Core<T, W> {
             ≡ (sent_many (take (if result then 1 else 0) from.old.items) self.old).channel }
         ensures rung { RingsEach B.rings bell.old
             (sent_many (take (if result then 1 else 0) from.old.items) self.old).rung bell.new }
+        ensures held { self.new.messages
+            ≡ self.old.messages ++ take (if result then 1 else 0) from.old.items }
         ensures some { OnTrue result (0 < length from.old.items) }
         ensures stops { OnFalse result (CanSendNoMore from.new.items self.new) }
     {
