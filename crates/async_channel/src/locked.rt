@@ -116,6 +116,8 @@ impl<T: Drop, R: Wait> Locked<'_, T, R> {
         ensures rest { from.new.items ≡ drop (moved_count result) from.old.items }
         ensures after { self.new
             ≡ then (sent_many (take (moved_count result) from.old.items)) self.old }
+        ensures held { self.new.channel.messages
+            ≡ self.old.channel.messages ++ take (moved_count result) from.old.items }
         ensures stops { moved_count result < limit
             → CanSendNoMore from.new.items self.new.channel }
         ensures wanted { OnErr result (GrowsWithMessages self.old.channel) }

@@ -223,6 +223,8 @@ impl<T: Drop, R: Wait> Locked<'_, T, R> {
         ensures rest { from.new.items ≡ drop (polled_count result) from.old.items }
         ensures after { OnReady result (self.new ≡ then
             (polled_sends t.old (take (polled_count result) from.old.items)) self.old) }
+        ensures held { OnReady result (self.new.channel.messages
+            ≡ self.old.channel.messages ++ take (polled_count result) from.old.items) }
         ensures stops { IfOk result (λ poll. IfReady poll (λ sent. OnOk sent
             (polled_count result < limit → CanSendNoMore from.new.items self.new.channel))) }
         ensures finished { OnReady result (t.new ≡ None) }
@@ -265,6 +267,8 @@ impl<T: Drop, R: Wait> Locked<'_, T, R> {
         ensures within { result ≤ length from.old.items }
         ensures rest { from.new.items ≡ drop result from.old.items }
         ensures after { self.new ≡ then (sent_many (take result from.old.items)) self.old }
+        ensures held { self.new.channel.messages
+            ≡ self.old.channel.messages ++ take result from.old.items }
         ensures stops { result < more → CanSendNoMore from.new.items self.new.channel }
     {
         match self.try_send_many(from, more) {

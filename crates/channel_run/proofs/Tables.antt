@@ -11,3 +11,4 @@ pub mod PlainSteps
 pub mod MadeNames
 pub mod GivenUp
 pub mod NewRun
+pub mod Batches

@@ -3,7 +3,7 @@
 //! A run is a core, and beside it what the core doesn't know: which names are live, which operation
 //! borrows which handle, and by which ticket it waits. [`Run::step`] finds the method of its step.
 //! Those methods stand by topic in the modules below: `messages`, `questions`, `handles` and
-//! `operations`; `told` has what settling needs. Each goes like this:
+//! `operations`; `batches` has many messages in one step, and `told` what settling needs. Each goes like this:
 //!
 //! 1. It refuses what it must, and the first that applies is the answer: a name that isn't live,
 //!    one that is taken, a handle that is borrowed, a handle too many. A message comes back.
@@ -30,6 +30,7 @@ ghost use Rattle.channel_run.specs.Runs.{ComesTo};
 ghost use Rattle.channel_run.specs.RunShown.{notice_at};
 ghost use Rattle.channel_run.specs.RunSteps.{StepsTo};
 
+mod batches;
 mod handles;
 mod messages;
 mod operations;

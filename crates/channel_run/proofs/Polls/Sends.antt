@@ -134,7 +134,7 @@ module _ {T W : Type 0} (kept : Kept T W) (whole : Whole kept) (op : ℕ)
             operations = with_finished op run.operations;
             rosters = accepted_told gone;
           })) (sym replied)
-          (made-poll_send_accepted run op sender m (live_with m e) f (full_shown kept whole ∙ h))))
+          (made-poll_send_accepted run op sender m (live_with m e) f (full_shown kept ∙ h))))
 
       by_message : (m : Option T) → message ≡ m
           → Ready answer ≡ send_poll m kept.core.closed (is_channel_full kept.core)
@@ -173,7 +173,7 @@ module _ {T W : Type 0} (kept : Kept T W) (whole : Whole kept) (op : ℕ)
           (list-waits one send_ticket kept.core.sends all.sends is.fits_sends payload core'.sends now.1))
           (alike one kept.core.messages (record all { sends = wait op all.sends }) (SendPolled Pending)
           (ap (λ m. model.sending sender m) unsent)
-          (made-poll_send_full run op sender m (live_with m e) f (full_shown kept whole ∙ h))))
+          (made-poll_send_full run op sender m (live_with m e) f (full_shown kept ∙ h))))
 
   -- memory was wanted, for the message or for the entry of one who begins to wait
   wanted-send : SendWants message ticket kept.core → (message' ≡ message) × (ticket' ≡ ticket)
@@ -198,7 +198,7 @@ module _ {T W : Type 0} (kept : Kept T W) (whole : Whole kept) (op : ℕ)
               (newcomer one begins.1 refl refl
               (ap (λ (x : Option T). model.is_finished_send (Some (model.sending sender x))) e))
               (ap is_pending (sym (made-poll_send_full run op sender m (live_with m e) f
-              (full_shown kept whole ∙ h)).replied))
+              (full_shown kept ∙ h)).replied))
 
   -- the whole poll
   pub polled-send : (result : Result (Polled (Result (Unit {0}) (SendError T))) OutOfMemoryError)

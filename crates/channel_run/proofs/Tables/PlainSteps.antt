@@ -27,6 +27,15 @@ use Rattle.channel_run.proofs.Tables.Fits.{Fits, fits-whole, Stepped, stepped, f
 use Rattle.channel_run.proofs.Tables.Kept.{Kept, Whole, rosters_by, shown_by, with_core}
 
 module _ {T W : Type 0} where
+  -- the one test of both
+  pub full_shown : (kept : Kept T W) → is_full_in (shown_by kept) ≡ is_channel_full kept.core
+  full_shown kept = by_capacity kept.core.capacity kept.core.messages
+    where
+      by_capacity : (capacity : Option ℕ) (messages : List T)
+          → full_at capacity (length messages) ≡ is_full capacity messages
+      by_capacity None messages = refl
+      by_capacity (Some capacity) messages = refl
+
   module _ (kept : Kept T W) (whole : Whole kept) where
     abbrev pub run : View T
     run = shown_by kept
@@ -36,15 +45,6 @@ module _ {T W : Type 0} where
 
     fits : Fits kept all
     fits = fits-whole kept whole
-
-    -- the one test of both
-    pub full_shown : is_full_in run ≡ is_channel_full kept.core
-    full_shown = by_capacity kept.core.capacity kept.core.messages
-      where
-        by_capacity : (capacity : Option ℕ) (messages : List T)
-            → full_at capacity (length messages) ≡ is_full capacity messages
-        by_capacity None messages = refl
-        by_capacity (Some capacity) messages = refl
 
     pub stepped-try_recv : (receiver : ℕ) → Stepped run (TryRecv receiver)
         (Received (try_recv_answer (oldest kept.core) kept.core.closed))
@@ -80,13 +80,13 @@ module _ {T W : Type 0} where
             → Stepped run (TrySend sender message) (TrySent (try_send_answer closed full message))
             (with_core kept (sending closed full message kept.core).channel)
         go true e full f = record { whole = whole; made = made-try_send_closed run sender message e }
-        go false e true f = record { whole = whole; made = made-try_send_full run sender message e (full_shown ∙ f) }
+        go false e true f = record { whole = whole; made = made-try_send_full run sender message e (full_shown kept ∙ f) }
         go false e false f =
             stepped run (TrySend sender message) (TrySent (Ok tt))
             (with_core kept (accepting message kept.core).channel)
             (accepted_told all)
             (fits-accepting kept all fits message)
-            (made-try_send_accepted run sender message e (full_shown ∙ f))
+            (made-try_send_accepted run sender message e (full_shown kept ∙ f))
 
     pub stepped-force_send : (sender : ℕ) (message : T)
         → Stepped run (ForceSend sender message)
@@ -106,7 +106,7 @@ module _ {T W : Type 0} where
             (is_made run (ForceSend sender message) (Forced (Ok None))
             (record run { messages = kept.core.messages ++ message ∷ []; rosters = accepted_told all })
             (sym (ap (λ closed. force_send_reply closed (is_full_in run) (slice_get kept.core.messages 0) message) c
-            ∙ ap (λ full. force_send_reply false full (slice_get kept.core.messages 0) message) (full_shown ∙ f)
+            ∙ ap (λ full. force_send_reply false full (slice_get kept.core.messages 0) message) (full_shown kept ∙ f)
             ∙ ap (λ (ms : List T). force_send_reply false true (slice_get ms 0) message) e))
             (AreAlike-refl (record run { messages = kept.core.messages ++ message ∷ []; rosters = accepted_told all })))
         made (first ∷ rest) e c f =
@@ -114,7 +114,7 @@ module _ {T W : Type 0} where
             (record run { messages = ms; rosters = accepted_told all }))
             (ap (λ (ms : List T). drop 1 (ms ++ message ∷ [])) e
             ∙ sym (ap (λ (ms : List T). drop 1 ms ++ message ∷ []) e))
-            (made-force_send_displacing run sender message first c (full_shown ∙ f)
+            (made-force_send_displacing run sender message first c (full_shown kept ∙ f)
             (ap (λ (ms : List T). slice_get ms 0) e))
 
         displaced : kept.core.closed ≡ false → is_channel_full kept.core ≡ true
@@ -140,7 +140,7 @@ module _ {T W : Type 0} where
             (with_core kept (accepting message kept.core).channel)
             (accepted_told all)
             (fits-accepting kept all fits message)
-            (made-force_send_accepted run sender message e (full_shown ∙ f))
+            (made-force_send_accepted run sender message e (full_shown kept ∙ f))
 
     pub stepped-close : (side : Side) → Stepped run (Close side) (Flag (not kept.core.closed))
         (with_core kept (closing kept.core).channel)
