@@ -22,6 +22,7 @@ RETURNS = re.compile(r'returns(?:-in[-\w]*?)?(?:-clause-(\w+))?')
 LEMMA = re.compile(r'error: `([^`]+)`')
 ROW = re.compile(r'^\| `([^`]+)` \| (.*?) \| (.*?) \|$')
 ENSURES, CUT = 'ensures', 'not printed'
+NOT_REFUSED = 'NOT REFUSED'
 # Where only a proof was refused that names what the edit took away.
 BY_NAME, NAME_ALONE = 'a name alone', 'change a value and keep the names): '
 REWRITE = 'write the table, by tools/facts --write LOG, from what rt ci or rt must-fail printed'
@@ -76,7 +77,7 @@ def tried(log):
             name, edit, said = match.groups()
             crate = crates.setdefault(name, Crate(name))
             _, is_refused, rest = said.partition('refused, as it must be')
-            place = where(crate, rest) if is_refused else ('NOT REFUSED', '')
+            place = where(crate, rest) if is_refused else (NOT_REFUSED, '')
             found.setdefault(name, {})[edit] = place
     return found
 
@@ -119,19 +120,34 @@ def is_there(crate, function, clause):
     )
 
 
-def differences(log):
-    """Where the gate's run and the tables differ."""
+def compared(log):
+    """Each edit of a crate with a table: the row of the table, and what the gate's run says."""
     found = tried(log)
     for name in listed_crates():
-        path = table_file(name).relative_to(ROOT)
         rows, ran = rows_of(name), found.get(name, {})
         if not rows:
             continue  # the crate has no table yet
         for edit in edits_of(name):
-            if edit not in ran:
-                yield f'crates/{name}/must-fail/{edit}.edit: the gate did not try it'
-            elif rows.get(edit) != ran[edit]:
-                yield (
-                    f'{path}: {edit}: the gate says {" ".join(ran[edit])}, '
-                    f'the table {" ".join(rows.get(edit, ("nothing",)))}: {REWRITE}'
-                )
+            yield f'crates/{name}/must-fail/{edit}.edit', rows.get(edit), ran.get(edit)
+
+
+def differences(log):
+    """The edits that the gate did not try, or that it did not refuse at a clause or a lemma."""
+    for edit, row, place in compared(log):
+        if place is None:
+            yield f'{edit}: the gate did not try it'
+        elif place[0] == NOT_REFUSED or (place[1] == BY_NAME and row and row[1] != BY_NAME):
+            yield f'{edit}: {both(place, row)}: {REWRITE}'
+
+
+def moved(log):
+    """The edits that were refused elsewhere than the table says. Processors prove side by side, so
+    which of several clauses is refused first isn't the same in every run: none of these is a fault.
+    """
+    for edit, row, place in compared(log):
+        if place and row and place != row:
+            yield f'{edit}: {both(place, row)}'
+
+
+def both(place, row):
+    return f'the gate says {" ".join(place)}, the table {" ".join(row or ("nothing",))}'

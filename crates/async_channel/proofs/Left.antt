@@ -1,5 +1,5 @@
 -- What is left of messages when the first of them have gone in.
-use Rattle.std.proofs.Common.{◌+◌, ◌∙◌, ap, drop, List, ℕ, Result, Ok, Err}
+use Rattle.std.proofs.Common.{◌+◌, ◌∙◌, ap, drop, List, Result, Ok, Err}
 use Rattle.std.proofs.lemmas.List.{drop-drop}
 use Rattle.std.specs.declared.collections.VecDeque.{VecDeque}
 use Rattle.std.specs.declared.alloc.Global.{Global}
