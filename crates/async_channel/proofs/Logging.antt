@@ -51,17 +51,3 @@ module _ {T : Type 0} (step : Channel T Mark → Change T Mark) (held : Held T)
   steps_if_ready (Ok (Ready answer)) after rung = steps after rung
   steps_if_ready (Ok Pending) after rung = tt
   steps_if_ready (Err error) after rung = tt
-
--- A longer log begins as before, or with what is new where it was empty.
-module _ {W : Type 0} where
-  pub first_of_one : (first : Option W) (log after : List W) (mark : W) → first ≡ slice_get log 0
-      → after ≡ log ++ mark ∷ [] → is_some first ≡ false → Some mark ≡ slice_get after 0
-  first_of_one (Some other) log after mark is more none = absurd (cc none)
-  first_of_one None [] after mark is more none = rw more refl
-  first_of_one None (rung ∷ log) after mark is more none = absurd (cc is)
-
-  pub first_kept : (first : Option W) (log after : List W) (mark : W) → first ≡ slice_get log 0
-      → after ≡ log ++ mark ∷ [] → is_some first ≡ true → first ≡ slice_get after 0
-  first_kept None log after mark is more some = absurd (cc some)
-  first_kept (Some first) [] after mark is more some = absurd (cc is)
-  first_kept (Some first) (rung ∷ log) after mark is more some = rw more is

@@ -32,7 +32,6 @@ mod handles;
 pub mod inspect;
 mod iter;
 mod locked;
-mod log;
 mod many;
 mod mark;
 mod ops;

@@ -314,6 +314,6 @@ impl<T: Drop, R: Wait> Drop for Locked<'_, T, R> {
             bell,
             shared: _,
         } = self;
-        bell.wake_after(MutexGuard::unlock(core));
+        let _woken = bell.wake_after(MutexGuard::unlock(core));
     }
 }

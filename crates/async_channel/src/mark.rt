@@ -19,13 +19,15 @@
 //! A blocked thread has no waker. It sleeps at a cell of its own, its mark is that cell, and so
 //! just the one that was told wakes. A slot, like a cell, takes memory only where its owner
 //! begins to wait.
-ghost use Rattle.std.specs.Prelude.{◌≡◌, ℕ, ⊤, true, IfOk};
+ghost use Rattle.std.specs.Prelude.{◌≡◌, ◌++◌, ◌∷◌, [], ℕ, ⊤, true, IfOk};
 ghost use Rattle.futures.specs.Task.{Covers, Keeps};
 ghost use Rattle.async_channel.specs.Held.{is_of_task, is_of_thread};
 
 use channel_core::OutOfMemory;
 use futures::task::{Context, Poll, Source, Waker};
 use std::alloc::Global;
+use std::marker::Model;
+use std::snapshot::Snapshot;
 use std::sync::{Arc, Mutex, Wait};
 use std::thread::Parker;
 
@@ -50,9 +52,42 @@ pub(crate) enum Mark {
     Nobody,
 }
 
+/// The marks that were woken, in order. It grows by [`Mark::wake`] alone, so that a contract that
+/// names it refuses whoever forgets to wake. Only clauses can read it: its snapshots have no bytes.
+#[derive(Drop)]
+pub(crate) struct Woken {
+    // What was woken before the last one, and the last one.
+    last: Option<(Snapshot<Woken>, Snapshot<Mark>)>,
+}
+
+impl Model for Woken {
+    ghost use Rattle.std.specs.Prelude.{List, length};
+    ghost use Rattle.async_channel.specs.declared.mark.Mark.{Mark};
+    ghost use Rattle.async_channel.specs.Rung.{woken_in};
+
+    ghost Value = { List Mark };
+
+    ghost view = { λ woken. woken_in woken.last };
+
+    ghost size = { length };
+}
+
+impl Woken {
+    pub(crate) fn nobody() -> Woken
+        ensures { result ≡ [] }
+    {
+        Woken { last: None }
+    }
+}
+
 impl Mark {
     /// Drops the waker, which wakes its task, or wakes the thread.
-    pub(crate) fn wake<R: Wait>(self, rt: &R) {
+    pub(crate) fn wake<R: Wait>(self, rt: &R, woken: &mut Woken)
+        ensures { woken.new ≡ woken.old ++ self ∷ [] }
+    {
+        *woken = Woken {
+            last: Some((Snapshot::of(woken), Snapshot::of(&self))),
+        };
         match self {
             Mark::Task(slot) => *slot.waker.lock(rt) = None,
             Mark::Thread(cell) => cell.unpark(),

@@ -2,36 +2,36 @@
 //!
 //! A step under the lock rings it with the marks of those whom it tells. The first mark is kept,
 //! without an allocation, until the lock is free, so that who is woken doesn't run into it;
-//! further marks are rung under the lock.
-ghost use Rattle.std.specs.Prelude.{◌≡◌, []};
+//! further marks are woken under the lock.
+ghost use Rattle.std.specs.Prelude.{◌≡◌, ◌++◌, [], drop, take};
 
-use crate::log::Log;
-use crate::mark::Mark;
+use crate::mark::{Mark, Woken};
 use channel_core::{Bell, Core};
 use std::marker::Model;
 use std::sync::{Mutex, Wait};
 
 /// A bell that wakes each mark that it is rung with.
 ///
-/// It can't be dropped, so that nobody forgets to wake the first one.
+/// It can't be dropped: who takes it apart has to wake the first one.
 pub(crate) struct Ringer<'a, R: Wait> {
     rt: &'a R,
     // What it was rung with first, which isn't woken yet.
     first: Option<Mark>,
-    // What it was rung with.
-    log: Log<Mark>,
+    // Those that it was rung with after the first.
+    woken: Woken,
 }
 
 /// The marks that it was rung with, in order.
 impl<'a, R: Wait> Model for Ringer<'a, R> {
-    ghost use Rattle.std.specs.Prelude.{◌≡◌, List, slice_get};
+    ghost use Rattle.std.specs.Prelude.{◌≡◌, List, [], None};
     ghost use Rattle.async_channel.specs.declared.mark.Mark.{Mark};
+    ghost use Rattle.async_channel.specs.Rung.{rung_with};
 
     ghost Value = { List Mark };
 
-    ghost view = { λ ringer. ringer.log };
+    ghost view = { λ ringer. rung_with ringer.first ringer.woken };
 
-    ghost invariant = { λ ringer. ringer.first ≡ slice_get ringer.log 0 };
+    ghost invariant = { λ ringer. ringer.first ≡ None → ringer.woken ≡ [] };
 }
 
 impl<'a, R: Wait> Ringer<'a, R> {
@@ -42,7 +42,7 @@ impl<'a, R: Wait> Ringer<'a, R> {
         Ringer {
             rt,
             first: None,
-            log: Log::new(),
+            woken: Woken::nobody(),
         }
     }
 
@@ -52,26 +52,33 @@ impl<'a, R: Wait> Ringer<'a, R> {
         self.rt
     }
 
-    /// Wakes the first one. The lock is free: only its guard gives it back.
+    /// Wakes the first one. The lock is free: only its guard gives it back. The answer is who was
+    /// woken in all, the first one last.
     #[inline(always)]
-    pub(crate) fn wake_after<T>(self, _lock: &Mutex<Core<T, Mark>>) {
-        let Self { rt, first, log: _ } = self;
+    pub(crate) fn wake_after<T>(self, _lock: &Mutex<Core<T, Mark>>) -> Woken
+        ensures { result ≡ drop 1 self.entry ++ take 1 self.entry }
+    {
+        let Self {
+            rt,
+            first,
+            mut woken,
+        } = self;
         if let Some(mark) = first {
-            mark.wake(rt);
+            mark.wake(rt, &mut woken);
         }
+        woken
     }
 }
 
-// What a ring does to other threads no clause can say.
+/// A mark is woken, or kept as the first one.
 impl<R: Wait> Bell<Mark> for Ringer<'_, R> {
     ghost use Rattle.std.specs.Prelude.{◌≡◌, ◌++◌, ◌∷◌, []};
 
     ghost rings = { λ before mark after. after ≡ before ++ mark ∷ [] };
 
     fn ring(&mut self, w: Mark) {
-        self.log = self.log.and(&w);
         if self.first.is_some() {
-            w.wake(self.rt);
+            w.wake(self.rt, &mut self.woken);
         } else {
             self.first = Some(w);
         }
