@@ -28,16 +28,18 @@ def words(clauses):
 
 
 def index(crates):
-    """The index: each public call with a clause. Those of one type with the same share a row."""
-    lines = ['| Crate | Call | Clauses |', '|---|---|---|']
+    """The index: each public call with a clause. Those of one type with the same share a line."""
+    lines = []
     for crate in crates.values():
-        rows = {}
+        shared = {}
         for call in crate.public_calls():
-            rows.setdefault((call.owner, tuple(call.clauses)), []).append(call)
-        for (_, clauses), calls in rows.items():
+            shared.setdefault((call.owner, tuple(call.clauses)), []).append(call)
+        if shared:
+            lines += ['', f'**`{crate.name}`**', '']
+        for (_, clauses), calls in shared.items():
             places = ', '.join(f'`{call.place()}`' for call in calls)
-            lines.append(f'| `{crate.name}` | {places} | {words(clauses)} |')
-    return lines
+            lines.append(f'- {places}: {words(clauses)}')
+    return lines[1:]
 
 
 def cited_rows(text):

@@ -64,13 +64,7 @@ def rooms():
 
 
 def table():
-    """The full table: each crate, what it is, and what it stands on."""
-    listed = listed_crates()
-    lines = ['| Crate | What it is | Stands on |', '|---|---|---|']
-    for name, below in listed.items():
-        own = quoted(it for it in below if it in listed)
-        kit = quoted(it for it in below if it not in listed)
-        parts = [own, f'{kit} of the kit' if kit else '']
-        stands = '; '.join(part for part in parts if part)
-        lines.append(f'| `{name}` | {first_line(name)[0]} | {stands} |')
-    return lines
+    """The libraries, and what each is."""
+    lines = ['| Library | What it is |', '|---|---|']
+    names = [name for name in listed_crates() if room_of(name) == 'Libraries']
+    return lines + [f'| `{name}` | {first_line(name)[0]} |' for name in names]
