@@ -28,12 +28,16 @@ def words(clauses):
 
 
 def index(crates):
-    """The index: each public call with a clause. Those of one type with the same share a line."""
+    """The index: each public call with a clause. Those of one type with the same share a line.
+
+    So do all of a crate whose clauses have no name.
+    """
     lines = []
     for crate in crates.values():
         shared = {}
         for call in crate.public_calls():
-            shared.setdefault((call.owner, tuple(call.clauses)), []).append(call)
+            owner = call.owner if any(call.clauses) else ''
+            shared.setdefault((owner, tuple(call.clauses)), []).append(call)
         if shared:
             lines += ['', f'**`{crate.name}`**', '']
         for (_, clauses), calls in shared.items():
