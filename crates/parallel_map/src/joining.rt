@@ -29,7 +29,8 @@ fn extend<A: Exact, B: Drop, J: Job<A, B>>(
     chunk: Chunk<'_, A, B, J>,
 ) -> Result<(), MapError>
     requires so_far { answers.old.items ≡ map J.answer (take (vec_len answers.old) inputs.now) }
-    ensures ok { IfOk result (λ _. answers.new.items ≡ map J.answer (take (vec_len answers.new) inputs.now)) }
+    ensures ok { IfOk result (λ _. answers.new.items
+        ≡ map J.answer (take (vec_len answers.new) inputs.now)) }
     ensures err { result ≢ Err MapError.NoStamps }
 {
     let from = chunk.from();
