@@ -3,31 +3,159 @@ use crate::report::{Form, channel, row};
 use anyhow::Result;
 use async_channel::{Receiver, Sender};
 use std::alloc::AllocGlobal;
+use std::collections::VecDeque;
 use std::rt::Clock;
 use std::sync::Wait;
 use std::thread;
 use std::thread::Threads;
 use std::time::Instant;
 
-fn send_some<R: Wait + Clone + Drop>(sender: &Sender<u64, R>, count: u64) -> u64 {
-    for number in 0..count {
-        let _ = sender.send_blocking(number);
-    }
-    0
+/// How many messages a batch has at most.
+const BATCH: usize = 32;
+
+/// Both ends of a channel of numbers, which threads share.
+trait Line {
+    /// Sends so many numbers, and blocks while the channel is full.
+    fn send_some(&self, count: u64);
+
+    /// Receives so many, and answers their sum.
+    fn receive_some(&self, count: u64) -> u64;
 }
 
-fn receive_some<R: Wait + Clone + Drop>(receiver: &Receiver<u64, R>, count: u64) -> u64 {
-    let mut sum = 0u64;
-    for _ in 0..count {
-        if let Ok(Ok(number)) = receiver.recv_blocking() {
-            sum = sum.wrapping_add(number);
+/// A channel of `async_channel`.
+#[derive(Drop)]
+struct Here<R: Wait + Clone + Drop> {
+    sender: Sender<u64, R>,
+    receiver: Receiver<u64, R>,
+}
+
+impl<R: Wait + Clone + Drop> Line for Here<R> {
+    fn send_some(&self, count: u64) {
+        for number in 0..count {
+            let _ = self.sender.send_blocking(number);
         }
     }
-    sum
+
+    fn receive_some(&self, count: u64) -> u64 {
+        let mut sum = 0u64;
+        for _ in 0..count {
+            if let Ok(Ok(number)) = self.receiver.recv_blocking() {
+                sum = sum.wrapping_add(number);
+            }
+        }
+        sum
+    }
+}
+
+/// The same, in batches.
+#[derive(Drop)]
+struct Batches<'a, R: Wait + Clone + Drop + AllocGlobal> {
+    rt: &'a R,
+    here: Here<R>,
+}
+
+impl<R: Wait + Clone + Drop + AllocGlobal> Line for Batches<'_, R> {
+    fn send_some(&self, count: u64) {
+        let mut batch = VecDeque::new(self.rt.alloc());
+        for number in 0..count {
+            let _ = batch.push_back(number);
+            if batch.len() >= BATCH {
+                let _ = self.here.sender.send_many_blocking(&mut batch);
+            }
+        }
+        let _ = self.here.sender.send_many_blocking(&mut batch);
+    }
+
+    fn receive_some(&self, count: u64) -> u64 {
+        let mut sum = 0u64;
+        let mut left = count as usize;
+        let mut batch = Vec::new(self.rt.alloc());
+        for _ in 0..count {
+            if left == 0 {
+                return sum;
+            }
+            let _ = self
+                .here
+                .receiver
+                .recv_many_blocking(&mut batch, left.min(BATCH));
+            left = left.saturating_sub(batch.len());
+            sum = batch
+                .iter()
+                .fold(sum, |all, number| all.wrapping_add(*number));
+            batch.clear();
+        }
+        sum
+    }
+}
+
+/// A channel of the kit's `crossbeam_channel`.
+#[derive(Drop)]
+struct Crossbeam<'a, R: Wait> {
+    rt: &'a R,
+    sender: crossbeam_channel::Sender<u64>,
+    receiver: crossbeam_channel::Receiver<u64>,
+}
+
+impl<R: Wait> Line for Crossbeam<'_, R> {
+    fn send_some(&self, count: u64) {
+        for number in 0..count {
+            let _ = self.sender.send(self.rt, number);
+        }
+    }
+
+    fn receive_some(&self, count: u64) -> u64 {
+        let mut sum = 0u64;
+        for _ in 0..count {
+            if let Ok(number) = self.receiver.recv(self.rt) {
+                sum = sum.wrapping_add(number);
+            }
+        }
+        sum
+    }
+}
+
+fn handles<R: Wait + Clone + Drop + AllocGlobal>(
+    rt: &R,
+    capacity: Option<usize>,
+) -> Result<Here<R>> {
+    let (sender, receiver) = channel(rt, capacity)?;
+    Ok(Here { sender, receiver })
 }
 
 /// As many senders as receivers, each on a thread of its own.
-fn between_threads<R>(
+fn between<R, L>(
+    rt: &R,
+    form: Form<'_>,
+    work: &str,
+    line: &L,
+    side: usize,
+    count: u64,
+) -> Result<()>
+where
+    R: Threads + AllocGlobal + Clock + Print + Sync,
+    L: Line + Sync,
+{
+    let each = count / (side as u64).max(1);
+    let start = Instant::now(rt)?;
+    let sums = thread::map_indices(
+        rt,
+        rt.alloc(),
+        side.saturating_mul(2),
+        &|i: usize| {
+            if i % 2 == 0 {
+                line.send_some(each);
+                0
+            } else {
+                line.receive_some(each)
+            }
+        },
+    )?;
+    let sum = sums.iter().fold(0u64, |all, sum| all.wrapping_add(*sum));
+    row(rt, form, work, count, start, sum)
+}
+
+/// The rows of a channel with this capacity: message by message, in batches, and the kit's.
+fn rows<R>(
     rt: &R,
     form: Form<'_>,
     work: &str,
@@ -38,24 +166,24 @@ fn between_threads<R>(
 where
     R: Threads + Wait + Clone + Drop + AllocGlobal + Clock + Print + Send + Sync,
 {
-    let (s, r) = channel(rt, capacity)?;
-    let (sender, receiver) = (&s, &r);
-    let each = count / (side as u64).max(1);
-    let start = Instant::now(rt)?;
-    let sums = thread::map_indices(
+    between(rt, form, work, &handles(rt, capacity)?, side, count)?;
+    let batches = Batches {
         rt,
-        rt.alloc(),
-        side.saturating_mul(2),
-        &|i: usize| {
-            if i % 2 == 0 {
-                send_some(sender, each)
-            } else {
-                receive_some(receiver, each)
-            }
-        },
-    )?;
-    let sum = sums.iter().fold(0u64, |all, sum| all.wrapping_add(*sum));
-    row(rt, form, work, count, start, sum)
+        here: handles(rt, capacity)?,
+    };
+    let name = format!(in rt.alloc(); "{work}, batches of {BATCH}")?;
+    between(rt, form, name.as_str(), &batches, side, count)?;
+    let (sender, receiver) = match capacity {
+        Some(capacity) => crossbeam_channel::bounded(rt.alloc(), capacity)?,
+        None => crossbeam_channel::unbounded(rt.alloc())?,
+    };
+    let kit = Crossbeam {
+        rt,
+        sender,
+        receiver,
+    };
+    let name = format!(in rt.alloc(); "{work}, crossbeam_channel")?;
+    between(rt, form, name.as_str(), &kit, side, count)
 }
 
 /// A message there and back.
@@ -64,9 +192,8 @@ where
     R: Threads + Wait + Clone + Drop + AllocGlobal + Clock + Print + Send + Sync,
 {
     const COUNT: u64 = 10_000;
-    let (there_s, there_r) = channel(rt, Some(1))?;
-    let (back_s, back_r) = channel(rt, Some(1))?;
-    let (there_s, there_r, back_s, back_r) = (&there_s, &there_r, &back_s, &back_r);
+    let (there, back) = (handles(rt, Some(1))?, handles(rt, Some(1))?);
+    let (there, back) = (&there, &back);
     let start = Instant::now(rt)?;
     let sums = thread::map_indices(
         rt,
@@ -76,11 +203,11 @@ where
             let mut sum = 0u64;
             for number in 0..COUNT {
                 if i == 0 {
-                    let _ = there_s.send_blocking(number);
-                    sum = sum.wrapping_add(receive_some(back_r, 1));
+                    let _ = there.sender.send_blocking(number);
+                    sum = sum.wrapping_add(back.receive_some(1));
                 } else {
-                    let got = receive_some(there_r, 1);
-                    let _ = back_s.send_blocking(got);
+                    let got = there.receive_some(1);
+                    let _ = back.sender.send_blocking(got);
                 }
             }
             sum
@@ -95,18 +222,18 @@ where
     R: Threads + Wait + Clone + Drop + AllocGlobal + Clock + Print + Send + Sync,
 {
     round_trip(rt, form)?;
-    between_threads(rt, form, "3 spsc bounded(1)", Some(1), 1, 20_000)?;
-    between_threads(rt, form, "3 spsc bounded(128)", Some(128), 1, 200_000)?;
-    between_threads(rt, form, "3 spsc unbounded", None, 1, 200_000)
+    rows(rt, form, "3 spsc bounded(1)", Some(1), 1, 20_000)?;
+    rows(rt, form, "3 spsc bounded(128)", Some(128), 1, 200_000)?;
+    rows(rt, form, "3 spsc unbounded", None, 1, 200_000)
 }
 
 pub fn crowds<R>(rt: &R, form: Form<'_>) -> Result<()>
 where
     R: Threads + Wait + Clone + Drop + AllocGlobal + Clock + Print + Send + Sync,
 {
-    between_threads(rt, form, "4 mpmc 4x4 bounded(1)", Some(1), 4, 20_000)?;
-    between_threads(rt, form, "4 mpmc 4x4 bounded(128)", Some(128), 4, 100_000)?;
-    between_threads(rt, form, "4 mpmc 4x4 unbounded", None, 4, 100_000)?;
-    between_threads(rt, form, "4 mpmc 8x8 bounded(128)", Some(128), 8, 100_000)?;
-    between_threads(rt, form, "4 mpmc 32x32 bounded(128)", Some(128), 32, 96_000)
+    rows(rt, form, "4 mpmc 4x4 bounded(1)", Some(1), 4, 20_000)?;
+    rows(rt, form, "4 mpmc 4x4 bounded(128)", Some(128), 4, 100_000)?;
+    rows(rt, form, "4 mpmc 4x4 unbounded", None, 4, 100_000)?;
+    rows(rt, form, "4 mpmc 8x8 bounded(128)", Some(128), 8, 100_000)?;
+    rows(rt, form, "4 mpmc 32x32 bounded(128)", Some(128), 32, 96_000)
 }
