@@ -12,6 +12,8 @@ mod many;
 #[cfg(test)]
 mod scene;
 #[cfg(test)]
+mod steps;
+#[cfg(test)]
 mod telling;
 #[cfg(test)]
 mod waiting;
