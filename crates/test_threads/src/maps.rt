@@ -92,6 +92,60 @@ fn seventy_thousand_messages(rt: HostRuntime) -> Result<(), Fail> {
 }
 
 #[test]
+fn two_hundred_thousand_inputs(rt: HostRuntime) -> Result<(), Fail> {
+    assert!(rt; maps_numbers(&rt, 200_003, 2, 64, 100_000)?);
+    Ok(())
+}
+
+/// Waits until so many workers are there, or it has looked that often.
+#[derive(Drop)]
+struct All {
+    there: AtomicU64,
+    workers: u64,
+    late: AtomicBool,
+}
+
+impl Gate for All {
+    fn before(&self, _place: usize) {
+        self.there.fetch_add(1, Ordering::SeqCst);
+        for _ in 0..MEETING_TURNS {
+            if self.there.load(Ordering::SeqCst) >= self.workers {
+                return;
+            }
+            thread::yield_now();
+        }
+        self.late.store(true, Ordering::SeqCst);
+    }
+
+    fn after(&self, _place: usize) {}
+}
+
+#[test]
+fn a_hundred_workers_run_at_once(rt: HostRuntime) -> Result<(), Fail> {
+    let a = rt.alloc();
+    let gate = All {
+        there: AtomicU64::new(0),
+        workers: 100,
+        late: AtomicBool::new(false),
+    };
+    let mut maker = StampMaker::new();
+    let inputs = (0..100u64).collect::<Vec<_>>(a)?;
+    let answers = map_all(
+        &rt,
+        a,
+        &Square,
+        &gate,
+        inputs.as_slice(),
+        100,
+        1,
+        &mut maker,
+    )?;
+    assert_eq!(rt; answers.last(), Some(&9801));
+    assert!(rt; !gate.late.load(Ordering::SeqCst));
+    Ok(())
+}
+
+#[test]
 fn no_stamp_for_a_map(rt: HostRuntime) -> Result<(), Fail> {
     let mut maker = StampMaker::starting_at(u64::MAX);
     let got = map_all(&rt, rt.alloc(), &Square, &Open, &[5, 6], 1, 1, &mut maker);
@@ -408,5 +462,71 @@ fn refused_copies_of_a_runtime_are_named(rt: HostRuntime) -> Result<(), Fail> {
         assert_eq!(rt; made, most);
         assert!(rt; matches!(&answers, Err(MapError::OutOfMemory)));
     }
+    Ok(())
+}
+
+/// Counts how many copies of a runtime were given up.
+struct GivenUp<'a> {
+    count: &'a AtomicU64,
+}
+
+impl Clone for GivenUp<'_> {
+    fn clone(&self) -> Result<Self, AllocError> {
+        Ok(GivenUp { count: self.count })
+    }
+}
+
+impl Drop for GivenUp<'_> {
+    fn drop(self) {
+        let GivenUp { count } = self;
+        count.fetch_add(1, Ordering::SeqCst);
+    }
+}
+
+/// At place 0 the worker looks whether a copy of the runtime is given up meanwhile, as by the caller
+/// when it has sent all places.
+#[derive(Drop)]
+struct WhileAtFirst<'a> {
+    count: &'a AtomicU64,
+    changed: AtomicBool,
+}
+
+impl Gate for WhileAtFirst<'_> {
+    fn before(&self, place: usize) {
+        let before = self.count.load(Ordering::SeqCst);
+        let turns = if place == 0 { LONELY_TURNS } else { 0 };
+        for _ in 0..turns {
+            if self.count.load(Ordering::SeqCst) != before {
+                self.changed.store(true, Ordering::SeqCst);
+            }
+            thread::yield_now();
+        }
+    }
+
+    fn after(&self, _place: usize) {}
+}
+
+#[test]
+fn no_more_places_are_sent_than_the_cap(rt: HostRuntime) -> Result<(), Fail> {
+    let count = AtomicU64::new(0);
+    let gate = WhileAtFirst {
+        count: &count,
+        changed: AtomicBool::new(false),
+    };
+    let runtime = (rt, GivenUp { count: &count });
+    let mut maker = StampMaker::new();
+    let inputs = [5, 6, 7, 8];
+    let answers = map_all(
+        &runtime,
+        rt.alloc(),
+        &Square,
+        &gate,
+        &inputs,
+        1,
+        1,
+        &mut maker,
+    )?;
+    assert_eq!(rt; answers.as_slice(), [25, 36, 49, 64].as_slice());
+    assert!(rt; !gate.changed.load(Ordering::SeqCst));
     Ok(())
 }
