@@ -15,6 +15,9 @@ const MEETING_TURNS: u32 = 10_000_000;
 /// How often a worker looks for one that can't come.
 const LONELY_TURNS: u32 = 10_000;
 
+/// How often a worker looks whether the caller has gone on.
+const FEW_TURNS: u32 = 3_000;
+
 #[test]
 fn squares_in_parallel(rt: HostRuntime) -> Result<(), Fail> {
     let inputs = [0u64, 1, 2, 3, 4, 5, 6, 7, 8, 9];
@@ -483,8 +486,8 @@ impl Drop for GivenUp<'_> {
     }
 }
 
-/// At place 0 the worker looks whether a copy of the runtime is given up meanwhile, as by the caller
-/// when it has sent all places.
+/// At place 0 the worker looks whether a copy of the runtime is given up meanwhile, as by the
+/// caller when it has sent all places.
 #[derive(Drop)]
 struct WhileAtFirst<'a> {
     count: &'a AtomicU64,
@@ -494,7 +497,7 @@ struct WhileAtFirst<'a> {
 impl Gate for WhileAtFirst<'_> {
     fn before(&self, place: usize) {
         let before = self.count.load(Ordering::SeqCst);
-        let turns = if place == 0 { LONELY_TURNS } else { 0 };
+        let turns = if place == 0 { FEW_TURNS } else { 0 };
         for _ in 0..turns {
             if self.count.load(Ordering::SeqCst) != before {
                 self.changed.store(true, Ordering::SeqCst);

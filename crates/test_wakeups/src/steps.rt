@@ -19,13 +19,17 @@ use std::thread;
 use std::thread::{Threads, join};
 
 /// How many rounds a test makes.
-const ROUNDS: u64 = 1_500;
+const ROUNDS: u64 = 500;
 
 /// How many rounds a test makes whose channels are all made before.
-const MANY_ROUNDS: u64 = 4_000;
+const MANY_ROUNDS: u64 = 2_000;
+
+/// How many turns the threads of a test give to others, at most, while they wait for one another.
+/// Behind that they wait no more: where others have the processors, a test isn't to take long.
+const PATIENCE: u64 = 500;
 
 /// How often a thread looks before it gives the other one a turn.
-const LOOKS: u32 = 2_000;
+const LOOKS: u32 = 500;
 
 /// How many messages a batch has, which go in one round.
 const BATCH: usize = 100;
@@ -34,12 +38,14 @@ const BATCH: usize = 100;
 #[derive(Drop)]
 struct Meeting {
     there: AtomicU64,
+    turns: AtomicU64,
 }
 
 impl Meeting {
     fn new() -> Meeting {
         Meeting {
             there: AtomicU64::new(0),
+            turns: AtomicU64::new(0),
         }
     }
 
@@ -47,11 +53,13 @@ impl Meeting {
     fn wait(&self, round: u64) {
         self.there.fetch_add(1, Ordering::SeqCst);
         let wanted = round.wrapping_mul(2).wrapping_add(2);
-        for turn in 0..TURNS {
-            if self.there.load(Ordering::SeqCst) >= wanted {
+        for look in 0..TURNS {
+            let is_there = self.there.load(Ordering::SeqCst) >= wanted;
+            if is_there || self.turns.load(Ordering::SeqCst) > PATIENCE {
                 return;
             }
-            if turn > LOOKS {
+            if look > LOOKS {
+                self.turns.fetch_add(1, Ordering::SeqCst);
                 thread::yield_now();
             }
         }
@@ -382,17 +390,19 @@ fn send_last<R: Wait + Clone + Drop>(meeting: &Meeting, senders: Vec<Sender<u64,
 }
 
 /// Whether in each channel there is a message before the end.
-fn messages_are_first<R: Wait + Clone + Drop>(
-    alloc: Global,
+fn messages_are_first<R: Wait + Clone + Drop + RandomSource + AllocGlobal>(
+    rt: &R,
     way: Way,
-    task: &MockTask,
     meeting: &Meeting,
     receivers: Vec<Receiver<u64, R>>,
 ) -> bool {
+    let Ok(task) = MockTask::new(rt) else {
+        return false;
+    };
     let mut is_first = true;
     for (round, r) in (0..MANY_ROUNDS).zip(receivers) {
         meeting.wait(round);
-        is_first = is_first && message_is_first(alloc, way, task, r);
+        is_first = is_first && message_is_first(rt.alloc(), way, &task, r);
     }
     is_first
 }
@@ -402,14 +412,13 @@ fn ends_after_the_last<R>(rt: &R, way: Way) -> Result<bool, Fail>
 where
     R: Wait + Threads + Clone + Drop + RandomSource + AllocGlobal + Send + Sync,
 {
-    let alloc = rt.alloc();
-    let (senders, receivers) = channels(rt, alloc, Some(1))?;
-    let (task, meeting) = (MockTask::new(rt)?, Meeting::new());
+    let (senders, receivers) = channels(rt, rt.alloc(), Some(1))?;
+    let meeting = Meeting::new();
     let meets = &meeting;
     let (is_sent, is_first) = join(
         rt,
         move || send_last(meets, senders),
-        move || messages_are_first(alloc, way, &task, meets, receivers),
+        move || messages_are_first(rt, way, meets, receivers),
     );
     Ok(is_sent && is_first)
 }
@@ -491,15 +500,18 @@ fn passes_by_polls<R: Wait + Clone + Drop>(
 }
 
 /// Sends and receives batches, and answers whether all went well.
-fn passes<R: Wait + Clone + Drop>(
-    alloc: Global,
-    task: &MockTask,
+fn passes<R: Wait + Clone + Drop + RandomSource + AllocGlobal>(
+    rt: &R,
     s: &Sender<u64, R>,
     r: &Receiver<u64, R>,
 ) -> Result<bool, AllocError> {
+    let Ok(task) = MockTask::new(rt) else {
+        return Ok(false);
+    };
+    let alloc = rt.alloc();
     let mut is_well = true;
     for _ in 0..ROUNDS {
-        is_well = is_well && passes_by_calls(alloc, s, r)? && passes_by_polls(alloc, task, s, r)?;
+        is_well = is_well && passes_by_calls(alloc, s, r)? && passes_by_polls(alloc, &task, s, r)?;
     }
     Ok(is_well)
 }
@@ -521,15 +533,13 @@ fn holds_all_or_none<R: Wait + Clone + Drop>(r: &Receiver<u64, R>, is_done: &Ato
 #[test]
 fn a_batch_comes_and_goes_at_once(rt: HostRuntime) -> Result<(), Fail> {
     for capacity in [Some(BATCH), None] {
-        let alloc = rt.alloc();
-        let (s, r) = channel(&rt, alloc, capacity)?;
-        let task = MockTask::new(&rt)?;
+        let (s, r) = channel(&rt, rt.alloc(), capacity)?;
         let (meeting, is_done) = (Meeting::new(), AtomicBool::new(false));
         let (passed, is_whole) = join(
             &rt,
             || {
                 meeting.wait(0);
-                let passed = matches!(&passes(alloc, &task, &s, &r), Ok(true));
+                let passed = matches!(&passes(&rt, &s, &r), Ok(true));
                 is_done.store(true, Ordering::SeqCst);
                 passed
             },
