@@ -1,3 +1,4 @@
 pub mod Merging
 pub mod Keeps
 pub mod Settled
+pub mod Stages
