@@ -1,23 +1,128 @@
 -- Each step keeps the rule.
-use Rattle.std.proofs.Common.{◌<◌, ℕ, Option, [], ◌∷◌, false}
+use Rattle.std.proofs.Common.{◌≡◌, ◌≢◌, ◌<◌, ℕ, zero, suc, true, false, true≢false, Option, List, [], ◌∷◌, ◌++◌, length, set, sym, refl, ap, ◌∙◌, subst, ⊎_elim, append_assoc}
+use Rattle.std.proofs.lemmas.List.{append-nil}
 use Rattle.std.proofs.lemmas.List.Elements.{All-nil, All-push, All-head, All-tail}
-use Rattle.ruled_channel.specs.Rule.{Sends, Receives, Ends, Closes, Forks}
-use Rattle.example_histogram.specs.Classes.{AreClasses}
+use mathlib.Core.Option.{some, some-ne-none}
+use lib.ListN.{get_elem?}
+use Rattle.atomic_table.proofs.Lists.{at_set, at_snoc}
+use Rattle.ruled_channel.specs.Rule.{Sends, Receives, Ends, Closes, Forks, Merges, Learns}
+use Rattle.example_histogram.specs.declared.rule.Tally.{Tally}
+use Rattle.example_histogram.specs.Rule.{tally, Knows, IsTallied, with_sent, with_counted, with_end, sender, counter, spent, together}
 
-pub begins : AreClasses [] false (tt ∷ [])
-begins = All-nil (λ class. class < 6)
+no : {P : Type 0} → false ≡ true → P
+no e = absurd (true≢false (sym e))
 
-pub sends : (fits : Option ℕ → Type 0) (pass : ℕ) (m : ℕ) → m < 6 → Sends fits AreClasses pass tt m (λ _ _ _. Unit {0})
-sends fits pass m small messages views room h at = (tt, All-push (λ class. class < 6) messages m h small, tt)
+cons-ne-nil : (x : ℕ) (xs : List ℕ) → x ∷ xs ≢ []
+cons-ne-nil x xs e = some-ne-none x (ap (λ l. get_elem? l 0) e)
 
-pub receives : (pass : ℕ) → Receives AreClasses pass tt (λ _ m _. m < 6)
-receives pass m messages closed views h at = (tt, All-tail (λ class. class < 6) m messages h, All-head (λ class. class < 6) m messages h)
+-- who is found in a longer list and not in the shorter one is its last
+at_end : (l : List Tally) (a b : Tally) (j : ℕ) → get_elem? l j ≢ some b → get_elem? (l ++ a ∷ []) j ≡ some b → j ≡ length l
+at_end [] a b zero n e = refl
+at_end [] a b (suc j) n e = absurd (some-ne-none b (sym e))
+at_end (x ∷ xs) a b zero n e = absurd (n e)
+at_end (x ∷ xs) a b (suc j) n e = ap suc (at_end xs a b j n e)
 
-pub closes : (pass : ℕ) → Closes AreClasses pass tt (λ _ _ _. Unit {0})
-closes pass messages closed views h at = (tt, h, tt)
+abbrev Each : (ℕ → Tally → Type 0) → List Tally → Type 0
+Each F views = (pass : ℕ) (v : Tally) → get_elem? views pass ≡ some v → F pass v
 
-pub ends : (pass : ℕ) → Ends AreClasses pass tt (λ _ _. Unit {0})
-ends pass views h at = (tt, h, tt)
+each_set : (F : ℕ → Tally → Type 0) (views : List Tally) (pass : ℕ) (w : Tally) → F pass w → ((j : ℕ) (u : Tally) → j ≢ pass → get_elem? views j ≡ some u → F j u) → Each F (set views pass w)
+each_set F views pass w mine others j u e = ⊎_elim (λ (x : (j ≡ pass) × (w ≡ u)). subst (λ (y : ℕ × Tally). F y.0 y.1) (λ i. (sym x.0 i, x.1 i)) mine)
+    (λ (x : (j ≢ pass) × (get_elem? views j ≡ some u)). others j u x.0 x.1) (at_set views pass j w u e)
 
-pub forks : (pass : ℕ) → Forks AreClasses pass tt tt tt
-forks pass messages closed views h at = h
+pub begins : IsTallied [] false (tally true [] true [] false ∷ [])
+begins = (
+  0,
+  0,
+  [],
+  [],
+  refl,
+  All-nil (λ class. class < 6),
+  each_set (Knows [] false 0 0 [] []) (tally true [] true [] false ∷ []) 0 (tally true [] true [] false) ((λ _. (refl, refl)), (λ _. (refl, refl)), λ e. no e)
+      (λ j u other e. absurd (other (at_end [] _ u j (λ x. some-ne-none u (sym x)) e))),
+)
+
+pub sends : (fits : Option ℕ → Type 0) (pass : ℕ) (v : Tally) (class : ℕ) → class < 6 → v.sends ≡ true → Sends fits IsTallied pass v class (λ u m w. w ≡ with_sent u m)
+sends fits pass v class small may messages views room h at = let w = with_sent v class in let mine = h.6 pass v at in let sent = h.2 ++ class ∷ [] in (
+  w,
+  (
+    h.0,
+    h.1,
+    sent,
+    h.3,
+    ap (λ l. l ++ class ∷ []) h.4 ∙ append_assoc h.3 messages (class ∷ []),
+    All-push (λ c. c < 6) messages class h.5 small,
+    each_set (Knows (messages ++ class ∷ []) false h.0 h.1 sent h.3) views pass w ((λ _. ((mine.0 may).0, ap (λ l. l ++ class ∷ []) (mine.0 may).1)), mine.1, λ e. no (mine.2 e).0)
+        (λ j u other e. let theirs = h.6 j u e in ((λ p. absurd (other ((theirs.0 p).0 ∙ sym (mine.0 may).0))), theirs.1, λ p. no (theirs.2 p).0)),
+  ),
+  refl,
+)
+
+pub receives : (pass : ℕ) (v : Tally) → v.counts ≡ true → Receives IsTallied pass v (λ u m w. (m < 6) × (w ≡ with_counted u m))
+receives pass v may m messages closed views h at = let w = with_counted v m in let mine = h.6 pass v at in let counted = h.3 ++ m ∷ [] in (
+  w,
+  (
+    h.0,
+    h.1,
+    h.2,
+    counted,
+    h.4 ∙ sym (append_assoc h.3 (m ∷ []) messages),
+    All-tail (λ c. c < 6) m messages h.5,
+    each_set (Knows messages closed h.0 h.1 h.2 counted) views pass w (mine.0, (λ _. ((mine.1 may).0, ap (λ l. l ++ m ∷ []) (mine.1 may).1)), λ e. absurd (cons-ne-nil m messages (mine.2 e).1))
+        (λ j u other e. let theirs = h.6 j u e in (theirs.0, (λ p. absurd (other ((theirs.1 p).0 ∙ sym (mine.1 may).0))), λ p. absurd (cons-ne-nil m messages (theirs.2 p).1))),
+  ),
+  (All-head (λ c. c < 6) m messages h.5, refl),
+)
+
+pub closes : (pass : ℕ) (v : Tally) → Closes IsTallied pass v (λ u was_open w. w ≡ u)
+closes pass v messages closed views h at = let mine = h.6 pass v at in (
+  v,
+  (
+    h.0,
+    h.1,
+    h.2,
+    h.3,
+    h.4,
+    h.5,
+    each_set (Knows messages true h.0 h.1 h.2 h.3) views pass v (mine.0, mine.1, λ e. (refl, (mine.2 e).1)) (λ j u other e. let theirs = h.6 j u e in (theirs.0, theirs.1, λ p. (refl, (theirs.2 p).1))),
+  ),
+  refl,
+)
+
+pub ends : (pass : ℕ) (v : Tally) → Ends IsTallied pass v (λ u w. w ≡ with_end u)
+ends pass v views h at = let w = with_end v in let mine = h.6 pass v at in
+    (w, (h.0, h.1, h.2, h.3, h.4, h.5, each_set (Knows [] true h.0 h.1 h.2 h.3) views pass w (mine.0, mine.1, λ _. (refl, refl)) (λ j u other e. h.6 j u e)), refl)
+
+pub forks : (pass : ℕ) (v : Tally) → v.sends ≡ true → v.counts ≡ true → Forks IsTallied pass v (sender v.sent) (counter v.counted false)
+forks pass v a b messages closed views h at = let l = sender v.sent in let r = counter v.counted false in let mine = h.6 pass v at in let vs : List Tally = set views pass l in
+    let Old : ℕ → Tally → Type 0 = λ j u. (u.sends ≡ true → (j ≡ h.0) × (u.sent ≡ h.2)) × (u.counts ≢ true) × (u.ended ≡ true → (closed ≡ true) × (messages ≡ [])) in
+    let old : Each Old vs = each_set Old views pass l ((λ _. mine.0 a), (λ p. no p), λ p. no p) (λ j u other e. let theirs = h.6 j u e in (theirs.0, (λ p. other ((theirs.1 p).0 ∙ sym (mine.1 b).0)), theirs.2)) in (
+      h.0,
+      length vs,
+      h.2,
+      h.3,
+      h.4,
+      h.5,
+      λ j u e. ⊎_elim (λ x. let o = old j u x in (o.0, (λ p. absurd (o.1 p)), o.2))
+          (λ (is : r ≡ u). (
+            (λ p. no (ap (λ (y : Tally). y.sends) is ∙ p)),
+            (λ p. (at_end vs r u j (λ x. (old j u x).1 p) e, ap (λ (y : Tally). y.counted) (sym is) ∙ (mine.1 b).1)),
+            λ p. no (ap (λ (y : Tally). y.ended) is ∙ p),
+          )) (at_snoc vs r u j e),
+    )
+
+pub merges : (pass : ℕ) (v : Tally) (other : ℕ) (u : Tally) → v.sends ≡ true → u.counts ≡ true → Merges IsTallied pass v other u (together v u) spent
+merges pass v other u a b messages closed views h at two at' = let both = together v u in let mine = h.6 pass v at in let vs : List Tally = set views pass both in
+    let was : get_elem? views other ≡ some u = ⊎_elim (λ x. absurd (two x.0)) (λ x. x.1) (at_set views pass other both u at') in let theirs = h.6 other u was in
+    let Now : ℕ → Tally → Type 0 = λ j y. j ≢ other → Knows messages closed h.0 pass h.2 h.3 j y in
+    let now : Each Now vs = each_set Now views pass both (λ _. ((λ _. mine.0 a), (λ _. (refl, (theirs.1 b).1)), theirs.2)) (λ j y _ e apart. let third = h.6 j y e in (third.0, (λ p. absurd (apart ((third.1 p).0 ∙ sym (theirs.1 b).0))), third.2)) in (
+      h.0,
+      pass,
+      h.2,
+      h.3,
+      h.4,
+      h.5,
+      each_set (Knows messages closed h.0 pass h.2 h.3) vs other spent ((λ p. no p), (λ p. no p), λ p. no p) (λ j y apart e. now j y e apart),
+    )
+
+pub learns : (pass : ℕ) (v : Tally) → v.sends ≡ true → v.counts ≡ true → v.ended ≡ true → Learns IsTallied pass v (λ messages closed. v.counted ≡ v.sent)
+learns pass v a b c messages closed views h at = let mine = h.6 pass v at in (mine.1 b).1 ∙ sym (append-nil h.3) ∙ ap (λ l. h.3 ++ l) (sym (mine.2 c).1) ∙ sym h.4 ∙ sym (mine.0 a).1

@@ -1,30 +1,61 @@
-//! The rule: each number that the channel holds is below 6. Nobody knows more than that.
-ghost use Rattle.std.specs.Prelude.{◌<◌};
-ghost use Rattle.example_histogram.specs.Classes.{AreClasses};
+//! The rule: what was sent is what was counted and then what the channel holds.
+ghost use Rattle.std.specs.Prelude.{◌≡◌, ◌<◌, [], true, false};
+ghost use Rattle.example_histogram.specs.Rule.{IsTallied, tally, with_sent, with_counted, with_end, sender, counter, together, spent};
 
-use ruled_channel::{Join, Protocol, Received, Split};
+use ruled_channel::{AtEnd, Closed, Join, Lesson, Protocol, Received, Sent, Split};
+use std::collections::LinkedList;
 
-pub struct BelowSix;
-
-impl Protocol<usize, ()> for BelowSix {
-    ghost holds = { AreClasses };
-
-    ghost first = { tt };
+/// What a pass knows. No value of it is made.
+pub struct Tally {
+    /// Whether it sends, and what it has sent.
+    pub sends: bool,
+    pub sent: LinkedList<usize>,
+    /// Whether it counts, and what it has counted.
+    pub counts: bool,
+    pub counted: LinkedList<usize>,
+    /// Whether it found the channel closed and empty.
+    pub ended: bool,
 }
 
-/// What is received is below 6.
-impl Received<usize, ()> for BelowSix {
-    ghost then = { λ v class w. class < 6 };
+pub struct Tallied;
+
+impl Protocol<usize, Tally> for Tallied {
+    ghost holds = { IsTallied };
+
+    ghost first = { tally true [] true [] false };
 }
 
-impl Split<()> for BelowSix {
-    ghost left = { λ v. v };
-
-    ghost right = { λ v. v };
+impl Sent<usize, Tally> for Tallied {
+    ghost then = { λ v class w. w ≡ with_sent v class };
 }
 
-impl Join<()> for BelowSix {
-    ghost both = { λ v w. v };
+/// What is received is a class, below 6.
+impl Received<usize, Tally> for Tallied {
+    ghost then = { λ v class w. (class < 6) × (w ≡ with_counted v class) };
+}
 
-    ghost spent = { tt };
+impl AtEnd<Tally> for Tallied {
+    ghost then = { λ v w. w ≡ with_end v };
+}
+
+impl Closed<Tally> for Tallied {
+    ghost then = { λ v was_open w. w ≡ v };
+}
+
+/// Who sent and counted, and found the end, has counted all.
+impl Lesson<usize, Tally> for Tallied {
+    ghost fact = { λ v messages closed. v.counted ≡ v.sent };
+}
+
+/// One part sends, the other counts.
+impl Split<Tally> for Tallied {
+    ghost left = { λ v. sender v.sent };
+
+    ghost right = { λ v. counter v.counted false };
+}
+
+impl Join<Tally> for Tallied {
+    ghost both = { together };
+
+    ghost spent = { spent };
 }
