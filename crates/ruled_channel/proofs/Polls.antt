@@ -1,5 +1,5 @@
 -- What a poll passes on from the channel's call.
-use Rattle.std.proofs.Common.{◌≡◌, ℕ, Bool, List, Option, Some, None, Result, Ok, Err, IfOk, IfErr, sym, refl, ◌∙◌, subst}
+use Rattle.std.proofs.Common.{◌≡◌, Bool, false, List, [], Option, Some, Result, Err, IfOk, IfErr, sym, refl, ◌∙◌, subst}
 use Rattle.futures.specs.Poll.{OnPending}
 use Rattle.futures.specs.declared.task.Poll.{Poll}
 use Rattle.futures.specs.declared.task.Poll.TheVariants.{Pending}
@@ -21,6 +21,9 @@ while_pending {A} {X} r is x = subst (λ (z : Poll A). OnPending z X) (sym is) x
 module _ {T V : Type 0} (then : V → V → Type 0) (fact : List T → Bool → Type 0) (v w : V) (e : TryRecvError) (f : FindsNone then fact v w e) where
   pub stays : e ≡ Empty → w ≡ v
   stays is = (subst (FindsNone then fact v w) is f).0
+
+  pub was_empty : e ≡ Empty → fact [] false
+  was_empty is = (subst (FindsNone then fact v w) is f).1
 
   pub ended : e ≡ Closed → then v w
   ended is = subst (FindsNone then fact v w) is f

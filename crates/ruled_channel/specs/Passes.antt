@@ -7,6 +7,7 @@ use Rattle.channel_model.specs.declared.errors.TryRecvError.{TryRecvError}
 use Rattle.channel_model.specs.declared.errors.TryRecvError.TheVariants.{Empty, Closed}
 use Rattle.ruled_mutex.specs.declared.pass.Pass.{Pass}
 use Rattle.ruled_mutex.specs.Passes.{IsPassOf as IsMutexPass}
+pub use Rattle.ruled_mutex.specs.Passes.{view}
 use Rattle.ruled_channel.specs.declared.ringer.Mark.{Mark}
 use Rattle.ruled_channel.specs.declared.channel.RuledChannel.{RuledChannel}
 use Rattle.ruled_channel.specs.Rule.{IsFilled}

@@ -79,3 +79,9 @@ module _ {T V : Type 0} (holds : List T → Bool → List V → Type 0) where
   Learns pass v fact =
       (messages : List T) (closed : Bool) (views : List V) → holds messages closed views
       → get_elem? views pass ≡ some v → fact messages closed
+
+  -- this view stood among those of all passes, and the rule held
+  abbrev pub Fitted : V → List T → Bool → Type 0
+  Fitted v messages closed =
+      (pass : ℕ) × (views : List V) × holds messages closed views
+      × (get_elem? views pass ≡ some v)

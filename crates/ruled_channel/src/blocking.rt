@@ -30,6 +30,7 @@ impl<T: Drop, V, P: Protocol<T, V>> RuledChannel<T, V, P> {
     /// let got = channel.recv_blocking_as::<Unruled, Unruled, _>(&rt, &mut pass)?;
     /// assert_eq!(rt; got, Ok(5));
     /// ```
+    #[tactic(auto, using(crate::proofs::Same::sends_same, crate::proofs::Same::learns_same))]
     pub fn send_blocking_as<M: Sent<T, V>, L: Lesson<T, V>, R: Wait>(
         &self,
         rt: &R,
@@ -49,12 +50,29 @@ impl<T: Drop, V, P: Protocol<T, V>> RuledChannel<T, V, P> {
         ensures memory { IfErr result
             (λ error. (error.0 ≡ message) × (view pass.new ≡ view pass.old)) }
     {
-        match self.try_send_as::<M, L, R>(rt, pass, message) {
-            Ok(Ok(())) => Ok(Ok(())),
-            Ok(Err(TrySendError::Closed(back))) => Ok(Err(SendError(back))),
-            Ok(Err(TrySendError::Full(back))) => self.wait_to_send::<M, L, R>(rt, pass, back),
-            Err(refused) => Err(refused),
+        let mut waiting = match self.try_send_as::<M, L, R>(rt, pass, message) {
+            Ok(Ok(())) => return Ok(Ok(())),
+            Ok(Err(TrySendError::Closed(back))) => return Ok(Err(SendError(back))),
+            Ok(Err(TrySendError::Full(back))) => back,
+            Err(refused) => return Err(refused),
+        };
+        let Ok(sleeper) = Sleeper::new(self.alloc) else {
+            return Err(NoMemory(waiting));
+        };
+        let mut ticket = None;
+        for _ in rt.forever() {
+            match self.send_or_wait::<M, L, R>(rt, pass, waiting, &mut ticket, &sleeper) {
+                Ok(Ok(())) => return Ok(Ok(())),
+                Ok(Err(TrySendError::Closed(back))) => return Ok(Err(SendError(back))),
+                Ok(Err(TrySendError::Full(back))) => waiting = back,
+                Err(refused) => {
+                    self.give_up_send(rt, pass, &mut ticket);
+                    return Err(refused);
+                }
+            }
+            sleeper.sleep(rt);
         }
+        unreachable!()
     }
 
     /// Takes the oldest message, and blocks its thread while the channel is empty and open. The
@@ -66,6 +84,7 @@ impl<T: Drop, V, P: Protocol<T, V>> RuledChannel<T, V, P> {
     /// let end = channel.recv_blocking_as::<Unruled, Unruled, _>(&rt, &mut pass)?;
     /// assert_eq!(rt; end, Err(RecvError));
     /// ```
+    #[tactic(auto, using(crate::proofs::Same::receives_same, crate::proofs::Same::ends_same))]
     pub fn recv_blocking_as<M: Received<T, V>, E: AtEnd<V>, R: Wait>(
         &self,
         rt: &R,
@@ -82,74 +101,11 @@ impl<T: Drop, V, P: Protocol<T, V>> RuledChannel<T, V, P> {
         ensures memory { OnErr result (view pass.new ≡ view pass.old) }
     {
         match self.try_recv_as::<M, E, Unruled, R>(rt, pass) {
-            Ok(message) => Ok(Ok(message)),
-            Err(TryRecvError::Closed) => Ok(Err(RecvError)),
-            Err(TryRecvError::Empty) => self.wait_to_recv::<M, E, R>(rt, pass),
+            Ok(message) => return Ok(Ok(message)),
+            Err(TryRecvError::Closed) => return Ok(Err(RecvError)),
+            Err(TryRecvError::Empty) => {}
         }
-    }
-
-    // Waits until there is a place, or the channel is closed.
-    #[tactic(auto, using(crate::proofs::Same::sends_same, crate::proofs::Same::learns_same))]
-    fn wait_to_send<M: Sent<T, V>, L: Lesson<T, V>, R: Wait>(
-        &self,
-        rt: &R,
-        pass: &mut Pass<T, V>,
-        msg: T,
-    ) -> Result<Result<(), SendError<T>>, NoMemory<T>>
-        requires own { IsPassOf self.now pass.old }
-        requires rule { Sends P.fits P.holds (number pass.old) (view pass.old) msg M.then }
-        requires lesson { Learns P.holds (number pass.old) (view pass.old)
-            (L.fact (view pass.old)) }
-        ensures own { IsPassOf self.now pass.new × IsSamePass pass.old pass.new }
-        ensures sent { IfOk result (λ answer. IfOk answer
-            (λ _. M.then (view pass.old) msg (view pass.new))) }
-        ensures refused { IfOk result (λ answer. IfErr answer
-            (λ error. (error.0 ≡ msg) × (view pass.new ≡ view pass.old)
-            × LearnedOf (λ messages. L.fact (view pass.old) messages true))) }
-        ensures memory { IfErr result
-            (λ error. (error.0 ≡ msg) × (view pass.new ≡ view pass.old)) }
-    {
-        let Ok(sleeper) = Sleeper::new(self.alloc) else {
-            return Err(NoMemory(msg));
-        };
-        let mut message = msg;
-        let mut ticket = None;
-        for _ in rt.forever() {
-            match self.send_or_wait::<M, L, R>(rt, pass, message, &mut ticket, &sleeper) {
-                Ok(Ok(())) => return Ok(Ok(())),
-                Ok(Err(TrySendError::Closed(back))) => return Ok(Err(SendError(back))),
-                Ok(Err(TrySendError::Full(back))) => message = back,
-                Err(refused) => {
-                    self.give_up_send(rt, pass, &mut ticket);
-                    return Err(refused);
-                }
-            }
-            sleeper.sleep(rt);
-        }
-        unreachable!()
-    }
-
-    // Waits until there is a message, or the channel is closed.
-    #[tactic(auto, using(crate::proofs::Same::receives_same, crate::proofs::Same::ends_same))]
-    fn wait_to_recv<M: Received<T, V>, E: AtEnd<V>, R: Wait>(
-        &self,
-        rt: &R,
-        pass: &mut Pass<T, V>,
-    ) -> Result<Result<T, RecvError>, OutOfMemory>
-        requires own { IsPassOf self.now pass.old }
-        requires rule { Receives P.holds (number pass.old) (view pass.old) M.then }
-        requires end { Ends P.holds (number pass.old) (view pass.old) E.then }
-        ensures own { IsPassOf self.now pass.new × IsSamePass pass.old pass.new }
-        ensures received { IfOk result (λ answer. IfOk answer
-            (λ message. M.then (view pass.old) message (view pass.new))) }
-        ensures end { IfOk result (λ answer. IfErr answer
-            (λ _. E.then (view pass.old) (view pass.new))) }
-        ensures memory { OnErr result (view pass.new ≡ view pass.old) }
-    {
-        let sleeper = match Sleeper::new(self.alloc) {
-            Ok(sleeper) => sleeper,
-            Err(refused) => return Err(refused),
-        };
+        let sleeper = Sleeper::new(self.alloc)?;
         let mut ticket = None;
         for _ in rt.forever() {
             match self.recv_or_wait::<M, E, R>(rt, pass, &mut ticket, &sleeper) {

@@ -35,6 +35,8 @@ pub type Pass<T, V> = ruled_mutex::Pass<Core<T, Mark>, V>;
 #[derive(Drop)]
 pub struct RuledChannel<T, V, P: Protocol<T, V>> {
     pub(crate) mutex: RuledMutex<Core<T, Mark>, V, Ruled<P>>,
+    // That of the core.
+    pub(crate) capacity: Option<usize>,
     pub(crate) alloc: Global,
 }
 
@@ -51,12 +53,31 @@ impl<T: Drop, V, P: Protocol<T, V>> RuledChannel<T, V, P> {
         requires new { core ≡ new_channel core.capacity }
         requires fits { P.fits core.capacity × (core.capacity ≢ Some 0) }
         requires rule { P.holds [] false (P.first ∷ []) }
-        ensures { IfOk result (λ r. IsPassOf r.0 r.1 × (view r.1 ≡ P.first)) }
+        ensures own { IfOk result (λ r. IsPassOf r.0 r.1 × (view r.1 ≡ P.first)) }
+        ensures capacity { IfOk result (λ r. r.0.capacity ≡ core.capacity) }
     {
-        match RuledMutex::new(alloc, core) {
-            Ok((mutex, pass)) => Ok((RuledChannel { mutex, alloc }, pass)),
-            Err(_) => Err(OutOfMemory),
-        }
+        let capacity = core.capacity();
+        let Ok((mutex, pass)) = RuledMutex::new(alloc, core) else {
+            return Err(OutOfMemory);
+        };
+        let channel = RuledChannel {
+            mutex,
+            capacity,
+            alloc,
+        };
+        Ok((channel, pass))
+    }
+
+    /// How many messages it can hold, and none if there is no bound.
+    ///
+    /// ```
+    /// let (channel, _): (RuledChannel<u64, (), Unruled>, _) = bounded_with(rt.alloc(), 4)?;
+    /// assert_eq!(rt; channel.capacity(), Some(4));
+    /// ```
+    pub fn capacity(&self) -> Option<usize>
+        ensures { result ≡ self.now.capacity }
+    {
+        self.capacity
     }
 
     /// Cuts a view in two, so that a part of it can go to another thread.

@@ -25,7 +25,8 @@ pub fn bounded_with<T: Drop, V, P: Protocol<T, V>>(
     requires cap { 0 < cap }
     requires fits { P.fits (Some cap) }
     requires rule { P.holds [] false (P.first ∷ []) }
-    ensures { IfOk result (λ r. IsPassOf r.0 r.1 × (view r.1 ≡ P.first)) }
+    ensures own { IfOk result (λ r. IsPassOf r.0 r.1 × (view r.1 ≡ P.first)) }
+    ensures capacity { IfOk result (λ r. r.0.capacity ≡ Some cap) }
 {
     RuledChannel::over(alloc, Core::bounded(alloc, cap)?)
 }
@@ -42,7 +43,8 @@ pub fn unbounded_with<T: Drop, V, P: Protocol<T, V>>(
 ) -> Result<(RuledChannel<T, V, P>, Pass<T, V>), OutOfMemory>
     requires fits { P.fits None }
     requires rule { P.holds [] false (P.first ∷ []) }
-    ensures { IfOk result (λ r. IsPassOf r.0 r.1 × (view r.1 ≡ P.first)) }
+    ensures own { IfOk result (λ r. IsPassOf r.0 r.1 × (view r.1 ≡ P.first)) }
+    ensures capacity { IfOk result (λ r. r.0.capacity ≡ None) }
 {
     RuledChannel::over(alloc, Core::unbounded(alloc))
 }

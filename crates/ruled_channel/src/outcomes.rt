@@ -102,6 +102,17 @@ impl<T, V> Lesson<T, V> for Unruled {
     ghost fact = { λ _ _ _. Unit {0} };
 }
 
+/// That the rule held of what there was.
+pub(crate) struct Seen<P> {
+    protocol: PhantomData<P>,
+}
+
+impl<T, V, P: Protocol<T, V>> Lesson<T, V> for Seen<P> {
+    ghost use Rattle.ruled_channel.specs.Rule.{Fitted};
+
+    ghost fact = { Fitted P.holds };
+}
+
 // The same, of what the lock guards.
 
 pub(crate) struct Pushed<M> {

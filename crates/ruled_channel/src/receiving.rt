@@ -1,24 +1,29 @@
 //! A receive as a future.
-ghost use Rattle.std.specs.Prelude.{◌≡◌, IsSome, Some};
+ghost use Rattle.std.specs.Prelude.{◌≡◌, [], false, IsSome, IfSome, Some};
 ghost use Rattle.futures.specs.Task.{Covers, Keeps};
 ghost use Rattle.futures.specs.Poll.{IfReady, OnPending};
 ghost use Rattle.ruled_mutex.specs.Passes.{view, number};
-ghost use Rattle.ruled_channel.specs.Rule.{Receives, Ends};
+ghost use Rattle.ruled_channel.specs.Rule.{Receives, Ends, Fitted};
 ghost use Rattle.ruled_channel.specs.Passes.{IsPassOf};
 ghost use Rattle.ruled_channel.specs.Receiving.{MayPoll, Gives};
 
 use crate::channel::{Pass, RuledChannel};
-use crate::outcomes::{AtEnd, Received};
+use crate::outcomes::{AtEnd, Received, Seen};
 use crate::protocol::Protocol;
 use channel_core::{RecvError, TryRecvError};
 use futures::future::Future;
 use futures::task::{Context, Poll};
-use ruled_mutex::Unruled;
 use std::marker::PhantomData;
 use std::sync::Wait;
 
 /// A receive that owns its pass, and gives it back with its answer. While the channel is empty it
 /// asks to be polled again, behind the other tasks.
+///
+/// ```
+/// let (channel, pass) = bounded_with::<u64, (), Unruled>(rt.alloc(), 1)?;
+/// let receive: Recv<'_, _, _, _, _, _, _> = channel.recv_as::<Unruled, Unruled, _>(&rt, pass);
+/// assert!(rt; receive.into_pass().is_some());
+/// ```
 #[derive(Drop)]
 pub struct Recv<'a, T, V, P: Protocol<T, V>, M, E, R> {
     rt: &'a R,
@@ -28,7 +33,16 @@ pub struct Recv<'a, T, V, P: Protocol<T, V>, M, E, R> {
 }
 
 impl<T: Drop, V, P: Protocol<T, V>> RuledChannel<T, V, P> {
-    /// Receives a message, in a task. The step of the rule is made by the poll that is ready.
+    /// Receives a message, in a task. The step of the rule is made by the poll that is ready. One
+    /// that isn't found the channel empty and open.
+    ///
+    /// ```
+    /// let (channel, mut pass) = bounded_with::<u64, (), Unruled>(rt.alloc(), 1)?;
+    /// let sent = channel.try_send_as::<Unruled, Unruled, _>(&rt, &mut pass, 5)?;
+    /// assert_eq!(rt; sent, Ok(()));
+    /// let (_, got) = block_on(&rt, channel.recv_as::<Unruled, Unruled, _>(&rt, pass))?;
+    /// assert_eq!(rt; got, Ok(5));
+    /// ```
     pub fn recv_as<'a, M: Received<T, V>, E: AtEnd<V>, R: Wait>(
         &'a self,
         rt: &'a R,
@@ -59,6 +73,8 @@ impl<T: Drop, V, P: Protocol<T, V>, M: Received<T, V>, E: AtEnd<V>, R: Wait> Fut
 
     fn poll(&mut self, cx: &mut Context<'_>) -> Poll<Self::Output>
         requires { MayPoll P.holds M.then E.then self.old.channel.now self.old.pass }
+        ensures empty { OnPending result (IfSome self.old.pass
+            (λ p. Fitted P.holds (view p) [] false)) }
         ensures value { IfReady result (Gives M.then E.then self.old.channel.now self.old.pass) }
         ensures again { OnPending result
             (MayPoll P.holds M.then E.then self.new.channel.now self.new.pass) }
@@ -73,7 +89,7 @@ impl<T: Drop, V, P: Protocol<T, V>, M: Received<T, V>, E: AtEnd<V>, R: Wait> Fut
         let Some(pass) = self.pass.as_mut() else {
             unreachable!()
         };
-        match channel.try_recv_as::<M, E, Unruled, R>(rt, pass) {
+        match channel.try_recv_as::<M, E, Seen<P>, R>(rt, pass) {
             Ok(message) => Poll::Ready((self.give(), Ok(message))),
             Err(TryRecvError::Closed) => Poll::Ready((self.give(), Err(RecvError))),
             Err(TryRecvError::Empty) => cx.yield_now(),
@@ -84,6 +100,12 @@ impl<T: Drop, V, P: Protocol<T, V>, M: Received<T, V>, E: AtEnd<V>, R: Wait> Fut
 impl<T, V, P: Protocol<T, V>, M, E, R> Recv<'_, T, V, P, M, E, R> {
     /// Gives the receive up. It took no message, and its pass is as it was; there is none after a
     /// poll that was ready.
+    ///
+    /// ```
+    /// let (channel, pass) = bounded_with::<u64, (), Unruled>(rt.alloc(), 1)?;
+    /// let receive = channel.recv_as::<Unruled, Unruled, _>(&rt, pass);
+    /// assert!(rt; receive.into_pass().is_some());
+    /// ```
     pub fn into_pass(self) -> Option<Pass<T, V>>
         ensures { result ≡ self.entry.pass }
     {
