@@ -5,6 +5,7 @@ use Rattle.std.specs.List.{flat_map}
 use mathlib.Core.Option.{some, some-ne-none, some-injective}
 use lib.ListN.{get_elem?}
 use Rattle.atomic_table.proofs.Lists.{at_set, at_snoc}
+use Rattle.ruled_channel.proofs.Views.{Each as All, each_set as all_set}
 use Rattle.ruled_channel.specs.Rule.{Sends, Receives, Closes, Ends, Forks, Merges, Learns}
 use Rattle.ruled_channel_rules.specs.declared.log.Log.{Log}
 use Rattle.ruled_channel_rules.specs.Merged.{IsMergeOf, AllArrived}
@@ -34,13 +35,6 @@ only a x b e =
     ap (λ l. l ++ (x ++ b)) ea ∙ ap (λ l. x ++ l) eb ∙ append-nil x
 
 module _ {T : Type 0} where
-  abbrev All : (ℕ → Log T → Type 0) → List (Log T) → Type 0
-  All F views = (pass : ℕ) (v : Log T) → get_elem? views pass ≡ some v → F pass v
-
-  all_set : (F : ℕ → Log T → Type 0) (views : List (Log T)) (pass : ℕ) (w : Log T) → F pass w → ((j : ℕ) (u : Log T) → j ≢ pass → get_elem? views j ≡ some u → F j u) → All F (set views pass w)
-  all_set F views pass w mine others j u e = ⊎_elim (λ (x : (j ≡ pass) × (w ≡ u)). subst (λ (y : ℕ × Log T). F y.0 y.1) (λ i. (sym x.0 i, x.1 i)) mine)
-      (λ (x : (j ≢ pass) × (get_elem? views j ≡ some u)). others j u x.0 x.1) (at_set views pass j w u e)
-
   set_other : (views : List (Log T)) (i j : ℕ) (a b : Log T) → j ≢ i → set (set views i a) j b ≡ set (set views j b) i a
   set_other [] i j a b n = refl
   set_other (x ∷ xs) zero zero a b n = absurd (n refl)

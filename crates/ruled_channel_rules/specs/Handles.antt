@@ -1,5 +1,5 @@
 -- What a clause says of a channel whose messages all arrive, and of its handles.
-use Rattle.std.specs.Prelude.{◌≡◌, Bool, true, List, [], ◌∷◌}
+use Rattle.std.specs.Prelude.{◌≡◌, ℕ, Bool, true, List, [], ◌∷◌, Option}
 use Rattle.ruled_mutex.specs.Passes.{view}
 use Rattle.ruled_channel.specs.Passes.{IsPassOf}
 use Rattle.ruled_channel_rules.specs.declared.log.Log.{Log}
@@ -13,6 +13,10 @@ module _ {T : Type 0} where
   abbrev pub first : List (List T) → List T
   first [] = []
   first (xs ∷ more) = xs
+
+  -- how many messages a channel can hold
+  abbrev pub capacity_of : Channel T → Option ℕ
+  capacity_of c = c.ruled.capacity
 
   -- what a sender has sent, in order
   abbrev pub sent_by : Sender T → List T

@@ -1,8 +1,8 @@
 //! The channel, and who sends and receives.
-ghost use Rattle.std.specs.Prelude.{◌≡◌, ◌<◌, ◌≤◌, [], ◌∷◌, ◌++◌, length, take, true, false, IfOk, IfErr};
+ghost use Rattle.std.specs.Prelude.{◌≡◌, ◌<◌, ◌≤◌, [], ◌∷◌, ◌++◌, length, take, true, false, Some, None, IfOk, IfErr};
 ghost use Rattle.std.specs.Prelude.{IsPermutation};
 ghost use Rattle.std.specs.List.{flat_map};
-ghost use Rattle.ruled_channel_rules.specs.Handles.{IsHubOf, known};
+ghost use Rattle.ruled_channel_rules.specs.Handles.{IsHubOf, known, capacity_of};
 ghost use Rattle.ruled_channel_rules.specs.Whole.{hub_log};
 
 use crate::log::{ForReceiver, ForSender, Log, Whole};
@@ -77,6 +77,7 @@ pub fn bounded<T: Drop>(alloc: Global, cap: usize) -> Result<(Channel<T>, Hub<T>
     requires { 0 < cap }
     ensures own { IfOk result (λ r. IsHubOf r.0 r.1) }
     ensures new { IfOk result (λ r. known r.1 ≡ hub_log 0 0) }
+    ensures capacity { IfOk result (λ r. capacity_of r.0 ≡ Some cap) }
 {
     let (ruled, pass) = bounded_with(alloc, cap)?;
     Ok((Channel { ruled }, Hub { pass }))
@@ -93,16 +94,33 @@ pub fn bounded<T: Drop>(alloc: Global, cap: usize) -> Result<(Channel<T>, Hub<T>
 pub fn unbounded<T: Drop>(alloc: Global) -> Result<(Channel<T>, Hub<T>), OutOfMemory>
     ensures own { IfOk result (λ r. IsHubOf r.0 r.1) }
     ensures new { IfOk result (λ r. known r.1 ≡ hub_log 0 0) }
+    ensures capacity { IfOk result (λ r. capacity_of r.0 ≡ None) }
 {
     let (ruled, pass) = unbounded_with(alloc)?;
     Ok((Channel { ruled }, Hub { pass }))
 }
 
+impl<T: Drop> Channel<T> {
+    /// How many messages it can hold, and none if there is no bound.
+    ///
+    /// ```
+    /// let (channel, mut hub) = bounded(rt.alloc(), 4)?;
+    /// let sender: Sender<u64> = hub.sender(&channel);
+    /// assert_eq!(rt; channel.capacity(), Some(4));
+    /// drop(sender);
+    /// ```
+    pub fn capacity(&self) -> Option<usize>
+        ensures { result ≡ capacity_of self.now }
+    {
+        self.ruled.capacity()
+    }
+}
+
 impl<T: Drop> Sender<T> {
     ghost use Rattle.ruled_channel_rules.specs.Handles.{IsSenderOf, sent_by, sender_closed};
 
-    /// Sends a message, and waits while the channel is full. A closed channel hands it back. The
-    /// outer error says that memory was refused.
+    /// Sends a message, and waits while the channel is full. A closed channel hands it back, and
+    /// the sender knows then that it is closed. The outer error says that memory was refused.
     ///
     /// ```
     /// let (channel, mut hub) = bounded(rt.alloc(), 4)?;
@@ -123,12 +141,21 @@ impl<T: Drop> Sender<T> {
         ensures sent { IfOk result (λ answer. IfOk answer
             (λ _. sent_by self.new ≡ sent_by self.old ++ message ∷ [])) }
         ensures refused { IfOk result (λ answer. IfErr answer
-            (λ error. (error.0 ≡ message) × (sent_by self.new ≡ sent_by self.old))) }
+            (λ error. (error.0 ≡ message) × (sent_by self.new ≡ sent_by self.old)
+            × (sender_closed self.new ≡ true))) }
         ensures memory { IfErr result
             (λ error. (error.0 ≡ message) × (sent_by self.new ≡ sent_by self.old)) }
     {
         let ruled = &channel.ruled;
-        ruled.send_blocking_as::<Whole, Unruled, R>(rt, &mut self.pass, message)
+        match ruled.send_blocking_as::<Whole, Unruled, R>(rt, &mut self.pass, message) {
+            Ok(Ok(())) => Ok(Ok(())),
+            Ok(Err(refused)) => {
+                // It is closed already. So this changes nothing but what the sender knows.
+                self.close(rt, channel);
+                Ok(Err(refused))
+            }
+            Err(refused) => Err(refused),
+        }
     }
 
     /// Sends messages until one can't be sent, as the channel is closed or memory was refused, and
