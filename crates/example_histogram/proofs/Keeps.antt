@@ -1,10 +1,10 @@
 -- Each step keeps the rule.
-use Rattle.std.proofs.Common.{◌≡◌, ◌≢◌, ◌<◌, ℕ, zero, suc, true, false, true≢false, Option, List, [], ◌∷◌, ◌++◌, length, set, sym, refl, ap, ◌∙◌, subst, ⊎_elim, append_assoc}
+use Rattle.std.proofs.Common.{◌≡◌, ◌≢◌, ◌<◌, ℕ, true, false, true≢false, Option, List, [], ◌∷◌, ◌++◌, length, set, sym, refl, ap, ◌∙◌, append_assoc}
 use Rattle.std.proofs.lemmas.List.{append-nil}
 use Rattle.std.proofs.lemmas.List.Elements.{All-nil, All-push, All-head, All-tail}
-use mathlib.Core.Option.{some, some-ne-none}
+use mathlib.Core.Option.{some-ne-none}
 use lib.ListN.{get_elem?}
-use Rattle.atomic_table.proofs.Lists.{at_set, at_snoc}
+use Rattle.ruled_channel.proofs.Views.{Each, each_set, each_more, at_other}
 use Rattle.ruled_channel.specs.Rule.{Sends, Receives, Ends, Closes, Forks, Merges, Learns}
 use Rattle.example_histogram.specs.declared.rule.Tally.{Tally}
 use Rattle.example_histogram.specs.Rule.{tally, Knows, IsTallied, with_sent, with_counted, with_end, sender, counter, spent, together}
@@ -15,20 +15,6 @@ no e = absurd (true≢false (sym e))
 cons-ne-nil : (x : ℕ) (xs : List ℕ) → x ∷ xs ≢ []
 cons-ne-nil x xs e = some-ne-none x (ap (λ l. get_elem? l 0) e)
 
--- who is found in a longer list and not in the shorter one is its last
-at_end : (l : List Tally) (a b : Tally) (j : ℕ) → get_elem? l j ≢ some b → get_elem? (l ++ a ∷ []) j ≡ some b → j ≡ length l
-at_end [] a b zero n e = refl
-at_end [] a b (suc j) n e = absurd (some-ne-none b (sym e))
-at_end (x ∷ xs) a b zero n e = absurd (n e)
-at_end (x ∷ xs) a b (suc j) n e = ap suc (at_end xs a b j n e)
-
-abbrev Each : (ℕ → Tally → Type 0) → List Tally → Type 0
-Each F views = (pass : ℕ) (v : Tally) → get_elem? views pass ≡ some v → F pass v
-
-each_set : (F : ℕ → Tally → Type 0) (views : List Tally) (pass : ℕ) (w : Tally) → F pass w → ((j : ℕ) (u : Tally) → j ≢ pass → get_elem? views j ≡ some u → F j u) → Each F (set views pass w)
-each_set F views pass w mine others j u e = ⊎_elim (λ (x : (j ≡ pass) × (w ≡ u)). subst (λ (y : ℕ × Tally). F y.0 y.1) (λ i. (sym x.0 i, x.1 i)) mine)
-    (λ (x : (j ≢ pass) × (get_elem? views j ≡ some u)). others j u x.0 x.1) (at_set views pass j w u e)
-
 pub begins : IsTallied [] false (tally true [] true [] false ∷ [])
 begins = (
   0,
@@ -37,8 +23,7 @@ begins = (
   [],
   refl,
   All-nil (λ class. class < 6),
-  each_set (Knows [] false 0 0 [] []) (tally true [] true [] false ∷ []) 0 (tally true [] true [] false) ((λ _. (refl, refl)), (λ _. (refl, refl)), λ e. no e)
-      (λ j u other e. absurd (other (at_end [] _ u j (λ x. some-ne-none u (sym x)) e))),
+  each_more (Knows [] false 0 0 [] []) [] (tally true [] true [] false) (λ j u e. absurd (some-ne-none u (sym e))) ((λ _. (refl, refl)), (λ _. (refl, refl)), λ e. no e),
 )
 
 pub sends : (fits : Option ℕ → Type 0) (pass : ℕ) (v : Tally) (class : ℕ) → class < 6 → v.sends ≡ true → Sends fits IsTallied pass v class (λ u m w. w ≡ with_sent u m)
@@ -102,17 +87,12 @@ forks pass v a b messages closed views h at = let l = sender v.sent in let r = c
       h.3,
       h.4,
       h.5,
-      λ j u e. ⊎_elim (λ x. let o = old j u x in (o.0, (λ p. absurd (o.1 p)), o.2))
-          (λ (is : r ≡ u). (
-            (λ p. no (ap (λ (y : Tally). y.sends) is ∙ p)),
-            (λ p. (at_end vs r u j (λ x. (old j u x).1 p) e, ap (λ (y : Tally). y.counted) (sym is) ∙ (mine.1 b).1)),
-            λ p. no (ap (λ (y : Tally). y.ended) is ∙ p),
-          )) (at_snoc vs r u j e),
+      each_more (Knows messages closed h.0 (length vs) h.2 h.3) vs r (λ j u e. let o = old j u e in (o.0, (λ p. absurd (o.1 p)), o.2)) ((λ p. no p), (λ _. (refl, (mine.1 b).1)), λ p. no p),
     )
 
 pub merges : (pass : ℕ) (v : Tally) (other : ℕ) (u : Tally) → v.sends ≡ true → u.counts ≡ true → Merges IsTallied pass v other u (together v u) spent
 merges pass v other u a b messages closed views h at two at' = let both = together v u in let mine = h.6 pass v at in let vs : List Tally = set views pass both in
-    let was : get_elem? views other ≡ some u = ⊎_elim (λ x. absurd (two x.0)) (λ x. x.1) (at_set views pass other both u at') in let theirs = h.6 other u was in
+    let theirs = h.6 other u (at_other views pass other both u two at') in
     let Now : ℕ → Tally → Type 0 = λ j y. j ≢ other → Knows messages closed h.0 pass h.2 h.3 j y in
     let now : Each Now vs = each_set Now views pass both (λ _. ((λ _. mine.0 a), (λ _. (refl, (theirs.1 b).1)), theirs.2)) (λ j y _ e apart. let third = h.6 j y e in (third.0, (λ p. absurd (apart ((third.1 p).0 ∙ sym (theirs.1 b).0))), third.2)) in (
       h.0,

@@ -1,7 +1,6 @@
 //! One thread sends the classes of numbers, another counts them.
 ghost use Rattle.std.specs.Prelude.{◌≡◌, [], take, IfOk, true, false};
-ghost use Rattle.ruled_mutex.specs.Passes.{view};
-ghost use Rattle.ruled_channel.specs.Passes.{IsPassOf};
+ghost use Rattle.ruled_channel.specs.Passes.{IsPassOf, view};
 ghost use Rattle.example_histogram.specs.Classes.{classes_of, AreCountsOf};
 ghost use Rattle.example_histogram.specs.Rule.{sender, counter};
 

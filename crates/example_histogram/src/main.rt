@@ -1,4 +1,4 @@
-//! A rule of one's own: all numbers in the channel are below 6, so the receiver counts untested.
+//! A rule of one's own: it is proved that one thread counts all that another sends.
 #![tactic(auto)]
 
 mod histogram;

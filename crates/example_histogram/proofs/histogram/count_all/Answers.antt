@@ -1,6 +1,6 @@
 use Rattle.std.proofs.Common.{ap, ◌∙◌}
 use Rattle.std.proofs.lemmas.List.{length-set}
-use Rattle.ruled_mutex.specs.Passes.{view}
+use Rattle.ruled_channel.specs.Passes.{view}
 use Rattle.example_histogram.proofs.Keeps.{receives, ends, closes}
 use Rattle.example_histogram.proofs.Counts.{counted_more}
 use Rattle.example_histogram.proofs.histogram.count_all.Goals as goal

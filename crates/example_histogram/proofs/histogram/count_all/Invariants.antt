@@ -1,6 +1,5 @@
 use Rattle.std.proofs.Common.{◌≡◌, false, length}
-use Rattle.ruled_mutex.specs.Passes.{view}
-use Rattle.ruled_channel.specs.Passes.{IsPassOf}
+use Rattle.ruled_channel.specs.Passes.{IsPassOf, view}
 use Rattle.example_histogram.specs.Classes.{AreCountsOf}
 use Rattle.example_histogram.specs.Rule.{counter}
 use Rattle.example_histogram.proofs.histogram.count_all.Given as goal

@@ -1,6 +1,5 @@
 use Rattle.std.proofs.Common.{◌≡◌, take}
-use Rattle.ruled_mutex.specs.Passes.{view}
-use Rattle.ruled_channel.specs.Passes.{IsPassOf}
+use Rattle.ruled_channel.specs.Passes.{IsPassOf, view}
 use Rattle.example_histogram.specs.Classes.{classes_of}
 use Rattle.example_histogram.specs.Rule.{sender}
 use Rattle.example_histogram.proofs.histogram.send_each.Given as goal
