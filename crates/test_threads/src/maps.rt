@@ -16,7 +16,7 @@ const MEETING_TURNS: u32 = 10_000_000;
 const LONELY_TURNS: u32 = 10_000;
 
 /// How often a worker looks whether the caller has gone on.
-const FEW_TURNS: u32 = 3_000;
+const FEW_TURNS: u32 = 1_000;
 
 #[test]
 fn squares_in_parallel(rt: HostRuntime) -> Result<(), Fail> {
@@ -486,24 +486,33 @@ impl Drop for GivenUp<'_> {
     }
 }
 
-/// At place 0 the worker looks whether a copy of the runtime is given up meanwhile, as by the
-/// caller when it has sent all places.
+/// At place 0 the worker looks how many copies of the runtime are given up, for some turns. At
+/// place 3 it waits for one more: the caller gives up its own when it has sent all places.
 #[derive(Drop)]
-struct WhileAtFirst<'a> {
+struct FromFirstToLast<'a> {
     count: &'a AtomicU64,
-    changed: AtomicBool,
+    at_first: AtomicU64,
+    late: AtomicBool,
 }
 
-impl Gate for WhileAtFirst<'_> {
+impl Gate for FromFirstToLast<'_> {
     fn before(&self, place: usize) {
-        let before = self.count.load(Ordering::SeqCst);
         let turns = if place == 0 { FEW_TURNS } else { 0 };
         for _ in 0..turns {
-            if self.count.load(Ordering::SeqCst) != before {
-                self.changed.store(true, Ordering::SeqCst);
+            let count = self.count.load(Ordering::SeqCst);
+            self.at_first.store(count, Ordering::SeqCst);
+            thread::yield_now();
+        }
+        if place != 3 {
+            return;
+        }
+        for _ in 0..MEETING_TURNS {
+            if self.count.load(Ordering::SeqCst) > self.at_first.load(Ordering::SeqCst) {
+                return;
             }
             thread::yield_now();
         }
+        self.late.store(true, Ordering::SeqCst);
     }
 
     fn after(&self, _place: usize) {}
@@ -512,9 +521,10 @@ impl Gate for WhileAtFirst<'_> {
 #[test]
 fn no_more_places_are_sent_than_the_cap(rt: HostRuntime) -> Result<(), Fail> {
     let count = AtomicU64::new(0);
-    let gate = WhileAtFirst {
+    let gate = FromFirstToLast {
         count: &count,
-        changed: AtomicBool::new(false),
+        at_first: AtomicU64::new(0),
+        late: AtomicBool::new(false),
     };
     let runtime = (rt, GivenUp { count: &count });
     let mut maker = StampMaker::new();
@@ -530,6 +540,6 @@ fn no_more_places_are_sent_than_the_cap(rt: HostRuntime) -> Result<(), Fail> {
         &mut maker,
     )?;
     assert_eq!(rt; answers.as_slice(), [25, 36, 49, 64].as_slice());
-    assert!(rt; !gate.changed.load(Ordering::SeqCst));
+    assert!(rt; !gate.late.load(Ordering::SeqCst));
     Ok(())
 }

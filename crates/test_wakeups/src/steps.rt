@@ -26,10 +26,10 @@ const MANY_ROUNDS: u64 = 2_000;
 
 /// How many turns the threads of a test give to others, at most, while they wait for one another.
 /// Behind that they wait no more: where others have the processors, a test isn't to take long.
-const PATIENCE: u64 = 500;
+const PATIENCE: u64 = 100;
 
 /// How often a thread looks before it gives the other one a turn.
-const LOOKS: u32 = 500;
+const LOOKS: u32 = 2_000;
 
 /// How many messages a batch has, which go in one round.
 const BATCH: usize = 100;
@@ -452,7 +452,7 @@ fn a_forced_send_leaves_a_full_channel_full(rt: HostRuntime) -> Result<(), Fail>
         &rt,
         || {
             meeting.wait(0);
-            let displaced = (1..=10 * ROUNDS).all(|m| s.force_send(m) == Ok(Ok(m.checked_sub(1))));
+            let displaced = (1..=30 * ROUNDS).all(|m| s.force_send(m) == Ok(Ok(m.checked_sub(1))));
             is_done.store(true, Ordering::SeqCst);
             displaced
         },
