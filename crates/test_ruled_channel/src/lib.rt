@@ -3,4 +3,8 @@
 
 pub mod plain;
 #[cfg(test)]
+mod receives;
+#[cfg(test)]
+mod rules;
+#[cfg(test)]
 mod tests;

@@ -1,7 +1,10 @@
 //! Threads on a channel under the rule that asks nothing.
 ghost use Rattle.ruled_channel.specs.Passes.{IsPassOf};
 
-use ruled_channel::{Join, RuledChannel, Split, TryRecvError, Unruled};
+use futures::executor::block_on;
+use ruled_channel::{Join, RecvError, RuledChannel, Split, TryRecvError, Unruled};
+use std::alloc::AllocGlobal;
+use std::random::RandomSource;
 use std::sync::Wait;
 use std::thread::{Threads, join, yield_now};
 
@@ -231,6 +234,49 @@ pub fn close_a_full_one<R: Threads + Wait + Sync>(
             close(rt, channel, other)
         },
     )
+}
+
+// Waits in a task for the next number or the end, and answers none if no executor can be made.
+fn next_in_a_task<R>(rt: &R, channel: &Channel, pass: Pass) -> Option<Result<u32, RecvError>>
+where
+    R: Wait + RandomSource + AllocGlobal,
+    requires { IsPassOf channel.now pass }
+{
+    match block_on(rt, channel.recv_as::<Unruled, Unruled, R>(rt, pass)) {
+        Ok((_pass, got)) => Some(got),
+        Err(_) => None,
+    }
+}
+
+/// One thread waits in a task while another sends 1 or closes: what the task got.
+pub fn receive_beside<R>(
+    rt: &R,
+    channel: &Channel,
+    mut pass: Pass,
+    sends: bool,
+) -> Option<Result<u32, RecvError>>
+where
+    R: Threads + Wait + Sync + RandomSource + AllocGlobal,
+    requires { IsPassOf channel.now pass }
+{
+    let other = channel.another::<Halves>(&mut pass);
+    let (got, _) = join(
+        rt,
+        move || -> Option<Result<u32, RecvError>>
+            requires { IsPassOf channel.now pass }
+        { next_in_a_task(rt, channel, pass) },
+        move || -> bool
+            requires { IsPassOf channel.now other }
+        {
+            give_turns();
+            if sends {
+                send_all(rt, channel, other, 1)
+            } else {
+                close(rt, channel, other)
+            }
+        },
+    );
+    got
 }
 
 /// Sends back each number that it receives.
