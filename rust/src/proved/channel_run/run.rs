@@ -4,7 +4,7 @@
 //! A run is a core, and beside it what the core doesn't know: which names are live, which operation
 //! borrows which handle, and by which ticket it waits. [`Run::step`] finds the method of its step.
 //! Those methods stand by topic in the modules below: `messages`, `questions`, `handles` and
-//! `operations`; `told` has what settling needs. Each goes like this:
+//! `operations`; `batches` has many messages in one step, and `told` what settling needs. Each goes like this:
 //!
 //! 1. It refuses what it must, and the first that applies is the answer: a name that isn't live,
 //!    one that is taken, a handle that is borrowed, a handle too many. A message comes back.
@@ -20,6 +20,7 @@
 
 use crate::shim::Vec;
 
+mod batches;
 mod handles;
 mod messages;
 mod operations;
