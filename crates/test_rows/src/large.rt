@@ -9,6 +9,9 @@ use std::test::Fail;
 
 const MANY: u64 = 100_000;
 
+/// How many operations of a run live at once: a run looks some of them up one by one.
+const NAMES: u64 = 10_000;
+
 fn listen(rt: &impl Abort, list: &mut WaitList<u64>, tickets: &mut Vec<Ticket>) {
     for number in 0..MANY {
         let Ok(ticket) = list.listen(number) else {
@@ -122,135 +125,30 @@ fn steps_of_a_run(rt: HostRuntime) -> Result<(), Fail> {
     Ok(())
 }
 
-/// Steps that make a name of each kind: every other one by a weak handle.
-fn makes(name: u64) -> [Step<u64>; 4] {
-    if name % 2 == 1 {
-        [
-            Step::CloneSender { of: 0, new: name },
-            Step::CloneReceiver { of: 0, new: name },
-            Step::DowngradeSender { of: 0, new: name },
-            Step::DowngradeReceiver { of: 0, new: name },
-        ]
-    } else {
-        [
-            Step::UpgradeSender { of: 1, new: name },
-            Step::UpgradeReceiver { of: 1, new: name },
-            Step::CloneWeakSender { of: 1, new: name },
-            Step::CloneWeakReceiver { of: 1, new: name },
-        ]
+fn start(rt: &impl Abort, run: &mut Run<u64>) {
+    for op in 0..NAMES {
+        assert!(rt; is_answered(run, Step::StartRecv { op, receiver: 0 }, Reply::Done));
+        assert!(rt; is_answered(run, Step::Poll(op), Reply::RecvPolled(Poll::Pending)));
     }
 }
 
-/// Steps that give the names up again.
-fn gives_up(name: u64) -> [Step<u64>; 4] {
-    [
-        Step::DropSender(name),
-        Step::DropReceiver(name),
-        Step::DropWeakSender(name),
-        Step::DropWeakReceiver(name),
-    ]
-}
-
-/// Makes the steps, each of which makes a name, or gives one up.
-fn name_all(rt: &impl Abort, run: &mut Run<u64>, steps: [Step<u64>; 4]) {
-    for step in steps {
-        let reply = run.step(step);
-        assert!(rt;
-            matches!(&reply, Reply::Done | Reply::Upgraded(true)),
-            "{step:?}"
-        );
+fn send(rt: &impl Abort, run: &mut Run<u64>) {
+    for m in 0..NAMES {
+        assert!(rt; is_answered(run, Step::TrySend(0, m), Reply::TrySent(Ok(()))));
     }
 }
 
-/// Whether there are so many senders, and as many receivers.
-fn counts(run: &mut Run<u64>, count: usize) -> bool {
-    let (senders, receivers) = (Side::Receiver(0), Side::Sender(0));
-    is_answered(run, Step::SenderCount(senders), Reply::Count(count))
-        && is_answered(run, Step::ReceiverCount(receivers), Reply::Count(count))
-}
-
-#[test]
-fn handles_of_a_run_by_name(rt: HostRuntime) -> Result<(), Fail> {
-    let mut run = Run::new(rt.alloc(), Kind::Unbounded)?;
-    for name in 1..=MANY {
-        name_all(&rt, &mut run, makes(name));
-    }
-    assert!(rt; counts(&mut run, 100_001));
-    for name in 1..=10 {
-        name_all(&rt, &mut run, gives_up(name));
-    }
-    assert!(rt; counts(&mut run, 99_991));
-    Ok(())
-}
-
-/// What waits in a run: sends and closed operations by turns, or receives and streams.
-#[derive(Clone, Copy, Debug)]
-enum Waiting {
-    OfSenders,
-    OfReceivers,
-}
-
-impl Waiting {
-    /// The step behind which one can be polled, its poll, and that this is pending.
-    fn start(self, name: u64) -> (Step<u64>, Step<u64>, Reply<u64>) {
-        let (op, of, msg) = (name, 0, name);
-        match (self, name % 2) {
-            (Waiting::OfSenders, 0) => (
-                Step::StartSend {
-                    op,
-                    sender: of,
-                    msg,
-                },
-                Step::Poll(op),
-                Reply::SendPolled(Poll::Pending),
-            ),
-            (Waiting::OfSenders, _) => (
-                Step::StartClosed { op, sender: of },
-                Step::Poll(op),
-                Reply::ClosedPolled(Poll::Pending),
-            ),
-            (Waiting::OfReceivers, 0) => (
-                Step::StartRecv { op, receiver: of },
-                Step::Poll(op),
-                Reply::RecvPolled(Poll::Pending),
-            ),
-            (Waiting::OfReceivers, _) => (
-                Step::CloneReceiver { of, new: name },
-                Step::PollNext(name),
-                Reply::NextPolled(Poll::Pending),
-            ),
-        }
-    }
-}
-
-/// A hundred thousand wait, and settling polls each of them once.
-fn wait_and_settle(
-    rt: &impl Abort,
-    run: &mut Run<u64>,
-    waiting: Waiting,
-    end: Step<u64>,
-) -> Result<(), Fail> {
-    for name in 1..=MANY {
-        let (start, poll, pending) = waiting.start(name);
-        assert!(rt; is_answered(run, start, Reply::Done), "{start:?}");
-        assert!(rt; is_answered(run, poll, pending), "{poll:?}");
-    }
-    run.step(end);
+fn settle(rt: &impl Abort, run: &mut Run<u64>) -> Result<(), Fail> {
     let settled = run.settle()?;
-    assert!(rt; settled.polls == u128::from(MANY), "{waiting:?}");
-    assert!(rt; settled.finished.len() as u64 == MANY, "{waiting:?}");
+    assert!(rt; settled.polls == 10_000);
+    assert!(rt; settled.finished.len() as u64 == NAMES);
     Ok(())
 }
 
 #[test]
-fn operations_of_senders_in_a_run(rt: HostRuntime) -> Result<(), Fail> {
-    let mut run = Run::new(rt.alloc(), Kind::Bounded(1))?;
-    assert!(rt; is_answered(&mut run, Step::TrySend(0, 0), Reply::TrySent(Ok(()))));
-    wait_and_settle(&rt, &mut run, Waiting::OfSenders, Step::DropReceiver(0))
-}
-
-#[test]
-fn operations_of_receivers_in_a_run(rt: HostRuntime) -> Result<(), Fail> {
+fn operations_of_a_run(rt: HostRuntime) -> Result<(), Fail> {
     let mut run = Run::new(rt.alloc(), Kind::Unbounded)?;
-    wait_and_settle(&rt, &mut run, Waiting::OfReceivers, Step::DropSender(0))
+    start(&rt, &mut run);
+    send(&rt, &mut run);
+    settle(&rt, &mut run)
 }

@@ -15,9 +15,6 @@ const MEETING_TURNS: u32 = 10_000_000;
 /// How often a worker looks for one that can't come.
 const LONELY_TURNS: u32 = 10_000;
 
-/// How often a worker looks whether the caller has gone on.
-const FEW_TURNS: u32 = 1_000;
-
 #[test]
 fn squares_in_parallel(rt: HostRuntime) -> Result<(), Fail> {
     let inputs = [0u64, 1, 2, 3, 4, 5, 6, 7, 8, 9];
@@ -91,60 +88,6 @@ fn seventy_thousand_messages(rt: HostRuntime) -> Result<(), Fail> {
     for (number, answer) in inputs.iter().zip(answers.iter()) {
         assert!(rt; *answer == number.wrapping_mul(*number), "{number}");
     }
-    Ok(())
-}
-
-#[test]
-fn two_hundred_thousand_inputs(rt: HostRuntime) -> Result<(), Fail> {
-    assert!(rt; maps_numbers(&rt, 200_003, 2, 64, 100_000)?);
-    Ok(())
-}
-
-/// Waits until so many workers are there, or it has looked that often.
-#[derive(Drop)]
-struct All {
-    there: AtomicU64,
-    workers: u64,
-    late: AtomicBool,
-}
-
-impl Gate for All {
-    fn before(&self, _place: usize) {
-        self.there.fetch_add(1, Ordering::SeqCst);
-        for _ in 0..MEETING_TURNS {
-            if self.there.load(Ordering::SeqCst) >= self.workers {
-                return;
-            }
-            thread::yield_now();
-        }
-        self.late.store(true, Ordering::SeqCst);
-    }
-
-    fn after(&self, _place: usize) {}
-}
-
-#[test]
-fn a_hundred_workers_run_at_once(rt: HostRuntime) -> Result<(), Fail> {
-    let a = rt.alloc();
-    let gate = All {
-        there: AtomicU64::new(0),
-        workers: 100,
-        late: AtomicBool::new(false),
-    };
-    let mut maker = StampMaker::new();
-    let inputs = (0..100u64).collect::<Vec<_>>(a)?;
-    let answers = map_all(
-        &rt,
-        a,
-        &Square,
-        &gate,
-        inputs.as_slice(),
-        100,
-        1,
-        &mut maker,
-    )?;
-    assert_eq!(rt; answers.last(), Some(&9801));
-    assert!(rt; !gate.late.load(Ordering::SeqCst));
     Ok(())
 }
 
@@ -465,81 +408,5 @@ fn refused_copies_of_a_runtime_are_named(rt: HostRuntime) -> Result<(), Fail> {
         assert_eq!(rt; made, most);
         assert!(rt; matches!(&answers, Err(MapError::OutOfMemory)));
     }
-    Ok(())
-}
-
-/// Counts how many copies of a runtime were given up.
-struct GivenUp<'a> {
-    count: &'a AtomicU64,
-}
-
-impl Clone for GivenUp<'_> {
-    fn clone(&self) -> Result<Self, AllocError> {
-        Ok(GivenUp { count: self.count })
-    }
-}
-
-impl Drop for GivenUp<'_> {
-    fn drop(self) {
-        let GivenUp { count } = self;
-        count.fetch_add(1, Ordering::SeqCst);
-    }
-}
-
-/// At place 0 the worker looks how many copies of the runtime are given up, for some turns. At
-/// place 3 it waits for one more: the caller gives up its own when it has sent all places.
-#[derive(Drop)]
-struct FromFirstToLast<'a> {
-    count: &'a AtomicU64,
-    at_first: AtomicU64,
-    late: AtomicBool,
-}
-
-impl Gate for FromFirstToLast<'_> {
-    fn before(&self, place: usize) {
-        let turns = if place == 0 { FEW_TURNS } else { 0 };
-        for _ in 0..turns {
-            let count = self.count.load(Ordering::SeqCst);
-            self.at_first.store(count, Ordering::SeqCst);
-            thread::yield_now();
-        }
-        if place != 3 {
-            return;
-        }
-        for _ in 0..MEETING_TURNS {
-            if self.count.load(Ordering::SeqCst) > self.at_first.load(Ordering::SeqCst) {
-                return;
-            }
-            thread::yield_now();
-        }
-        self.late.store(true, Ordering::SeqCst);
-    }
-
-    fn after(&self, _place: usize) {}
-}
-
-#[test]
-fn no_more_places_are_sent_than_the_cap(rt: HostRuntime) -> Result<(), Fail> {
-    let count = AtomicU64::new(0);
-    let gate = FromFirstToLast {
-        count: &count,
-        at_first: AtomicU64::new(0),
-        late: AtomicBool::new(false),
-    };
-    let runtime = (rt, GivenUp { count: &count });
-    let mut maker = StampMaker::new();
-    let inputs = [5, 6, 7, 8];
-    let answers = map_all(
-        &runtime,
-        rt.alloc(),
-        &Square,
-        &gate,
-        &inputs,
-        1,
-        1,
-        &mut maker,
-    )?;
-    assert_eq!(rt; answers.as_slice(), [25, 36, 49, 64].as_slice());
-    assert!(rt; !gate.late.load(Ordering::SeqCst));
     Ok(())
 }

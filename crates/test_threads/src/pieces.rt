@@ -57,22 +57,6 @@ fn gather_by_hand(rt: HostRuntime) -> Result<(), Fail> {
 }
 
 #[test]
-fn a_hundred_thousand_pieces(rt: HostRuntime) -> Result<(), Fail> {
-    let a = rt.alloc();
-    let inputs = (0..100_000u64).collect::<Vec<_>>(a)?;
-    let mut pieces = Vec::new(a);
-    for (place, input) in inputs.iter().enumerate().rev() {
-        pieces.push(Piece::make(&Square, place, input))?;
-    }
-    let answers = gather(a, inputs.as_slice(), pieces)?;
-    assert_eq!(rt; answers.len(), inputs.len());
-    for (input, answer) in inputs.iter().zip(answers.iter()) {
-        assert_eq!(rt; *answer, input.wrapping_mul(*input));
-    }
-    Ok(())
-}
-
-#[test]
 fn the_first_fault_is_named(rt: HostRuntime) -> Result<(), Fail> {
     let a = rt.alloc();
     let inputs = [5u64, 6, 6];

@@ -372,18 +372,3 @@ fn recorded_calls(rt: HostRuntime) -> Result<(), Fail> {
     assert_eq!(rt; book.history().len() as u64, MANY);
     Ok(())
 }
-
-#[test]
-fn recorded_clerks(rt: HostRuntime) -> Result<(), Fail> {
-    let mut maker = StampMaker::new();
-    let recorder = Recorder::unbounded(rt.alloc(), &mut maker)?;
-    let mut clerks = clerks_of(&rt, rt.alloc(), &recorder, 100_000)?;
-    for clerk in &mut clerks {
-        let sent = answer(&rt, &recorder, clerk, Call::TrySend(7));
-        assert_eq!(rt; sent, Some(Outcome::TrySent(Ok(()))));
-    }
-    let book = recorder.finish(clerks)?;
-    assert_eq!(rt; (book.clerks(), book.history().len()), (100_000, 100_000));
-    assert_eq!(rt; book.places(99_999), Some([99_999].as_slice()));
-    Ok(())
-}
