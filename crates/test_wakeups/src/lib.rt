@@ -12,8 +12,6 @@ mod many;
 #[cfg(test)]
 mod scene;
 #[cfg(test)]
-mod steps;
-#[cfg(test)]
 mod telling;
 #[cfg(test)]
 mod waiting;
