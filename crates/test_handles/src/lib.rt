@@ -18,8 +18,6 @@ mod operations;
 #[cfg(test)]
 mod probe;
 #[cfg(test)]
-mod refused;
-#[cfg(test)]
 mod rows;
 #[cfg(test)]
 mod texts;
