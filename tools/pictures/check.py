@@ -119,7 +119,9 @@ def wrong_with_keys(root):
     wrong = [] if root.get("viewBox") == size else ["its viewBox isn't its size"]
     if root.find(SVG + "title") is None or root.find(SVG + "desc") is None:
         wrong.append("it has no title or no description")
-    if explained != drawn & KEYS or named != names:
+    # who closes a channel and is told by it has no arrow to its own lane, but the key
+    told = {"v"} & explained if "t" in drawn else set()
+    if explained != drawn & KEYS | told or named != names:
         wrong.append(f"keys {explained}, {named} beside {drawn}, {names}")
     return wrong
 
