@@ -1,5 +1,6 @@
 //! Many messages in one step.
-ghost use Rattle.std.specs.Prelude.{◌≡◌, ◌⊎◌, ◌++◌, ◌<◌, false, drop, length, min, slice_get, take, IfErr, IfOk};
+ghost use Rattle.std.specs.Prelude.{◌≡◌, ◌⊎◌, ◌++◌, ◌+◌, ◌<◌, true, false, None, drop, length, min, slice_get, take, IfErr, IfOk};
+ghost use Rattle.std.specs.Vec.{vec_capacity, vec_len};
 ghost use Rattle.identity.specs.Keys.{is_among};
 ghost use Rattle.channel_model.specs.declared.step.Kind.{Kind};
 ghost use Rattle.channel_model.specs.declared.step.Refusal.{Refusal};
@@ -49,7 +50,9 @@ impl<T: Drop> Run<T> {
         ensures in_turn { (kind : Kind) (past : Past T) → StandsFor kind past self.old
             → ReceivesInTurn kind past receiver (take (moved_count result) self.old.messages)
             self.new }
-        ensures refused { IfErr result (λ refusal. (refusal ≡ Refusal.OutOfMemory)
+        ensures known { IfOk result (λ _. is_among receiver self.old.receivers ≡ true) }
+        ensures refused { IfErr result (λ refusal. ((refusal ≡ Refusal.OutOfMemory)
+            × (vec_capacity into.old < vec_len into.old + min limit (length self.old.messages)))
             ⊎ ((refusal ≡ Refusal.Unknown) × (is_among receiver self.old.receivers ≡ false))) }
     {
         if !self.has_receiver(receiver) {
@@ -93,7 +96,9 @@ impl<T: Drop> Run<T> {
             → SendsNoMore from.new.items self.new)) }
         ensures in_turn { (kind : Kind) (past : Past T) → StandsFor kind past self.old
             → SendsInTurn kind past sender (take (moved_count result) from.old.items) self.new }
-        ensures refused { IfErr result (λ refusal. (refusal ≡ Refusal.OutOfMemory)
+        ensures known { IfOk result (λ _. is_among sender self.old.senders ≡ true) }
+        ensures refused { IfErr result (λ refusal. ((refusal ≡ Refusal.OutOfMemory)
+            × (self.old.closed ≡ false) × (self.old.capacity ≡ None))
             ⊎ ((refusal ≡ Refusal.Unknown) × (is_among sender self.old.senders ≡ false))) }
     {
         if !self.senders.has(sender) {
