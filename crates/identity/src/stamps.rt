@@ -58,7 +58,7 @@ impl Model for StampMaker {
 }
 
 impl StampMaker {
-    /// A maker that begins at 0: the first thing that a program makes, and the only one of its kind.
+    /// A maker that begins at 0: what a program makes first, and once.
     ///
     /// # Examples
     ///
