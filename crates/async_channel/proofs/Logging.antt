@@ -7,7 +7,7 @@ use Rattle.futures.specs.declared.task.Poll.{Poll}
 use Rattle.futures.specs.declared.task.Poll.TheVariants.{Ready, Pending}
 use Rattle.channel_model.specs.Tables.{OnReady}
 use Rattle.channel_core.specs.Channel.{Channel, Change}
-use Rattle.async_channel.specs.declared.mark.Mark.{Mark}
+use Rattle.channel_wakers.specs.declared.mark.Mark.{Mark}
 use Rattle.async_channel.specs.Held.{Held, then}
 
 -- the log from before, and then what is rung

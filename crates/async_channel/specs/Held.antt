@@ -8,8 +8,7 @@ use Rattle.channel_model.specs.Tables.{send_poll, recv_poll, next_poll, closed_p
 use Rattle.channel_core.specs.Channel.{Channel, Change, is_channel_full, oldest}
 use Rattle.channel_core.specs.Tickets.{handed_on, left, rung_by_handing_on}
 use Rattle.channel_core.specs.Batches.{received_many, sent_many}
-use Rattle.async_channel.specs.declared.mark.Mark.{Mark}
-use Rattle.async_channel.specs.declared.mark.Mark.TheVariants.{Task, Thread, Nobody}
+use Rattle.channel_wakers.specs.declared.mark.Mark.{Mark}
 
 -- The channel, the marks that were rung since the lock was taken, in order, and the name of the
 -- source that tasks wait for.
@@ -17,17 +16,6 @@ pub record Held (T : Type 0) : Type 0 where
   pub channel : Channel T Mark
   pub rung : List Mark
   pub source : ℕ
-
--- The two kinds of marks by which somebody can be woken.
-abbrev pub is_of_task : Mark → Bool
-is_of_task (Task slot) = true
-is_of_task (Thread cell) = false
-is_of_task Nobody = false
-
-abbrev pub is_of_thread : Mark → Bool
-is_of_thread (Task slot) = false
-is_of_thread (Thread cell) = true
-is_of_thread Nobody = false
 
 -- whether a poll can't go on
 abbrev pub is_pending : {A : Type 0} → Poll A → Bool

@@ -11,8 +11,8 @@ ghost use Rattle.async_channel.specs.Operations.{IsLeftOf, MayGiveMany, sent_cou
 
 use crate::handles::{Receiver, Sender};
 use crate::many::ROUND_LIMIT;
-use crate::mark::Marker;
 use channel_core::{OutOfMemory, SendError, Ticket};
+use channel_wakers::Marker;
 use futures::Future;
 use futures::task::{Context, Poll};
 use std::alloc::Global;

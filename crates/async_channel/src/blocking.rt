@@ -7,9 +7,9 @@ ghost use Rattle.std.specs.Prelude.{◌≡◌, ◌+◌, ◌<◌, ◌≤◌, ℕ,
 ghost use Rattle.channel_core.specs.Batches.{moved_count};
 
 use crate::handles::{Receiver, Sender};
-use crate::mark::Sleeper;
 use crate::shared::LOOKS;
 use channel_core::{NoMemory, OutOfMemory, RecvError, SendError, TryRecvError, TrySendError};
+use channel_wakers::Sleeper;
 use futures::task::Poll;
 use std::alloc::Global;
 use std::collections::VecDeque;

@@ -5,7 +5,6 @@ ghost use Rattle.channel_model.specs.Errors.{message_of};
 ghost use Rattle.identity.specs.Stamps.{next_stamp};
 ghost use Rattle.async_channel.specs.Operations.{AreEndsOf, handle_of};
 
-use crate::mark::{Mark, Marker};
 use crate::shared::{Link, Shared};
 use crate::tag::Tag;
 use crate::weak::{WeakReceiver, WeakSender};
@@ -13,6 +12,7 @@ use channel_core::{
     CloneError, Core, MakeError, NoMemory, OutOfMemory, SendError, Ticket, TryRecvError,
     TrySendError,
 };
+use channel_wakers::{Mark, Marker};
 use identity::StampMaker;
 use std::alloc::Global;
 use std::fmt;

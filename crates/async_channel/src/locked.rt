@@ -14,12 +14,11 @@ ghost use Rattle.channel_core.specs.Tickets.{left};
 ghost use Rattle.async_channel.specs.Held.{then, send_cancelled, recv_cancelled};
 
 use crate::inspect::Waiters;
-use crate::mark::Mark;
-use crate::ringer::Ringer;
 use crate::shared::Shared;
 use channel_core::{
     Core, Group, NoMemory, OutOfMemory, SendError, Ticket, TryRecvError, TrySendError, Upgrade,
 };
+use channel_wakers::{Mark, Ringer};
 use std::alloc::Global;
 use std::collections::VecDeque;
 use std::marker::Model;

@@ -8,8 +8,8 @@ ghost use Rattle.channel_model.specs.declared.errors.RecvError.{RecvError};
 ghost use Rattle.channel_model.specs.declared.errors.OutOfMemory.{OutOfMemory};
 
 use crate::handles::{Receiver, Sender};
-use crate::mark::Marker;
 use channel_core::{OutOfMemory, RecvError, SendError, Ticket};
+use channel_wakers::Marker;
 use futures::Future;
 use futures::task::{Context, Poll};
 use std::marker::Model;

@@ -15,8 +15,8 @@ ghost use Rattle.channel_core.specs.Tickets.{left};
 ghost use Rattle.async_channel.specs.Held.{then, is_pending, WithMark, counted_poll, counted_send, polled_count, polled_receives, polled_sends, send_reply, recv_reply, next_reply, closed_reply};
 
 use crate::locked::Locked;
-use crate::mark::{Mark, Waiter};
 use channel_core::{OutOfMemory, RecvError, SendError, Ticket};
+use channel_wakers::{Mark, Waiter};
 use futures::task::Poll;
 use std::alloc::Global;
 use std::collections::VecDeque;

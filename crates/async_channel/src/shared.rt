@@ -3,8 +3,8 @@ ghost use Rattle.std.specs.Prelude.{◌≡◌, [], IfOk};
 ghost use Rattle.std.specs.Arc.{arc_value};
 
 use crate::locked::Locked;
-use crate::mark::Mark;
 use channel_core::{Core, OutOfMemory};
+use channel_wakers::Mark;
 use futures::task::Source;
 use std::alloc::Global;
 use std::sync::{Arc, Mutex, MutexGuard, Wait};

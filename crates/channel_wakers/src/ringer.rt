@@ -1,19 +1,22 @@
 //! The bell of a locked channel.
-//!
-//! A step under the lock rings it with the marks of those whom it tells. The first mark is kept,
-//! without an allocation, until the lock is free, so that who is woken doesn't run into it;
-//! further marks are woken under the lock.
 ghost use Rattle.std.specs.Prelude.{◌≡◌, ◌++◌, [], drop, take};
 
 use crate::mark::{Mark, Woken};
-use channel_core::{Bell, Core};
+use channel_core::Bell;
 use std::marker::Model;
-use std::sync::{Mutex, Wait};
+use std::sync::Wait;
 
 /// A bell that wakes each mark that it is rung with.
 ///
 /// It can't be dropped: who takes it apart has to wake the first one.
-pub(crate) struct Ringer<'a, R: Wait> {
+///
+/// ```
+/// let lock = Mutex::new(());
+/// let mut ringer = Ringer::new(&rt);
+/// ringer.ring(Mark::Nobody);
+/// let _woken = ringer.wake_after(&lock);
+/// ```
+pub struct Ringer<'a, R: Wait> {
     rt: &'a R,
     // What it was rung with first, which isn't woken yet.
     first: Option<Mark>,
@@ -24,8 +27,8 @@ pub(crate) struct Ringer<'a, R: Wait> {
 /// The marks that it was rung with, in order.
 impl<'a, R: Wait> Model for Ringer<'a, R> {
     ghost use Rattle.std.specs.Prelude.{◌≡◌, List, [], None};
-    ghost use Rattle.async_channel.specs.declared.mark.Mark.{Mark};
-    ghost use Rattle.async_channel.specs.Rung.{rung_with};
+    ghost use Rattle.channel_wakers.specs.declared.mark.Mark.{Mark};
+    ghost use Rattle.channel_wakers.specs.Rung.{rung_with};
 
     ghost Value = { List Mark };
 
@@ -35,8 +38,15 @@ impl<'a, R: Wait> Model for Ringer<'a, R> {
 }
 
 impl<'a, R: Wait> Ringer<'a, R> {
+    /// One that wasn't rung yet.
+    ///
+    /// ```
+    /// let lock = Mutex::new(());
+    /// let ringer = Ringer::new(&rt);
+    /// let _woken = ringer.wake_after(&lock);
+    /// ```
     #[inline(always)]
-    pub(crate) fn new(rt: &'a R) -> Ringer<'a, R>
+    pub fn new(rt: &'a R) -> Ringer<'a, R>
         ensures { result ≡ [] }
     {
         Ringer {
@@ -47,15 +57,29 @@ impl<'a, R: Wait> Ringer<'a, R> {
     }
 
     /// By what it wakes and sleeps.
+    ///
+    /// ```
+    /// let lock = Mutex::new(());
+    /// let ringer = Ringer::new(&rt);
+    /// Sleeper::new().sleep(ringer.runtime());
+    /// let _woken = ringer.wake_after(&lock);
+    /// ```
     #[inline(always)]
-    pub(crate) fn runtime(&self) -> &'a R {
+    pub fn runtime(&self) -> &'a R {
         self.rt
     }
 
-    /// Wakes the first one. The lock is free: only its guard gives it back. The answer is who was
-    /// woken in all, the first one last.
+    /// Wakes the first one, once the lock was given back. The answer is who was woken in all, the
+    /// first one last.
+    ///
+    /// ```
+    /// let lock = Mutex::new(());
+    /// let mut ringer = Ringer::new(&rt);
+    /// ringer.ring(Mark::Nobody);
+    /// let _woken = ringer.wake_after(&lock);
+    /// ```
     #[inline(always)]
-    pub(crate) fn wake_after<T>(self, _lock: &Mutex<Core<T, Mark>>) -> Woken
+    pub fn wake_after<L>(self, _lock: &L) -> Woken
         ensures { result ≡ drop 1 self.entry ++ take 1 self.entry }
     {
         let Self {

@@ -1,27 +1,7 @@
-//! Who waits at a channel, and how it is woken.
-//!
-//! Who waits leaves a mark in a waiting list, and whoever tells it wakes the mark. The mark of a
-//! task can't be its waker: a waker of `futures` wakes its task wherever it is dropped, and what
-//! lies in an entry is dropped at each poll that waits again. In a trial of that form two receives
-//! joined in one task made 2,406 polls in 100 ms, in place of 4.
-//!
-//! So the waker lies in a slot, which the operation and its entry share:
-//!
-//! 1. A poll that can't go on makes the slot, if there is none yet, and registers its task's waker
-//!    there. Then it leaves its other end of the slot in the list, as its mark.
-//! 2. To wake the mark is to empty the slot: the waker is dropped.
-//! 3. A mark that is replaced, or leaves the list, lets go of its end of the slot alone, and wakes
-//!    nobody. A poll that is ready leaves no mark, and asks for no slot.
-//!
-//! The locks are taken in one order: the channel's, and under it the slot's. A waker is registered
-//! before its mark lies in a list, so that whoever tells the entry finds it.
-//!
-//! A blocked thread has no waker. It sleeps at a cell of its own, its mark is that cell, and so
-//! just the one that was told wakes. A slot, like a cell, takes memory only where its owner
-//! begins to wait.
+//! Marks, by which those who wait are woken, and what makes them.
 ghost use Rattle.std.specs.Prelude.{◌≡◌, ◌++◌, ◌∷◌, [], ℕ, ⊤, true, IfOk};
 ghost use Rattle.futures.specs.Task.{Covers, Keeps};
-ghost use Rattle.async_channel.specs.Held.{is_of_task, is_of_thread};
+ghost use Rattle.channel_wakers.specs.Marks.{is_of_task, is_of_thread};
 
 use channel_core::OutOfMemory;
 use futures::task::{Context, Poll, Source, Waker};
@@ -36,14 +16,34 @@ use std::thread::Parker;
 /// The operation and its entry in a waiting list share it. A waker wakes where it is dropped, so
 /// that it can't lie in the entry itself: a mark that is replaced, or was not needed, is to wake
 /// nobody.
+///
+/// ```
+/// fn is_slot(mark: &Mark) -> bool {
+///     match mark {
+///         Mark::Task(slot) => {
+///             let _slot: &Arc<Slot> = slot;
+///             true
+///         }
+///         _ => false,
+///     }
+/// }
+///
+/// assert!(rt; !is_slot(&Mark::Nobody));
+/// ```
 #[derive(Drop)]
-pub(crate) struct Slot {
+pub struct Slot {
     waker: Mutex<Option<Waker>>,
 }
 
 /// What a waiting operation is told by.
+///
+/// ```
+/// let mut sleeper = Sleeper::new();
+/// let mark = sleeper.mark(&rt, rt.alloc(), &Source::new(), &mut ())?;
+/// assert!(rt; matches!(mark, Mark::Thread(_)));
+/// ```
 #[derive(Drop)]
-pub(crate) enum Mark {
+pub enum Mark {
     /// The task whose waker lies in the slot.
     Task(Arc<Slot>),
     /// The thread that is parked at the cell, and no other.
@@ -54,16 +54,21 @@ pub(crate) enum Mark {
 
 /// The marks that were woken, in order. It grows by [`Mark::wake`] alone, so that a contract that
 /// names it refuses whoever forgets to wake. Only clauses can read it: its snapshots have no bytes.
+///
+/// ```
+/// let mut woken = Woken::nobody();
+/// Mark::Nobody.wake(&rt, &mut woken);
+/// ```
 #[derive(Drop)]
-pub(crate) struct Woken {
+pub struct Woken {
     // What was woken before the last one, and the last one.
     last: Option<(Snapshot<Woken>, Snapshot<Mark>)>,
 }
 
 impl Model for Woken {
     ghost use Rattle.std.specs.Prelude.{List, length};
-    ghost use Rattle.async_channel.specs.declared.mark.Mark.{Mark};
-    ghost use Rattle.async_channel.specs.Rung.{woken_in};
+    ghost use Rattle.channel_wakers.specs.declared.mark.Mark.{Mark};
+    ghost use Rattle.channel_wakers.specs.Rung.{woken_in};
 
     ghost Value = { List Mark };
 
@@ -73,7 +78,13 @@ impl Model for Woken {
 }
 
 impl Woken {
-    pub(crate) fn nobody() -> Woken
+    /// Before anybody is woken.
+    ///
+    /// ```
+    /// let woken = Woken::nobody();
+    /// drop(woken);
+    /// ```
+    pub fn nobody() -> Woken
         ensures { result ≡ [] }
     {
         Woken { last: None }
@@ -82,7 +93,14 @@ impl Woken {
 
 impl Mark {
     /// Drops the waker, which wakes its task, or wakes the thread.
-    pub(crate) fn wake<R: Wait>(self, rt: &R, woken: &mut Woken)
+    ///
+    /// ```
+    /// let mut sleeper = Sleeper::new();
+    /// let mark = sleeper.mark(&rt, rt.alloc(), &Source::new(), &mut ())?;
+    /// mark.wake(&rt, &mut Woken::nobody());
+    /// sleeper.sleep(&rt);
+    /// ```
+    pub fn wake<R: Wait>(self, rt: &R, woken: &mut Woken)
         ensures { woken.new ≡ woken.old ++ self ∷ [] }
     {
         *woken = Woken {
@@ -97,8 +115,16 @@ impl Mark {
 }
 
 /// Who waits: the task of an operation, whose context is `C`, or a blocked thread, which has none.
-pub(crate) trait Waiter<C> {
-    ghost use Rattle.async_channel.specs.declared.mark.Mark.{Mark};
+///
+/// ```
+/// fn mark_of<R: Wait, C, W: Waiter<C>>(rt: &R, alloc: Global, waiter: &mut W, cx: &mut C) -> bool {
+///     waiter.mark(rt, alloc, &Source::new(), cx).is_ok()
+/// }
+///
+/// assert!(rt; mark_of(&rt, rt.alloc(), &mut Sleeper::new(), &mut ()));
+/// ```
+pub trait Waiter<C> {
+    ghost use Rattle.channel_wakers.specs.declared.mark.Mark.{Mark};
 
     /// What holds of its context and of the mark by which it waits for a source.
     ghost waits_by: { C → ℕ → Mark → Type 0 };
@@ -106,7 +132,7 @@ pub(crate) trait Waiter<C> {
     /// How its context may change where a mark is made.
     ghost keeps: { C → C → Type 0 };
 
-    /// The mark of one poll that can't go on. It is refused where no waker could be made, or no
+    /// The mark of one poll that can't go on. It is refused if no waker could be made, or no
     /// memory was left for it.
     fn mark<R: Wait>(
         &mut self,
@@ -123,13 +149,24 @@ pub(crate) trait Waiter<C> {
 }
 
 /// An operation's own end of its mark. It takes memory at the first poll that isn't ready.
+///
+/// ```
+/// let marker = Marker::new();
+/// drop(marker);
+/// ```
 #[derive(Drop)]
-pub(crate) struct Marker {
+pub struct Marker {
     slot: Option<Arc<Slot>>,
 }
 
 impl Marker {
-    pub(crate) fn new() -> Marker {
+    /// One that has no slot yet.
+    ///
+    /// ```
+    /// let marker = Marker::new();
+    /// drop(marker);
+    /// ```
+    pub fn new() -> Marker {
         Marker { slot: None }
     }
 
@@ -179,19 +216,37 @@ impl Waiter<Context<'_>> for Marker {
 }
 
 /// A blocked call's own end of its mark: the cell where its thread is parked. It takes memory
-/// where the call begins to wait.
+/// when the call begins to wait.
+///
+/// ```
+/// let mut sleeper = Sleeper::new();
+/// let mark = sleeper.mark(&rt, rt.alloc(), &Source::new(), &mut ())?;
+/// mark.wake(&rt, &mut Woken::nobody());
+/// sleeper.sleep(&rt);
+/// ```
 #[derive(Drop)]
-pub(crate) struct Sleeper {
+pub struct Sleeper {
     cell: Option<Arc<Parker>>,
 }
 
 impl Sleeper {
-    pub(crate) fn new() -> Sleeper {
+    /// One that has no cell yet.
+    ///
+    /// ```
+    /// let sleeper = Sleeper::new();
+    /// drop(sleeper);
+    /// ```
+    pub fn new() -> Sleeper {
         Sleeper { cell: None }
     }
 
-    /// Sleeps until its mark is rung.
-    pub(crate) fn sleep<R: Wait>(&self, rt: &R) {
+    /// Sleeps until its mark is woken, and not at all if it made no mark yet.
+    ///
+    /// ```
+    /// let sleeper = Sleeper::new();
+    /// sleeper.sleep(&rt);
+    /// ```
+    pub fn sleep<R: Wait>(&self, rt: &R) {
         if let Some(cell) = &self.cell {
             cell.park(rt);
         }

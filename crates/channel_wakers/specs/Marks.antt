@@ -1,0 +1,14 @@
+-- The two kinds of marks by which somebody can be woken.
+use Rattle.std.specs.Prelude.{Bool, true, false}
+use Rattle.channel_wakers.specs.declared.mark.Mark.{Mark}
+use Rattle.channel_wakers.specs.declared.mark.Mark.TheVariants.{Task, Thread, Nobody}
+
+abbrev pub is_of_task : Mark → Bool
+is_of_task (Task slot) = true
+is_of_task (Thread cell) = false
+is_of_task Nobody = false
+
+abbrev pub is_of_thread : Mark → Bool
+is_of_thread (Task slot) = false
+is_of_thread (Thread cell) = true
+is_of_thread Nobody = false
