@@ -64,7 +64,7 @@ class Crate:
                 owner = owner_of(lines[number - 1 :])
                 if owner.trait:
                     self.impls.add(f'{owner.trait} for {owner.name}')
-            if line.startswith('}') or line.endswith('{}'):
+            if line.startswith('}') or (line.startswith('impl') and line.endswith('{}')):
                 owner = None
             law = LAW.match(line)
             if owner and law:
