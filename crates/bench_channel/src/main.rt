@@ -24,6 +24,7 @@ mod memory;
 mod one_thread;
 mod peers;
 mod report;
+mod ruled;
 mod tasks;
 mod threads;
 mod waiters;

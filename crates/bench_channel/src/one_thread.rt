@@ -3,6 +3,7 @@ ghost use Rattle.std.specs.Prelude.{◌<◌};
 
 use crate::peers::{Crossbeam, Futures, Here, Peer, Tokio, UnboundedFutures, UnboundedTokio};
 use crate::report::{Form, channel, row};
+use crate::ruled::{Kit, Ruled};
 use anyhow::Result;
 use async_channel::Queue;
 use std::alloc::AllocGlobal;
@@ -46,7 +47,21 @@ where
     let (sender, receiver) = futures::channel::mpsc::channel(rt.alloc(), capacity - 1)?;
     pair(rt, form, (work, "futures"), Futures { sender, receiver })?;
     let (sender, receiver) = tokio::sync::mpsc::channel(rt.alloc(), capacity)?;
-    pair(rt, form, (work, "tokio"), Tokio { sender, receiver })
+    pair(rt, form, (work, "tokio"), Tokio { sender, receiver })?;
+    ruled_pairs(rt, form, work, capacity)
+}
+
+fn ruled_pairs<R>(rt: &R, form: Form<'_>, work: &str, capacity: usize) -> Result<()>
+where
+    R: Wait + AllocGlobal + Clock + Print,
+    requires { 0 < capacity }
+{
+    let (channel, pass) = ruled_channel::bounded_with(rt.alloc(), capacity)?;
+    let port = Ruled::new(rt, &channel, pass);
+    pair(rt, form, (work, "ruled_channel"), port)?;
+    let (sender, receiver, pass) = crossbeam_channel::bounded_with(rt.alloc(), capacity)?;
+    let port = Kit::new(rt, &sender, &receiver, pass);
+    pair(rt, form, (work, "bounded_with"), port)
 }
 
 fn unbounded_pairs<R>(rt: &R, form: Form<'_>, work: &str) -> Result<()>

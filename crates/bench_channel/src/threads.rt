@@ -1,5 +1,6 @@
 //! Threads that block.
 use crate::report::{Form, channel, row};
+use crate::ruled;
 use anyhow::Result;
 use async_channel::{Receiver, Sender};
 use std::alloc::AllocGlobal;
@@ -224,6 +225,7 @@ where
     round_trip(rt, form)?;
     rows(rt, form, "3 spsc bounded(1)", Some(1), 1, 20_000)?;
     rows(rt, form, "3 spsc bounded(128)", Some(128), 1, 200_000)?;
+    ruled::singles(rt, form, "3 spsc bounded(128)", 128, 200_000)?;
     rows(rt, form, "3 spsc unbounded", None, 1, 200_000)
 }
 
