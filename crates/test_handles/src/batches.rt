@@ -126,8 +126,8 @@ fn send_blocking<R: Wait + Clone + Drop + Abort>(
     Ok(())
 }
 
-/// Receives up to the limit by a call that blocks, and looks at the answer and at the numbers, which
-/// rise from the first.
+/// Receives up to the limit by a call that blocks, and looks at the answer and at the numbers,
+/// which rise from the first.
 fn receive_blocking<R: Wait + Clone + Drop + Abort>(
     rt: &R,
     alloc: Global,
