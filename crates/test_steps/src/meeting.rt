@@ -1,0 +1,72 @@
+//! Where two threads wait for one another.
+use std::sync::atomic::{AtomicU64, Ordering};
+use std::thread;
+
+/// How often a test looks before it gives up.
+pub const TURNS: u32 = 10_000_000;
+
+/// How long the threads of a test wait for one another, in moments of 64 looks. Behind that they
+/// wait no more: where others have the processors, a test isn't to take long.
+const PATIENCE: u64 = 2_000;
+
+/// How many moments a turn takes that is given to others.
+const TURN: u64 = 20;
+
+/// How often a thread looks whether the other one is there, before it gives it a turn.
+const LOOKS: u32 = 20_000;
+
+/// How often a thread looks for what the other one does, before it gives it a turn.
+const DEED_LOOKS: u32 = 1_000;
+
+/// Where two threads wait for one another.
+#[derive(Drop)]
+pub struct Meeting {
+    there: AtomicU64,
+    waited: AtomicU64,
+}
+
+impl Meeting {
+    pub fn new() -> Meeting {
+        Meeting {
+            there: AtomicU64::new(0),
+            waited: AtomicU64::new(0),
+        }
+    }
+
+    /// Gives the other thread a turn.
+    fn give_turn(&self) {
+        self.waited.fetch_add(TURN, Ordering::SeqCst);
+        thread::yield_now();
+    }
+
+    /// Waits for the other thread, for which it has waited as often as the number says.
+    pub fn wait(&self, round: u64) {
+        self.there.fetch_add(1, Ordering::SeqCst);
+        let wanted = round.wrapping_mul(2).wrapping_add(2);
+        for look in 0..TURNS {
+            let is_there = self.there.load(Ordering::SeqCst) >= wanted;
+            if is_there || self.waited.load(Ordering::SeqCst) > PATIENCE {
+                return;
+            }
+            if look > LOOKS {
+                self.give_turn();
+            }
+        }
+    }
+
+    /// Lets the time of so many looks pass.
+    pub fn pause(&self, looks: u64) {
+        for _ in 0..looks {
+            self.there.load(Ordering::SeqCst);
+        }
+    }
+
+    /// Goes on to look for what the other thread does, for which it has looked so often.
+    pub fn look_again(&self, look: u32) {
+        if look > DEED_LOOKS {
+            self.give_turn();
+        } else if look % 64 == 63 {
+            self.waited.fetch_add(1, Ordering::SeqCst);
+        }
+    }
+}
