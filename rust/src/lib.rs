@@ -142,14 +142,14 @@ pub use errors::TryRecvError;
 use channel::Channel;
 use std::sync::Arc;
 
-/// The erased run, for the script program. It is no part of the interface.
+/// The erased run, for the programs in `scripts`. It is no part of the interface.
 #[cfg(vamorilesh_run)]
 #[doc(hidden)]
 pub mod run {
     pub use crate::proved::channel_model::{Kind, Notice, OutOfMemory, Refusal, Reply};
     pub use crate::proved::channel_model::{Side, Step, Who};
     pub use crate::proved::channel_run::{Run, Settled};
-    pub use crate::shim::Global;
+    pub use crate::shim::{Global, Over};
 }
 
 /// Makes a channel that holds at most `cap` messages.
