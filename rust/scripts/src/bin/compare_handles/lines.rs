@@ -89,8 +89,7 @@ pub fn kinds_of(line: &Line, answer: &Answer, told: usize) -> Option<[String; 2]
         Answer::Sent(Poll::Pending, count) => ("send_many", of_count(*count) + ", pending"),
         Answer::Messages(messages) => ("messages", of_count(messages.len())),
     };
-    let told = ["nobody", "one", "several"][told.min(2)];
-    Some([format!("{call} {batch}: {came}"), format!("{call} {batch} tells {told}")])
+    Some([format!("{call} {batch}: {came}"), format!("{call} {batch} tells {}", of_count(told))])
 }
 
 fn of_result<E: Debug>(answer: &Result<usize, E>) -> String {

@@ -33,7 +33,7 @@ mod writer;
 const SCRIPTS: u64 = 10_000;
 
 /// How many kinds of answers a batch can have.
-const KINDS: usize = 74;
+const KINDS: usize = 80;
 
 /// How many scripts that differ are printed.
 const PRINTED: usize = 3;

@@ -3,6 +3,7 @@
 use std::collections::{BTreeMap, VecDeque};
 
 use vamorilesh::run::{Kind, Side, Step, Who};
+use vamorilesh::ROUND_LIMIT;
 
 use crate::handles::Handles;
 use crate::lines::Line;
@@ -15,6 +16,8 @@ pub struct Writer {
     is_large: bool,
     /// Whether the channel may be closed before the end.
     closes: bool,
+    /// How many operations of one side begin yet, before anything else is done.
+    crowd: usize,
     /// Whether sends are more frequent now than receives.
     fills: bool,
     /// The operation that the last line began.
@@ -23,6 +26,12 @@ pub struct Writer {
     name: u64,
     message: u64,
 }
+
+/// How many messages a batch of several rounds has at the most.
+const LARGE: usize = 400;
+
+/// How many operations a crowd has: one for each message of a round, and some more.
+const CROWD: usize = ROUND_LIMIT + 30;
 
 /// Makes one line, unless what it needs isn't live.
 type Make = fn(&mut Writer, &Handles) -> Option<Line>;
@@ -49,8 +58,10 @@ const KINDS: [([usize; 2], Make); 15] = [
 impl Writer {
     pub fn new(seed: u64) -> Writer {
         let mut draw = Draw::from_seed(seed);
-        let (is_large, closes) = (draw.below(5) == 0, draw.below(2) == 0);
-        Writer { draw, is_large, closes, fills: true, begun: None, name: 0, message: 0 }
+        let crowd = if draw.below(300) == 0 { CROWD } else { 0 };
+        let is_large = crowd > 0 || draw.below(5) == 0;
+        let (closes, fills) = (draw.below(2) == 0, draw.below(2) == 0);
+        Writer { draw, is_large, closes, crowd, fills, begun: None, name: 0, message: 0 }
     }
 
     /// How many messages the channel may hold.
@@ -58,26 +69,49 @@ impl Writer {
         match self.draw.below(8) {
             0 | 1 => Kind::Unbounded,
             2 if self.is_large => Kind::Bounded(100 + self.draw.below(300)),
+            _ if self.crowd > 0 => Kind::Bounded(ROUND_LIMIT + self.draw.below(100)),
             _ => Kind::Bounded(1 + self.draw.below(5)),
         }
     }
 
     /// How many lines there are.
     pub fn count(&mut self) -> usize {
-        20 + self.draw.below(120)
+        20 + self.draw.below(120) + 2 * self.crowd
     }
 
     /// A line. An operation that was begun is polled soon, and so is who was told.
     pub fn line(&mut self, live: &Handles, told: &[Who]) -> Option<Line> {
-        let begun = self.begun.take().filter(|_| self.draw.below(4) > 0);
+        let is_crowd = self.crowd > 0;
+        let begun = self.begun.take().filter(|_| is_crowd || self.draw.below(4) > 0);
         if let Some(op) = begun {
             return Some(Line::One(Step::Poll(op)));
+        }
+        if self.crowd > 0 {
+            return self.crowd(live);
         }
         if !told.is_empty() && self.draw.below(4) == 0 {
             return Some(Line::One(told[self.draw.below(told.len())].poll()));
         }
         self.fills ^= self.draw.below(15) == 0;
         self.make()(self, live)
+    }
+
+    /// The operations of a crowd all have to wait. After it the other side is more frequent.
+    fn crowd(&mut self, live: &Handles) -> Option<Line> {
+        let is_first = self.crowd == CROWD;
+        self.crowd -= 1;
+        if self.crowd == 0 {
+            self.fills ^= true;
+            return None;
+        }
+        if !self.fills {
+            return Some(Line::One(self.start_recv(live)?));
+        }
+        if is_first {
+            let messages = (0..LARGE).map(|_| self.new_message()).collect();
+            return Some(Line::TrySendMany { sender: self.of(&live.senders)?, messages });
+        }
+        Some(Line::One(self.start_send(live)?))
     }
 
     fn make(&mut self) -> Make {
@@ -112,7 +146,7 @@ impl Writer {
     /// How many messages a batch has.
     fn size(&mut self) -> usize {
         if self.is_large && self.draw.below(3) == 0 {
-            return self.draw.below(400);
+            return self.draw.below(LARGE);
         }
         self.draw.below(8)
     }
@@ -191,13 +225,21 @@ impl Writer {
             let sender = self.of(&live.senders)?;
             Step::StartClosed { op: self.new_operation(), sender }
         } else if self.is_send() {
-            let (sender, msg) = (self.of(&live.senders)?, self.new_message());
-            Step::StartSend { op: self.new_operation(), sender, msg }
+            self.start_send(live)?
         } else {
-            let receiver = self.of(&live.receivers)?;
-            Step::StartRecv { op: self.new_operation(), receiver }
+            self.start_recv(live)?
         };
         Some(Line::One(step))
+    }
+
+    fn start_send(&mut self, live: &Handles) -> Option<Step<u64>> {
+        let (sender, msg) = (self.of(&live.senders)?, self.new_message());
+        Some(Step::StartSend { op: self.new_operation(), sender, msg })
+    }
+
+    fn start_recv(&mut self, live: &Handles) -> Option<Step<u64>> {
+        let receiver = self.of(&live.receivers)?;
+        Some(Step::StartRecv { op: self.new_operation(), receiver })
     }
 
     fn poll(&mut self, live: &Handles) -> Option<Line> {
