@@ -10,7 +10,7 @@ use std::test::Fail;
 use std::thread::{Threads, join};
 
 /// How many rounds a test makes.
-pub const ROUNDS: u64 = 2_000;
+pub const ROUNDS: u64 = 4_000;
 
 /// What a thread does in a round. A handle that is given up is taken out.
 #[derive(Drop)]
@@ -155,10 +155,11 @@ impl Meet {
                     Deed::UpgradeReceiver(weak, s),
                 )
             }
-            Meet::LastSenderAndCount => { (Deed::GiveUpSender(Some(s)), Deed::SeeSendersGone(r)) }
-            Meet::LastReceiverAndCount => {
-                (Deed::GiveUpReceiver(Some(r)), Deed::SeeReceiversGone(s))
-            }
+            Meet::LastSenderAndCount => (Deed::GiveUpSender(Some(s)), Deed::SeeSendersGone(r)),
+            Meet::LastReceiverAndCount => (
+                Deed::GiveUpReceiver(Some(r)),
+                Deed::SeeReceiversGone(s),
+            ),
             Meet::LastMessageAnd(way) => (Deed::SendLast(Some(s)), Deed::Learn(way, r)),
             Meet::TwoCloses => (Deed::CloseSender(s), Deed::CloseReceiver(r)),
             Meet::TwoSends => {
@@ -186,8 +187,8 @@ fn rounds<R: Wait + Clone + Drop + AllocGlobal>(rt: &R, meet: Meet) -> Result<Ro
     Ok((one, other))
 }
 
-/// Does each, when the other thread is there and some moments have passed: as many as the bits of
-/// the round that are in the mask. It answers how many went well.
+/// Does each, when the other thread is there and some looks have passed: as many as the bits of the
+/// round that are in the mask. It answers how many went well.
 fn do_each<R: Wait + Clone + Drop + RandomSource + AllocGlobal>(
     rt: &R,
     meeting: &Meeting,

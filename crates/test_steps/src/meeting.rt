@@ -7,13 +7,13 @@ pub const TURNS: u32 = 10_000_000;
 
 /// How long the threads of a test wait for one another, in moments of 64 looks. Behind that they
 /// wait no more: where others have the processors, a test isn't to take long.
-const PATIENCE: u64 = 2_000;
+const PATIENCE: u64 = 6_000;
 
 /// How many moments a turn takes that is given to others.
 const TURN: u64 = 20;
 
 /// How often a thread looks whether the other one is there, before it gives it a turn.
-const LOOKS: u32 = 20_000;
+const LOOKS: u32 = 50_000;
 
 /// How often a thread looks for what the other one does, before it gives it a turn.
 const DEED_LOOKS: u32 = 1_000;
