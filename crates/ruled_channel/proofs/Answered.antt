@@ -1,18 +1,19 @@
 -- What an answer of the core says of the channel that it found, and of what it left.
 use Rattle.futures.specs.declared.task.Poll.{Poll}
 use Rattle.futures.specs.declared.task.Poll.TheVariants.{Ready, Pending}
-use Rattle.std.proofs.Common.{◌≡◌, ℕ, Bool, true, false, true≢false, List, [], ◌∷◌, slice_get, Option, Some, None, Result, Ok, Err, is_ok, is_some, drop, sym, refl, ap, ◌∙◌, subst}
+use Rattle.std.proofs.Common.{◌≡◌, ℕ, Bool, true, false, true≢false, List, [], ◌∷◌, slice_get, Option, Some, None, Result, Ok, Err, is_ok, is_some, drop, sym, refl, ap, ◌∙◌, subst, ◌⊎◌, inl, inr}
 use Rattle.channel_model.specs.declared.errors.OutOfMemory.{OutOfMemory}
 use Rattle.channel_model.specs.declared.errors.SendError.{SendError}
 use Rattle.channel_model.specs.declared.errors.TrySendError.{TrySendError}
 use Rattle.channel_model.specs.declared.errors.TryRecvError.{TryRecvError}
 use Rattle.channel_model.specs.Errors.{message_of, was_ended}
-use Rattle.channel_model.specs.Tables.{OnReady, OnWait, try_send_answer, force_send_answer, try_recv_answer, send_poll}
-use Rattle.channel_core.specs.Channel.{Channel, is_channel_full, accepting, sending, forcing, taking, polled_send, SendWaits, RecvWaits}
-use Rattle.channel_core.specs.Tickets.{left}
+use Rattle.channel_model.specs.Tables.{OnReady, OnWait, try_send_answer, force_send_answer, try_recv_answer, send_poll, recv_poll}
+use Rattle.channel_core.specs.Channel.{Channel, is_channel_full, accepting, sending, forcing, taking, polled_send, SendWaits, RecvWaits, GrowsWithMessages, oldest}
+use Rattle.channel_core.specs.Tickets.{left, handed_on}
 use Rattle.event_list.specs.Waiting.{Waiting}
 use Rattle.channel_model.specs.declared.errors.RecvError.{RecvError}
-use Rattle.ruled_channel.specs.Passes.{Refuses}
+use Rattle.ruled_channel.specs.Passes.{Refuses, WantsToSend}
+use Rattle.ruled_channel.specs.Rule.{IsFilled}
 
 abbrev pub err_of : {A E : Type 0} → E → Result A E → E
 err_of d (Ok a) = d
@@ -25,6 +26,10 @@ ok_of d (Err e) = d
 abbrev pub some_of : {A : Type 0} → A → Option A → A
 some_of d (Some a) = a
 some_of d None = d
+
+abbrev pub is_ready : {A : Type 0} → Poll A → Bool
+is_ready (Ready answer) = true
+is_ready Pending = false
 
 -- whether a poll isn't ready by an error
 abbrev pub went : {A E : Type 0} → Poll (Result A E) → Bool
@@ -59,6 +64,13 @@ module _ {T W : Type 0} (core now : Channel T W) where
     closed = ap (λ (c : Channel T W). c.closed) e;
   }
 
+  -- a poll that was refused memory lets its entry go
+  pub gone_sends : (before : Channel T W) (ticket : Option ℕ) → before ≡ core → now ≡ record before { sends = handed_on ticket before.sends } → IsAlike
+  gone_sends before ticket was e = alike_sends (handed_on ticket core.sends) (e ∙ ap (λ (c : Channel T W). record c { sends = handed_on ticket c.sends }) was)
+
+  pub gone_receives : (before : Channel T W) (ticket : Option ℕ) → before ≡ core → now ≡ record before { receives = handed_on ticket before.receives } → IsAlike
+  gone_receives before ticket was e = alike_receives (handed_on ticket core.receives) (e ∙ ap (λ (c : Channel T W). record c { receives = handed_on ticket c.receives }) was)
+
   closes : (m : T) (error : SendError T) (base : Channel T W) (closed full : Bool) → Ready (Err error) ≡ send_poll (Some m) closed full
       → now ≡ (sending closed full m base).channel → now ≡ base
   closes m error base true full e is = is
@@ -66,21 +78,23 @@ module _ {T W : Type 0} (core now : Channel T W) where
   closes m error base false false e is = absurd (true≢false (sym (ap went e)))
 
   -- a poll of a send that finds the channel closed lets its entry go
-  pub polled_closed : (m : T) (ticket : Option ℕ) (poll : Poll (Result (Unit {0}) (SendError T))) (error : SendError T) → poll ≡ Ready (Err error)
+  pub polled_closed : (m : T) (ticket : Option ℕ) (poll : Poll (Result (Unit {0}) (SendError T))) (answer : Result (Unit {0}) (SendError T)) (error : SendError T)
+      → poll ≡ Ready answer → answer ≡ Err error
       → poll ≡ send_poll (Some m) core.closed (is_channel_full core)
       → OnReady {E = OutOfMemory} (Ok poll) (now ≡ (polled_send (Some m) ticket core).channel) → IsAlike
-  polled_closed m ticket poll error is reply after = let base = record core { sends = left ticket core.sends } in
+  polled_closed m ticket poll answer error ready fails reply after = let base = record core { sends = left ticket core.sends } in
+      let is : poll ≡ Ready (Err error) = ready ∙ ap Ready fails in
       alike_sends (left ticket core.sends) (closes m error base core.closed (is_channel_full core) (sym is ∙ reply)
       (subst (λ p. OnReady {E = OutOfMemory} (Ok p) (now ≡ (polled_send (Some m) ticket core).channel)) is after))
 
   -- one that waits changes its list alone
-  pub send_waits : (m : T) (ticket ticket' : Option ℕ) (w : W) (poll : Poll (Result (Unit {0}) (SendError T))) → poll ≡ Pending
-      → OnWait {E = OutOfMemory} (Ok poll) (SendWaits (Some m) ticket core w ticket' now) → IsAlike
-  send_waits m ticket ticket' w poll is waits = alike_sends now.sends ((subst (λ p. OnWait {E = OutOfMemory} (Ok p) (SendWaits (Some m) ticket core w ticket' now)) is waits).0)
+  pub send_waits : (m : T) (ticket ticket' : Option ℕ) (Fact : W → Type 0) (poll : Poll (Result (Unit {0}) (SendError T))) → poll ≡ Pending
+      → OnWait {E = OutOfMemory} (Ok poll) ((w : W) × Fact w × SendWaits (Some m) ticket core w ticket' now) → IsAlike
+  send_waits m ticket ticket' Fact poll is waits = alike_sends now.sends ((subst (λ p. OnWait {E = OutOfMemory} (Ok p) ((w : W) × Fact w × SendWaits (Some m) ticket core w ticket' now)) is waits).2.0)
 
-  pub recv_waits : (ticket ticket' : Option ℕ) (w : W) (poll : Poll (Result T RecvError)) → poll ≡ Pending
-      → OnWait {E = OutOfMemory} (Ok poll) (RecvWaits ticket core w ticket' now) → IsAlike
-  recv_waits ticket ticket' w poll is waits = alike_receives now.receives ((subst (λ p. OnWait {E = OutOfMemory} (Ok p) (RecvWaits ticket core w ticket' now)) is waits).0)
+  pub recv_waits : (ticket ticket' : Option ℕ) (Fact : W → Type 0) (poll : Poll (Result T RecvError)) → poll ≡ Pending
+      → OnWait {E = OutOfMemory} (Ok poll) ((w : W) × Fact w × RecvWaits ticket core w ticket' now) → IsAlike
+  recv_waits ticket ticket' Fact poll is waits = alike_receives now.receives ((subst (λ p. OnWait {E = OutOfMemory} (Ok p) ((w : W) × Fact w × RecvWaits ticket core w ticket' now)) is waits).2.0)
 
 module _ {T W : Type 0} (found now : Channel T W) where
   -- a send that is refused changes nothing
@@ -134,3 +148,42 @@ module _ {T W : Type 0} (found now : Channel T W) where
 -- what is known of the capacity of a channel that has none
 pub fits_none : {T W : Type 0} (core found : Channel T W) (fits : Option ℕ → Type 0) → core ≡ found → core.capacity ≡ None → fits found.capacity → fits None
 fits_none {T} {W} core found fits shows none f = subst fits none (subst (λ (c : Channel T W). fits c.capacity) (sym shows) f)
+
+-- a send that can't go on finds a full and open channel
+send_pending : {T : Type 0} (m : T) (closed full : Bool) → send_poll (Some m) closed full ≡ Pending → (closed ≡ false) × (full ≡ true)
+send_pending m true full e = absurd (true≢false (ap is_ready e))
+send_pending m false true e = (refl, refl)
+send_pending m false false e = absurd (true≢false (ap is_ready e))
+
+-- a receive that can't go on finds an empty and open one
+recv_pending : {T : Type 0} (messages : List T) (closed : Bool) → recv_poll (slice_get messages 0) closed ≡ Pending → (messages ≡ []) × (closed ≡ false)
+recv_pending [] true e = absurd (true≢false (ap is_ready e))
+recv_pending [] false e = (refl, refl)
+recv_pending (x ∷ xs) closed e = absurd (true≢false (ap is_ready e))
+
+module _ {T W V : Type 0} (core found : Channel T W) (shows : core ≡ found) where
+  -- what is learned of a channel where a receive can't go on
+  pub learned_empty : (fact : V → List T → Bool → Type 0) (v v' : V) → v' ≡ v → recv_poll (oldest core) core.closed ≡ Pending
+      → fact v' found.messages found.closed → fact v [] false
+  learned_empty fact v v' q waits told = let is = recv_pending core.messages core.closed waits in
+      subst (λ (z : V × (List T × Bool)). fact z.0 z.1.0 z.1.1) (λ i. (q i, (is.0 i, is.1 i)))
+          (subst (λ (c : Channel T W). fact v' c.messages c.closed) (sym shows) told)
+
+  -- what is learned of one where a send can't go on
+  pub learned_full : (fits : Option ℕ → Type 0) (fact : V → List T → Bool → Type 0) (v v' : V) (m : T) → v' ≡ v
+      → send_poll (Some m) core.closed (is_channel_full core) ≡ Pending
+      → fits found.capacity → fact v' found.messages found.closed
+      → (messages : List T) × IsFilled fits messages × fact v messages false
+  learned_full fits fact v v' m q waits fit told = let is = send_pending m core.closed (is_channel_full core) waits in (
+    core.messages,
+    (core.capacity, subst (λ (c : Channel T W). fits c.capacity) (sym shows) fit, is.1),
+    subst (λ (z : V × Bool). fact z.0 core.messages z.1) (λ i. (q i, is.0 i))
+        (subst (λ (c : Channel T W). fact v' c.messages c.closed) (sym shows) told),
+  )
+
+  -- what is learned where a send wants memory
+  pub wants : (fits : Option ℕ → Type 0) (fact : V → List T → Bool → Type 0) (v v' : V) (m : T) → v' ≡ v
+      → GrowsWithMessages core ⊎ (send_poll (Some m) core.closed (is_channel_full core) ≡ Pending)
+      → fits found.capacity → fact v' found.messages found.closed → WantsToSend fits (fact v)
+  wants fits fact v v' m q (inl grows) fit told = inl (fits_none core found fits shows grows.1 fit)
+  wants fits fact v v' m q (inr waits) fit told = inr (learned_full fits fact v v' m q waits fit told)

@@ -9,7 +9,7 @@ use Rattle.channel_model.specs.declared.errors.TryRecvError.{TryRecvError}
 use Rattle.channel_model.specs.declared.errors.TryRecvError.TheVariants.{Empty, Closed}
 use Rattle.ruled_mutex.specs.declared.pass.Pass.{Pass}
 use Rattle.ruled_mutex.specs.Passes.{view, number, IsSamePass}
-use Rattle.ruled_channel.specs.declared.ringer.Mark.{Mark}
+use Rattle.channel_wakers.specs.declared.mark.Mark.{Mark}
 use Rattle.ruled_channel.specs.declared.channel.RuledChannel.{RuledChannel}
 use Rattle.ruled_channel.specs.Passes.{IsPassOf, FindsNone}
 use Rattle.ruled_channel.specs.Receiving.{MayPoll, Gives}

@@ -1,5 +1,5 @@
 -- What a clause says of a channel's passes and of its answers.
-use Rattle.std.specs.Prelude.{◌≡◌, ℕ, Bool, true, false, List, [], Option}
+use Rattle.std.specs.Prelude.{◌≡◌, ◌⊎◌, ⊤, ℕ, Bool, true, false, List, [], Option, None}
 use Rattle.channel_core.specs.Channel.{Channel}
 use Rattle.channel_model.specs.declared.errors.TrySendError.{TrySendError}
 use Rattle.channel_model.specs.declared.errors.TrySendError.TheVariants.{Full, Closed}
@@ -8,7 +8,7 @@ use Rattle.channel_model.specs.declared.errors.TryRecvError.TheVariants.{Empty, 
 use Rattle.ruled_mutex.specs.declared.pass.Pass.{Pass}
 use Rattle.ruled_mutex.specs.Passes.{IsPassOf as IsMutexPass}
 pub use Rattle.ruled_mutex.specs.Passes.{view}
-use Rattle.ruled_channel.specs.declared.ringer.Mark.{Mark}
+use Rattle.channel_wakers.specs.declared.mark.Mark.{Mark}
 use Rattle.ruled_channel.specs.declared.channel.RuledChannel.{RuledChannel}
 use Rattle.ruled_channel.specs.Rule.{IsFilled}
 
@@ -33,3 +33,19 @@ abbrev pub FindsNone : {T V : Type 0} → (V → V → Type 0) → (List T → B
     → TryRecvError → Type 0
 FindsNone then fact v w Empty = (w ≡ v) × fact [] false
 FindsNone then fact v w Closed = then v w
+
+-- Why a send wanted memory: for its message, in a channel without a capacity, or to wait. Of the
+-- full and open channel where it began to wait something is learned.
+abbrev pub WantsToSend : {T : Type 0} → (Option ℕ → Type 0) → (List T → Bool → Type 0) → Type 0
+WantsToSend {T} fits fact =
+    fits None ⊎ ((messages : List T) × IsFilled fits messages × fact messages false)
+
+-- a fact, if the channel was full
+abbrev pub IfFull : {T : Type 0} → TrySendError T → Type 0 → Type 0
+IfFull (Full m) Fact = Fact
+IfFull (Closed m) Fact = ⊤
+
+-- a fact, if the channel was empty and open
+abbrev pub IfEmpty : TryRecvError → Type 0 → Type 0
+IfEmpty Empty Fact = Fact
+IfEmpty Closed Fact = ⊤

@@ -1,5 +1,5 @@
 //! The channel and its calls that don't wait for others' messages.
-ghost use Rattle.std.specs.Prelude.{◌≡◌, [], ◌∷◌, false, true, Some, None, IfOk, IfErr};
+ghost use Rattle.std.specs.Prelude.{◌≡◌, [], ◌∷◌, ◌++◌, drop, take, false, true, Some, None, IfOk, IfErr};
 ghost use Rattle.crossbeam_utils.specs.Register.{TurnsAt};
 ghost use Rattle.channel_model.specs.Errors.{message_of};
 ghost use Rattle.ruled_mutex.specs.Passes.{IsSamePass, view, number, found, made, Holds};
@@ -10,8 +10,9 @@ use crate::outcomes::{
     Undisplaced,
 };
 use crate::protocol::{Protocol, Ruled};
-use crate::ringer::{Mark, Ringer};
 use channel_core::{Core, NoMemory, OutOfMemory, SendError, TryRecvError, TrySendError};
+use channel_wakers::{Mark, Ringer, Woken};
+use futures::task::Source;
 use ruled_mutex::{Held, Join, Outcome, RuledMutex, Split};
 use std::alloc::Global;
 use std::sync::Wait;
@@ -38,6 +39,8 @@ pub struct RuledChannel<T, V, P: Protocol<T, V>> {
     // That of the core.
     pub(crate) capacity: Option<usize>,
     pub(crate) alloc: Global,
+    // What tasks wait for.
+    pub(crate) source: Source,
 }
 
 impl<T: Drop, V, P: Protocol<T, V>> RuledChannel<T, V, P> {
@@ -64,6 +67,7 @@ impl<T: Drop, V, P: Protocol<T, V>> RuledChannel<T, V, P> {
             mutex,
             capacity,
             alloc,
+            source: Source::new(),
         };
         Ok((channel, pass))
     }
@@ -157,19 +161,19 @@ impl<T: Drop, V, P: Protocol<T, V>> RuledChannel<T, V, P> {
             (λ error. (error.0 ≡ message) × (view pass.new ≡ view pass.old) × P.fits None) }
     {
         let held = self.mutex.lock(rt, pass);
-        let mut bell = Ringer::new();
+        let mut bell = Ringer::new(rt);
         let core = pass.value_mut(&self.mutex, &held);
         match core.try_send(message, &mut bell) {
             Ok(Ok(())) => {
-                self.give_back::<Pushed<M>>(pass, held, bell);
+                self.give_back::<Pushed<M>, R>(pass, held, bell);
                 Ok(Ok(()))
             }
             Ok(Err(refused)) => {
-                self.give_back::<Kept<P, L>>(pass, held, bell);
+                self.give_back::<Kept<P, L>, R>(pass, held, bell);
                 Ok(Err(refused))
             }
             Err(error) => {
-                self.give_back::<Kept<P, L>>(pass, held, bell);
+                self.give_back::<Kept<P, L>, R>(pass, held, bell);
                 Err(error)
             }
         }
@@ -206,23 +210,23 @@ impl<T: Drop, V, P: Protocol<T, V>> RuledChannel<T, V, P> {
             (λ error. (error.0 ≡ message) × (view pass.new ≡ view pass.old) × P.fits None) }
     {
         let held = self.mutex.lock(rt, pass);
-        let mut bell = Ringer::new();
+        let mut bell = Ringer::new(rt);
         let core = pass.value_mut(&self.mutex, &held);
         match core.force_send(message, &mut bell) {
             Ok(Ok(None)) => {
-                self.give_back::<Pushed<Undisplaced<M>>>(pass, held, bell);
+                self.give_back::<Pushed<Undisplaced<M>>, R>(pass, held, bell);
                 Ok(Ok(None))
             }
             Ok(Ok(Some(displaced))) => {
-                self.give_back::<Displaced<M>>(pass, held, bell);
+                self.give_back::<Displaced<M>, R>(pass, held, bell);
                 Ok(Ok(Some(displaced)))
             }
             Ok(Err(error)) => {
-                self.give_back::<Kept<P, L>>(pass, held, bell);
+                self.give_back::<Kept<P, L>, R>(pass, held, bell);
                 Ok(Err(error))
             }
             Err(error) => {
-                self.give_back::<Kept<P, L>>(pass, held, bell);
+                self.give_back::<Kept<P, L>, R>(pass, held, bell);
                 Err(error)
             }
         }
@@ -252,19 +256,19 @@ impl<T: Drop, V, P: Protocol<T, V>> RuledChannel<T, V, P> {
             (view pass.old) (view pass.new) error) }
     {
         let held = self.mutex.lock(rt, pass);
-        let mut bell = Ringer::new();
+        let mut bell = Ringer::new(rt);
         let core = pass.value_mut(&self.mutex, &held);
         match core.try_recv(&mut bell) {
             Ok(message) => {
-                self.give_back::<Popped<M>>(pass, held, bell);
+                self.give_back::<Popped<M>, R>(pass, held, bell);
                 Ok(message)
             }
             Err(TryRecvError::Empty) => {
-                self.give_back::<Kept<P, L>>(pass, held, bell);
+                self.give_back::<Kept<P, L>, R>(pass, held, bell);
                 Err(TryRecvError::Empty)
             }
             Err(TryRecvError::Closed) => {
-                self.give_back::<Ended<E>>(pass, held, bell);
+                self.give_back::<Ended<E>, R>(pass, held, bell);
                 Err(TryRecvError::Closed)
             }
         }
@@ -285,9 +289,9 @@ impl<T: Drop, V, P: Protocol<T, V>> RuledChannel<T, V, P> {
         ensures closed { M.then (view pass.old) result (view pass.new) }
     {
         let held = self.mutex.lock(rt, pass);
-        let mut bell = Ringer::new();
+        let mut bell = Ringer::new(rt);
         let was_open = pass.value_mut(&self.mutex, &held).close(&mut bell);
-        self.give_back::<Shut<M>>(pass, held, bell);
+        self.give_back::<Shut<M>, R>(pass, held, bell);
         was_open
     }
 
@@ -308,20 +312,22 @@ impl<T: Drop, V, P: Protocol<T, V>> RuledChannel<T, V, P> {
         self.mutex.unlock_as::<Kept<P, L>>(pass, held);
     }
 
-    // Gives the lock back by a step of the rule, and wakes whoever the step told.
-    pub(crate) fn give_back<O: Outcome<Core<T, Mark>, V>>(
+    // Gives the lock back by a step of the rule, and wakes whom the step told: each mark that the
+    // bell was rung with.
+    pub(crate) fn give_back<O: Outcome<Core<T, Mark>, V>, R: Wait>(
         &self,
         pass: &mut Pass<T, V>,
         held: Held<Core<T, Mark>>,
-        bell: Ringer,
-    )
+        bell: Ringer<'_, R>,
+    ) -> Woken
         requires own { Holds self.now.mutex held pass.old }
         requires rule { TurnsAt (within P.fits P.holds) (number pass.old) (view pass.old)
             (found held) (made held pass.old) O.then }
         ensures own { IsPassOf self.now pass.new × IsSamePass pass.old pass.new }
         ensures rule { O.then (view pass.old) (found held) (made held pass.old) (view pass.new) }
+        ensures woken { result ≡ drop 1 bell.entry ++ take 1 bell.entry }
     {
         self.mutex.unlock_as::<O>(pass, held);
-        bell.wake();
+        bell.wake_after(&self.mutex)
     }
 }

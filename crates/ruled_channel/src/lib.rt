@@ -27,7 +27,7 @@ mod make;
 mod outcomes;
 mod protocol;
 mod receiving;
-mod ringer;
+mod waiting;
 
 pub use channel::{Pass, RuledChannel};
 pub use channel_core::{NoMemory, OutOfMemory, RecvError, SendError, TryRecvError, TrySendError};
