@@ -64,12 +64,29 @@ module _ {T W : Type 0} (core now : Channel T W) where
     closed = ap (λ (c : Channel T W). c.closed) e;
   }
 
+  pub alike_closeds : (list : Waiting W) → now ≡ record core { closeds = list } → IsAlike
+  alike_closeds list e = record {
+    capacity = ap (λ (c : Channel T W). c.capacity) e;
+    messages = ap (λ (c : Channel T W). c.messages) e;
+    closed = ap (λ (c : Channel T W). c.closed) e;
+  }
+
+  pub alike_counted : (senders receivers : ℕ) → now ≡ record core { senders = senders; receivers = receivers } → IsAlike
+  alike_counted senders receivers e = record {
+    capacity = ap (λ (c : Channel T W). c.capacity) e;
+    messages = ap (λ (c : Channel T W). c.messages) e;
+    closed = ap (λ (c : Channel T W). c.closed) e;
+  }
+
   -- a poll that was refused memory lets its entry go
   pub gone_sends : (before : Channel T W) (ticket : Option ℕ) → before ≡ core → now ≡ record before { sends = handed_on ticket before.sends } → IsAlike
   gone_sends before ticket was e = alike_sends (handed_on ticket core.sends) (e ∙ ap (λ (c : Channel T W). record c { sends = handed_on ticket c.sends }) was)
 
   pub gone_receives : (before : Channel T W) (ticket : Option ℕ) → before ≡ core → now ≡ record before { receives = handed_on ticket before.receives } → IsAlike
   gone_receives before ticket was e = alike_receives (handed_on ticket core.receives) (e ∙ ap (λ (c : Channel T W). record c { receives = handed_on ticket c.receives }) was)
+
+  pub gone_closeds : (before : Channel T W) (list : Waiting W) → before ≡ record core { closeds = before.closeds } → now ≡ record before { closeds = list } → IsAlike
+  gone_closeds before list was e = alike_closeds list (e ∙ ap (λ (c : Channel T W). record c { closeds = list }) was)
 
   closes : (m : T) (error : SendError T) (base : Channel T W) (closed full : Bool) → Ready (Err error) ≡ send_poll (Some m) closed full
       → now ≡ (sending closed full m base).channel → now ≡ base
@@ -167,7 +184,7 @@ module _ {T W V : Type 0} (core found : Channel T W) (shows : core ≡ found) wh
       → fact v' found.messages found.closed → fact v [] false
   learned_empty fact v v' q waits told = let is = recv_pending core.messages core.closed waits in
       subst (λ (z : V × (List T × Bool)). fact z.0 z.1.0 z.1.1) (λ i. (q i, (is.0 i, is.1 i)))
-          (subst (λ (c : Channel T W). fact v' c.messages c.closed) (sym shows) told)
+      (subst (λ (c : Channel T W). fact v' c.messages c.closed) (sym shows) told)
 
   -- what is learned of one where a send can't go on
   pub learned_full : (fits : Option ℕ → Type 0) (fact : V → List T → Bool → Type 0) (v v' : V) (m : T) → v' ≡ v

@@ -1,5 +1,5 @@
 pub mod Answered
 pub mod Steps
 pub mod Same
-pub mod Polls
 pub mod Views
+pub mod Dropped

@@ -20,11 +20,15 @@ IsPassOf channel pass = IsMutexPass channel.mutex pass
 abbrev pub LearnedOf : {X : Type 0} → (X → Type 0) → Type 0
 LearnedOf {X} fact = (x : X) × fact x
 
+-- the channel was full and open at one moment, and something was learned of it
+abbrev pub IsFullAt : {T : Type 0} → (Option ℕ → Type 0) → (List T → Bool → Type 0) → Type 0
+IsFullAt {T} fits fact = (messages : List T) × IsFilled fits messages × fact messages false
+
 -- Why a send was refused, and what was learned at that moment: the channel was full and open, or it
 -- was closed.
 abbrev pub Refuses : {T : Type 0} → (Option ℕ → Type 0) → (List T → Bool → Type 0) → TrySendError T
     → Type 0
-Refuses {T} fits fact (Full m) = (messages : List T) × IsFilled fits messages × fact messages false
+Refuses {T} fits fact (Full m) = IsFullAt fits fact
 Refuses {T} fits fact (Closed m) = LearnedOf (λ messages. fact messages true)
 
 -- Why a receive got no message. Of a channel that is empty and open something is learned; one that
@@ -34,11 +38,10 @@ abbrev pub FindsNone : {T V : Type 0} → (V → V → Type 0) → (List T → B
 FindsNone then fact v w Empty = (w ≡ v) × fact [] false
 FindsNone then fact v w Closed = then v w
 
--- Why a send wanted memory: for its message, in a channel without a capacity, or to wait. Of the
--- full and open channel where it began to wait something is learned.
+-- Why a send wanted memory: for its message, in a channel without a capacity, or to wait, at a full
+-- and open one.
 abbrev pub WantsToSend : {T : Type 0} → (Option ℕ → Type 0) → (List T → Bool → Type 0) → Type 0
-WantsToSend {T} fits fact =
-    fits None ⊎ ((messages : List T) × IsFilled fits messages × fact messages false)
+WantsToSend fits fact = fits None ⊎ IsFullAt fits fact
 
 -- a fact, if the channel was full
 abbrev pub IfFull : {T : Type 0} → TrySendError T → Type 0 → Type 0

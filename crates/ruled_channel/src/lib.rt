@@ -7,8 +7,9 @@
 //! So what came through the channel is known once two views are joined.
 //!
 //! Threads share the channel by reference, each with a pass of its own, made by
-//! [`RuledChannel::another`]. It is closed by a call; dropping a pass closes nothing. Under
-//! [`Unruled`], the rule that asks nothing, the calls are plain ones.
+//! [`RuledChannel::another`]. It is closed by a call, also by the one that gives up the last sender
+//! or receiver; dropping a pass closes nothing. Calls that wait block their thread, or are futures.
+//! Under [`Unruled`], the rule that asks nothing, the calls are plain ones.
 //!
 //! No contract says that a blocked thread is woken, or that a blocking call returns.
 //!
@@ -23,16 +24,21 @@
 
 mod blocking;
 mod channel;
+mod closing;
+mod handles;
 mod make;
 mod outcomes;
 mod protocol;
 mod receiving;
+mod sending;
 mod waiting;
 
 pub use channel::{Pass, RuledChannel};
 pub use channel_core::{NoMemory, OutOfMemory, RecvError, SendError, TryRecvError, TrySendError};
+pub use closing::UntilClosed;
 pub use make::{bounded_with, unbounded_with};
 pub use outcomes::{AtEnd, Closed, Forced, Lesson, Received, Sent};
 pub use protocol::Protocol;
 pub use receiving::Recv;
 pub use ruled_mutex::{Join, Split, Unruled};
+pub use sending::Send;

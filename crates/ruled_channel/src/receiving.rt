@@ -1,47 +1,58 @@
 //! A receive as a future.
-ghost use Rattle.std.specs.Prelude.{◌≡◌, [], false, IsSome, IfSome, Some};
+ghost use Rattle.std.specs.Prelude.{◌≡◌, [], false, IfSome, IsSome, Some};
+ghost use Rattle.std.specs.Option.{ForSome};
 ghost use Rattle.futures.specs.Task.{Covers, Keeps};
 ghost use Rattle.futures.specs.Poll.{IfReady, OnPending};
 ghost use Rattle.ruled_mutex.specs.Passes.{view, number};
 ghost use Rattle.ruled_channel.specs.Rule.{Receives, Ends, Fitted};
 ghost use Rattle.ruled_channel.specs.Passes.{IsPassOf};
-ghost use Rattle.ruled_channel.specs.Receiving.{MayPoll, Gives};
+ghost use Rattle.ruled_channel.specs.Receiving.{MayPoll, Gives, IsBack};
 
 use crate::channel::{Pass, RuledChannel};
-use crate::outcomes::{AtEnd, Received, Seen};
+use crate::outcomes::{AtEnd, Received};
 use crate::protocol::Protocol;
-use channel_core::{RecvError, TryRecvError};
+use channel_core::{OutOfMemory, RecvError, Ticket, TryRecvError};
+use channel_wakers::Marker;
 use futures::future::Future;
 use futures::task::{Context, Poll};
 use std::marker::PhantomData;
 use std::sync::Wait;
 
-/// A receive that owns its pass, and gives it back with its answer. While the channel is empty it
-/// asks to be polled again, behind the other tasks.
+/// A receive that owns its pass, and gives it back with its answer.
+///
+/// While it waits, its entry is in the channel's list. Dropping it takes the entry out, and a
+/// notice that it had goes on to the next one; the pass is dropped with it. `into_pass` does the
+/// same, and keeps the pass.
 ///
 /// ```
 /// let (channel, pass) = bounded_with::<u64, (), Unruled>(rt.alloc(), 1)?;
 /// let receive: Recv<'_, _, _, _, _, _, _> = channel.recv_as::<Unruled, Unruled, _>(&rt, pass);
 /// assert!(rt; receive.into_pass().is_some());
 /// ```
-#[derive(Drop)]
-pub struct Recv<'a, T, V, P: Protocol<T, V>, M, E, R> {
+pub struct Recv<'a, T: Drop, V, P: Protocol<T, V>, M, E, R: Wait> {
     rt: &'a R,
     channel: &'a RuledChannel<T, V, P>,
+    // None, once a poll was ready.
     pass: Option<Pass<T, V>>,
+    ticket: Option<Ticket>,
+    marker: Marker,
     told: PhantomData<(M, E)>,
+    ghost owns: { ForSome pass (λ p. IsPassOf channel.now p) },
 }
 
 impl<T: Drop, V, P: Protocol<T, V>> RuledChannel<T, V, P> {
-    /// Receives a message, in a task. The step of the rule is made by the poll that is ready. One
-    /// that isn't found the channel empty and open.
+    /// Receives a message, in a task, which sleeps while the channel is empty and open. The step of
+    /// the rule is made by the poll that is ready.
+    ///
+    /// It gives the pass, and with it a message, [`RecvError`] if the channel is closed and empty,
+    /// or [`OutOfMemory`] if memory was refused when it began to wait: then it waits no more.
     ///
     /// ```
     /// let (channel, mut pass) = bounded_with::<u64, (), Unruled>(rt.alloc(), 1)?;
     /// let sent = channel.try_send_as::<Unruled, Unruled, _>(&rt, &mut pass, 5)?;
     /// assert_eq!(rt; sent, Ok(()));
     /// let (_, got) = block_on(&rt, channel.recv_as::<Unruled, Unruled, _>(&rt, pass))?;
-    /// assert_eq!(rt; got, Ok(5));
+    /// assert_eq!(rt; got, Ok(Ok(5)));
     /// ```
     pub fn recv_as<'a, M: Received<T, V>, E: AtEnd<V>, R: Wait>(
         &'a self,
@@ -58,6 +69,8 @@ impl<T: Drop, V, P: Protocol<T, V>> RuledChannel<T, V, P> {
             rt,
             channel: self,
             pass: Some(pass),
+            ticket: None,
+            marker: Marker::new(),
             told: PhantomData,
         }
     }
@@ -65,66 +78,87 @@ impl<T: Drop, V, P: Protocol<T, V>> RuledChannel<T, V, P> {
 
 impl<T: Drop, V, P: Protocol<T, V>, M: Received<T, V>, E: AtEnd<V>, R: Wait> Future
     for Recv<'_, T, V, P, M, E, R> {
-    type Output = (Pass<T, V>, Result<T, RecvError>);
+    type Output = (Pass<T, V>, Result<Result<T, RecvError>, OutOfMemory>);
 
     ghost can_poll = { λ f. MayPoll P.holds M.then E.then f.channel.now f.pass };
 
-    ghost gives = { λ f. Gives M.then E.then f.channel.now f.pass };
+    ghost needs = { λ f source. source ≡ f.channel.now.source.id };
+
+    ghost gives = { λ f. Gives P.holds M.then E.then f.channel.now f.pass };
 
     fn poll(&mut self, cx: &mut Context<'_>) -> Poll<Self::Output>
         requires { MayPoll P.holds M.then E.then self.old.channel.now self.old.pass }
         ensures empty { OnPending result (IfSome self.old.pass
             (λ p. Fitted P.holds (view p) [] false)) }
-        ensures value { IfReady result (Gives M.then E.then self.old.channel.now self.old.pass) }
+        ensures value { IfReady result
+            (Gives P.holds M.then E.then self.old.channel.now self.old.pass) }
         ensures again { OnPending result
             (MayPoll P.holds M.then E.then self.new.channel.now self.new.pass) }
         ensures same { OnPending result ((x : _)
-            → Gives M.then E.then self.new.channel.now self.new.pass x
-            → Gives M.then E.then self.old.channel.now self.old.pass x) }
-        ensures registered { OnPending result (Covers cx.new (λ _. ⊥)) }
+            → Gives P.holds M.then E.then self.new.channel.now self.new.pass x
+            → Gives P.holds M.then E.then self.old.channel.now self.old.pass x) }
+        ensures registered { OnPending result
+            (Covers cx.new (λ source. source ≡ self.new.channel.now.source.id)) }
+        ensures holds { OnPending result (IsSome self.new.ticket) }
         ensures kept { Keeps cx.old cx.new }
     {
-        let channel = self.channel;
-        let rt = self.rt;
-        let Some(pass) = self.pass.as_mut() else {
+        let Some(mut pass) = self.pass.take() else {
             unreachable!()
         };
-        match channel.try_recv_as::<M, E, Seen<P>, R>(rt, pass) {
-            Ok(message) => Poll::Ready((self.give(), Ok(message))),
-            Err(TryRecvError::Closed) => Poll::Ready((self.give(), Err(RecvError))),
-            Err(TryRecvError::Empty) => cx.yield_now(),
+        let (channel, ticket) = (self.channel, &mut self.ticket);
+        let waiter = &mut self.marker;
+        match channel.recv_or_wait::<M, E, R, _, _>(self.rt, &mut pass, ticket, waiter, cx) {
+            Ok(Ok(message)) => Poll::Ready((pass, Ok(Ok(message)))),
+            Ok(Err(TryRecvError::Closed)) => Poll::Ready((pass, Ok(Err(RecvError)))),
+            Ok(Err(TryRecvError::Empty)) => {
+                self.pass = Some(pass);
+                Poll::Pending
+            }
+            Err(refused) => Poll::Ready((pass, Err(refused))),
         }
     }
 }
 
-impl<T, V, P: Protocol<T, V>, M, E, R> Recv<'_, T, V, P, M, E, R> {
+impl<T: Drop, V, P: Protocol<T, V>, M, E, R: Wait> Recv<'_, T, V, P, M, E, R> {
     /// Gives the receive up. It took no message, and its pass is as it was; there is none after a
-    /// poll that was ready.
+    /// poll that was ready. A notice that it had goes on to the next one.
     ///
     /// ```
     /// let (channel, pass) = bounded_with::<u64, (), Unruled>(rt.alloc(), 1)?;
     /// let receive = channel.recv_as::<Unruled, Unruled, _>(&rt, pass);
     /// assert!(rt; receive.into_pass().is_some());
     /// ```
-    pub fn into_pass(self) -> Option<Pass<T, V>>
-        ensures { result ≡ self.entry.pass }
+    pub fn into_pass(mut self) -> Option<Pass<T, V>>
+        ensures { IsBack self.entry.channel.now self.entry.pass result }
     {
-        let Recv {
-            rt: _,
-            channel: _,
-            pass,
-            told: _,
-        } = self;
-        pass
+        self.leave()
     }
 
-    fn give(&mut self) -> Pass<T, V>
-        requires { IsSome self.old.pass }
-        ensures { self.old.pass ≡ Some result }
+    // Takes its entry out of the list, and gives its pass.
+    fn leave(&mut self) -> Option<Pass<T, V>>
+        ensures { IsBack self.old.channel.now self.old.pass result }
     {
-        let Some(pass) = self.pass.take() else {
-            unreachable!()
+        let Some(mut pass) = self.pass.take() else {
+            return None;
         };
-        pass
+        if self.ticket.is_some() {
+            self.channel
+                .give_up_recv(self.rt, &mut pass, &mut self.ticket);
+        }
+        Some(pass)
+    }
+}
+
+impl<T: Drop, V, P: Protocol<T, V>, M, E, R: Wait> Drop for Recv<'_, T, V, P, M, E, R> {
+    fn drop(mut self) {
+        let _pass = self.leave();
+        let Self {
+            rt: _,
+            channel: _,
+            pass: _,
+            ticket: _,
+            marker: _,
+            told: _,
+        } = self;
     }
 }

@@ -3,11 +3,12 @@
 //! A poll looks without a mark first. One that is ready needs none, nor memory for it; one that
 //! isn't has changed nothing. Then its mark is made, and left in the core's list under the same
 //! lock, so that whoever tells it finds it.
-ghost use Rattle.std.specs.Prelude.{◌≡◌, ◌⊎◌, [], false, IfOk, IfErr, OnErr};
+ghost use Rattle.std.specs.Prelude.{◌≡◌, ◌==◌, ◌⊎◌, [], false, IfOk, IfErr, IsSome, OnErr};
 ghost use Rattle.futures.specs.declared.task.Poll.TheVariants.{Pending};
 ghost use Rattle.channel_model.specs.Errors.{message_of};
-ghost use Rattle.channel_model.specs.Tables.{OnReady, OnWait, recv_poll, send_poll};
-ghost use Rattle.channel_core.specs.Channel.{GrowsWithMessages, RecvWaits, SendWaits, is_channel_full, oldest, polled_receive, polled_send};
+ghost use Rattle.channel_model.specs.Tables.{OnReady, OnWait, closed_poll, recv_poll, send_poll};
+ghost use Rattle.channel_core.specs.Channel.{ClosedWaits, GrowsWithMessages, RecvWaits, SendWaits, is_channel_full, oldest, polled_receive, polled_send};
+ghost use Rattle.channel_core.specs.Tickets.{left};
 ghost use Rattle.channel_wakers.specs.declared.mark.Mark.{Mark};
 ghost use Rattle.ruled_mutex.specs.Passes.{IsSamePass, view, number};
 ghost use Rattle.ruled_channel.specs.Rule.{Sends, Receives, Ends, Learns, Fitted};
@@ -82,6 +83,33 @@ impl<T: Drop, V, P: Protocol<T, V>> RuledChannel<T, V, P> {
     }
 }
 
+impl<T: Drop, V, P: Protocol<T, V>> RuledChannel<T, V, P> {
+    fn poll_closed<C, W: Waiter<C>, R: Wait>(
+        &self,
+        rt: &R,
+        core: &mut Core<T, Mark>,
+        ticket: &mut Option<Ticket>,
+        waiter: &mut W,
+        cx: &mut C,
+    ) -> Result<Poll<()>, OutOfMemory>
+        ensures reply { IfOk result (λ poll. poll ≡ closed_poll (core.old.receivers == 0)) }
+        ensures after { OnReady result (core.new ≡ record core.old {
+          closeds = left ticket.old core.old.closeds;
+        }) }
+        ensures waits { OnWait result ((w : Mark) × W.waits_by cx.new self.now.source.id w
+            × ClosedWaits ticket.old core.old w ticket.new core.new) }
+        ensures keeps { W.keeps cx.old cx.new }
+        ensures kept { core.new ≡ record core.old { closeds = core.new.closeds } }
+    {
+        let polled = core.poll_closed_with(ticket, &mut None, &mut None)?;
+        if let Poll::Ready(()) = polled {
+            return Ok(Poll::Ready(()));
+        }
+        let mark = waiter.mark(rt, self.alloc, &self.source, cx)?;
+        core.poll_closed(ticket, mark)
+    }
+}
+
 // ## With the lock
 impl<T: Drop, V, P: Protocol<T, V>> RuledChannel<T, V, P> {
     /// `try_send_as`, which leaves its mark in the list if the channel is full.
@@ -110,7 +138,7 @@ impl<T: Drop, V, P: Protocol<T, V>> RuledChannel<T, V, P> {
             (λ error. (message_of error ≡ message) × (view pass.new ≡ view pass.old)
             × Refuses P.fits (L.fact (view pass.old)) error)) }
         ensures waits { IfOk result (λ answer. IfErr answer (λ error. IfFull error
-            ((w : Mark) × W.waits_by cx.new self.now.source.id w))) }
+            ((w : Mark) × W.waits_by cx.new self.now.source.id w × IsSome ticket.new))) }
         ensures keeps { W.keeps cx.old cx.new }
         ensures memory { IfErr result
             (λ error. (error.0 ≡ message) × (view pass.new ≡ view pass.old)
@@ -165,7 +193,7 @@ impl<T: Drop, V, P: Protocol<T, V>> RuledChannel<T, V, P> {
             (λ error. FindsNone E.then (Fitted P.holds (view pass.old))
             (view pass.old) (view pass.new) error)) }
         ensures waits { IfOk result (λ answer. IfErr answer (λ error. IfEmpty error
-            ((w : Mark) × W.waits_by cx.new self.now.source.id w))) }
+            ((w : Mark) × W.waits_by cx.new self.now.source.id w × IsSome ticket.new))) }
         ensures keeps { W.keeps cx.old cx.new }
         ensures memory { OnErr result ((view pass.new ≡ view pass.old)
             × Fitted P.holds (view pass.old) [] false) }
@@ -190,6 +218,40 @@ impl<T: Drop, V, P: Protocol<T, V>> RuledChannel<T, V, P> {
                 core.cancel_recv(ticket, &mut bell);
                 self.give_back::<Kept<P, Seen<P>>, R>(pass, held, bell);
                 Err(OutOfMemory)
+            }
+        }
+    }
+
+    /// Whether no receiver is left. If one is, its mark is left in the list.
+    pub(crate) fn closed_or_wait<R, C, W>(
+        &self,
+        rt: &R,
+        pass: &mut Pass<T, V>,
+        ticket: &mut Option<Ticket>,
+        waiter: &mut W,
+        cx: &mut C,
+    ) -> Result<Poll<()>, OutOfMemory>
+    where
+        R: Wait,
+        W: Waiter<C>,
+        requires { IsPassOf self.now pass.old }
+        ensures own { IsPassOf self.now pass.new × IsSamePass pass.old pass.new }
+        ensures same { view pass.new ≡ view pass.old }
+        ensures waits { OnWait result ((w : Mark) × W.waits_by cx.new self.now.source.id w
+            × IsSome ticket.new) }
+        ensures keeps { W.keeps cx.old cx.new }
+    {
+        let held = self.mutex.lock(rt, pass);
+        let core = pass.value_mut(&self.mutex, &held);
+        match self.poll_closed(rt, core, ticket, waiter, cx) {
+            Ok(polled) => {
+                self.mutex.unlock_as::<Kept<P, Unruled>>(pass, held);
+                Ok(polled)
+            }
+            Err(refused) => {
+                core.cancel_closed(ticket);
+                self.mutex.unlock_as::<Kept<P, Unruled>>(pass, held);
+                Err(refused)
             }
         }
     }
@@ -228,5 +290,21 @@ impl<T: Drop, V, P: Protocol<T, V>> RuledChannel<T, V, P> {
         pass.value_mut(&self.mutex, &held)
             .cancel_recv(ticket, &mut bell);
         self.give_back::<Kept<P, Unruled>, R>(pass, held, bell);
+    }
+
+    /// Who waits for the last receiver waits no more.
+    pub(crate) fn give_up_closed<R: Wait>(
+        &self,
+        rt: &R,
+        pass: &mut Pass<T, V>,
+        ticket: &mut Option<Ticket>,
+    )
+        requires { IsPassOf self.now pass.old }
+        ensures own { IsPassOf self.now pass.new × IsSamePass pass.old pass.new }
+        ensures same { view pass.new ≡ view pass.old }
+    {
+        let held = self.mutex.lock(rt, pass);
+        pass.value_mut(&self.mutex, &held).cancel_closed(ticket);
+        self.mutex.unlock_as::<Kept<P, Unruled>>(pass, held);
     }
 }

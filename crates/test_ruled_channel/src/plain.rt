@@ -1,9 +1,12 @@
 //! Threads on a channel under the rule that asks nothing.
+ghost use Rattle.std.specs.Prelude.{IfOk};
 ghost use Rattle.ruled_channel.specs.Passes.{IsPassOf};
 
 use futures::executor::block_on;
-use ruled_channel::{Join, RecvError, RuledChannel, Split, TryRecvError, Unruled};
-use std::alloc::AllocGlobal;
+use ruled_channel::{
+    Join, RecvError, RuledChannel, SendError, Split, TryRecvError, Unruled, bounded_with,
+};
+use std::alloc::{AllocError, AllocGlobal, Global};
 use std::random::RandomSource;
 use std::sync::Wait;
 use std::thread::{Threads, join, yield_now};
@@ -25,6 +28,19 @@ impl Join<()> for Halves {
     ghost both = { λ v w. v };
 
     ghost spent = { tt };
+}
+
+/// A channel with one place, and three passes.
+pub fn channel_for_three(alloc: Global) -> Result<(Channel, Pass, Pass, Pass), AllocError>
+    ensures { IfOk result
+        (λ r. IsPassOf r.0 r.1 × IsPassOf r.0 r.2 × IsPassOf r.0 r.3) }
+{
+    let Ok((channel, mut pass)) = bounded_with::<u32, (), Unruled>(alloc, 1) else {
+        return Err(AllocError);
+    };
+    let other = channel.another::<Halves>(&mut pass);
+    let last = channel.another::<Halves>(&mut pass);
+    Ok((channel, pass, other, last))
 }
 
 /// What a receiver got: how many numbers, their sum, and whether each was greater than the one
@@ -243,8 +259,8 @@ where
     requires { IsPassOf channel.now pass }
 {
     match block_on(rt, channel.recv_as::<Unruled, Unruled, R>(rt, pass)) {
-        Ok((_pass, got)) => Some(got),
-        Err(_) => None,
+        Ok((_pass, Ok(got))) => Some(got),
+        _ => None,
     }
 }
 
@@ -277,6 +293,52 @@ where
         },
     );
     got
+}
+
+// Sends 2 in a task, and answers none if no executor can be made or memory was refused.
+fn send_in_a_task<R>(rt: &R, channel: &Channel, pass: Pass) -> Option<Result<(), SendError<u32>>>
+where
+    R: Wait + RandomSource + AllocGlobal,
+    requires { IsPassOf channel.now pass }
+{
+    match block_on(rt, channel.send_as::<Unruled, Unruled, R>(rt, pass, 2)) {
+        Ok((_pass, Ok(sent))) => Some(sent),
+        _ => None,
+    }
+}
+
+/// One thread sends 2 in a task, behind a 1, while another receives or closes: what became of the
+/// send.
+pub fn send_beside<R>(
+    rt: &R,
+    channel: &Channel,
+    mut pass: Pass,
+    receives: bool,
+) -> Option<Result<(), SendError<u32>>>
+where
+    R: Threads + Wait + Sync + RandomSource + AllocGlobal,
+    requires { IsPassOf channel.now pass }
+{
+    let mut other = channel.another::<Halves>(&mut pass);
+    let _sent = channel.try_send_as::<Unruled, Unruled, R>(rt, &mut other, 1);
+    let (sent, _) = join(
+        rt,
+        move || -> Option<Result<(), SendError<u32>>>
+            requires { IsPassOf channel.now pass }
+        { send_in_a_task(rt, channel, pass) },
+        move || -> bool
+            requires { IsPassOf channel.now other }
+        {
+            give_turns();
+            if receives {
+                let mut receives = other;
+                next(rt, channel, &mut receives, false).is_some()
+            } else {
+                close(rt, channel, other)
+            }
+        },
+    );
+    sent
 }
 
 /// Sends back each number that it receives.

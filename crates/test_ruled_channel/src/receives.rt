@@ -1,56 +1,42 @@
 //! A receive as a future, polled by hand and by an executor.
-ghost use Rattle.std.specs.Prelude.{IfOk};
-ghost use Rattle.ruled_channel.specs.Passes.{IsPassOf};
-
-use crate::plain::{Channel, Halves, Pass, receive_beside};
+use crate::plain::{channel_for_three, receive_beside};
 use futures::task::Poll;
 use futures::test::MockTask;
-use ruled_channel::{RecvError, Unruled, bounded_with};
-use std::alloc::AllocError;
+use ruled_channel::{RecvError, Unruled};
 use std::test::*;
-
-// A channel with one place, and two passes.
-fn channel_for_two(rt: &HostRuntime) -> Result<(Channel, Pass, Pass), Fail>
-    ensures { IfOk result (λ r. IsPassOf r.0 r.1 × IsPassOf r.0 r.2) }
-{
-    let Ok((channel, mut pass)) = bounded_with::<u32, (), Unruled>(rt.alloc(), 1) else {
-        return Err(AllocError.into());
-    };
-    let other = channel.another::<Halves>(&mut pass);
-    Ok((channel, pass, other))
-}
 
 #[test]
 fn a_receive_is_ready_at_once(rt: HostRuntime) -> Result<(), Fail> {
-    let (channel, mut pass, other) = channel_for_two(&rt)?;
+    let (channel, mut pass, other, _) = channel_for_three(rt.alloc())?;
     let task = MockTask::new(&rt)?;
     let sent = channel.try_send_as::<Unruled, Unruled, _>(&rt, &mut pass, 1);
     assert_eq!(rt; sent, Ok(Ok(())));
     let mut receive = channel.recv_as::<Unruled, Unruled, _>(&rt, other);
-    assert!(rt; matches!(task.poll(&mut receive), Poll::Ready((_, Ok(1)))));
+    assert!(rt; matches!(task.poll(&mut receive), Poll::Ready((_, Ok(Ok(1))))));
     assert!(rt; receive.into_pass().is_none());
     Ok(())
 }
 
 #[test]
-fn a_receive_that_waits_asks_for_another_poll(rt: HostRuntime) -> Result<(), Fail> {
-    let (channel, mut pass, other) = channel_for_two(&rt)?;
+fn a_receive_that_waits_is_woken_by_a_message(rt: HostRuntime) -> Result<(), Fail> {
+    let (channel, mut pass, other, _) = channel_for_three(rt.alloc())?;
     let task = MockTask::new(&rt)?;
     let mut receive = channel.recv_as::<Unruled, Unruled, _>(&rt, other);
     let Poll::Pending = task.poll(&mut receive) else {
         assert!(rt; false);
         return Ok(());
     };
-    assert!(rt; task.is_woken());
+    assert!(rt; !task.is_woken());
     let sent = channel.try_send_as::<Unruled, Unruled, _>(&rt, &mut pass, 1);
     assert_eq!(rt; sent, Ok(Ok(())));
-    assert!(rt; matches!(task.poll(&mut receive), Poll::Ready((_, Ok(1)))));
+    assert!(rt; task.is_woken());
+    assert!(rt; matches!(task.poll(&mut receive), Poll::Ready((_, Ok(Ok(1))))));
     Ok(())
 }
 
 #[test]
-fn a_receive_that_waits_finds_the_end(rt: HostRuntime) -> Result<(), Fail> {
-    let (channel, mut pass, other) = channel_for_two(&rt)?;
+fn a_receive_that_waits_is_woken_by_the_close(rt: HostRuntime) -> Result<(), Fail> {
+    let (channel, mut pass, other, _) = channel_for_three(rt.alloc())?;
     let task = MockTask::new(&rt)?;
     let mut receive = channel.recv_as::<Unruled, Unruled, _>(&rt, other);
     let Poll::Pending = task.poll(&mut receive) else {
@@ -58,13 +44,40 @@ fn a_receive_that_waits_finds_the_end(rt: HostRuntime) -> Result<(), Fail> {
         return Ok(());
     };
     assert!(rt; channel.close_as::<Unruled, _>(&rt, &mut pass));
-    assert!(rt; matches!(task.poll(&mut receive), Poll::Ready((_, Err(RecvError)))));
+    assert!(rt; task.is_woken());
+    assert!(rt;
+        matches!(
+            task.poll(&mut receive),
+            Poll::Ready((_, Ok(Err(RecvError))))
+        )
+    );
+    Ok(())
+}
+
+#[test]
+fn a_receive_woken_in_vain_waits_again(rt: HostRuntime) -> Result<(), Fail> {
+    let (channel, mut pass, other, _) = channel_for_three(rt.alloc())?;
+    let task = MockTask::new(&rt)?;
+    let mut receive = channel.recv_as::<Unruled, Unruled, _>(&rt, other);
+    for message in [1, 2] {
+        let Poll::Pending = task.poll(&mut receive) else {
+            assert!(rt; false);
+            return Ok(());
+        };
+        assert!(rt; !task.is_woken());
+        let sent = channel.try_send_as::<Unruled, Unruled, _>(&rt, &mut pass, message);
+        assert_eq!(rt; sent, Ok(Ok(())));
+        assert!(rt; task.is_woken());
+        let got = channel.try_recv_as::<Unruled, Unruled, Unruled, _>(&rt, &mut pass);
+        assert_eq!(rt; got, Ok(message));
+    }
+    assert!(rt; receive.into_pass().is_some());
     Ok(())
 }
 
 #[test]
 fn a_receive_given_up_unpolled_takes_nothing(rt: HostRuntime) -> Result<(), Fail> {
-    let (channel, mut pass, other) = channel_for_two(&rt)?;
+    let (channel, mut pass, other, _) = channel_for_three(rt.alloc())?;
     let sent = channel.try_send_as::<Unruled, Unruled, _>(&rt, &mut pass, 1);
     assert_eq!(rt; sent, Ok(Ok(())));
     let receive = channel.recv_as::<Unruled, Unruled, _>(&rt, other);
@@ -75,26 +88,60 @@ fn a_receive_given_up_unpolled_takes_nothing(rt: HostRuntime) -> Result<(), Fail
 }
 
 #[test]
-fn what_a_receive_given_up_was_told_of_goes_to_the_next(rt: HostRuntime) -> Result<(), Fail> {
-    let (channel, mut pass, other) = channel_for_two(&rt)?;
-    let task = MockTask::new(&rt)?;
+fn what_a_receive_was_told_of_goes_to_the_next(rt: HostRuntime) -> Result<(), Fail> {
+    for is_dropped in [false, true] {
+        let (channel, mut pass, other, last) = channel_for_three(rt.alloc())?;
+        let (task, next) = (MockTask::new(&rt)?, MockTask::new(&rt)?);
+        let mut receive = channel.recv_as::<Unruled, Unruled, _>(&rt, other);
+        let mut behind = channel.recv_as::<Unruled, Unruled, _>(&rt, last);
+        let Poll::Pending = task.poll(&mut receive) else {
+            assert!(rt; false);
+            return Ok(());
+        };
+        let Poll::Pending = next.poll(&mut behind) else {
+            assert!(rt; false);
+            return Ok(());
+        };
+        let sent = channel.try_send_as::<Unruled, Unruled, _>(&rt, &mut pass, 1);
+        assert_eq!(rt; sent, Ok(Ok(())));
+        assert!(rt; task.is_woken() && !next.is_woken());
+        if is_dropped {
+            drop(receive);
+        } else {
+            assert!(rt; receive.into_pass().is_some());
+        }
+        assert!(rt; next.is_woken());
+        assert!(rt; matches!(next.poll(&mut behind), Poll::Ready((_, Ok(Ok(1))))));
+    }
+    Ok(())
+}
+
+#[test]
+fn a_receive_given_up_untold_leaves_the_message_to_the_next(rt: HostRuntime) -> Result<(), Fail> {
+    let (channel, mut pass, other, last) = channel_for_three(rt.alloc())?;
+    let (task, next) = (MockTask::new(&rt)?, MockTask::new(&rt)?);
     let mut receive = channel.recv_as::<Unruled, Unruled, _>(&rt, other);
+    let mut behind = channel.recv_as::<Unruled, Unruled, _>(&rt, last);
     let Poll::Pending = task.poll(&mut receive) else {
         assert!(rt; false);
         return Ok(());
     };
+    let Poll::Pending = next.poll(&mut behind) else {
+        assert!(rt; false);
+        return Ok(());
+    };
+    drop(receive);
+    assert!(rt; !next.is_woken());
     let sent = channel.try_send_as::<Unruled, Unruled, _>(&rt, &mut pass, 1);
     assert_eq!(rt; sent, Ok(Ok(())));
-    assert!(rt; receive.into_pass().is_some());
-    let mut next = channel.recv_as::<Unruled, Unruled, _>(&rt, pass);
-    assert!(rt; matches!(task.poll(&mut next), Poll::Ready((_, Ok(1)))));
+    assert!(rt; next.is_woken());
     Ok(())
 }
 
 #[test]
 fn an_executor_waits_for_another_thread(rt: HostRuntime) -> Result<(), Fail> {
     for (sends, got) in [(true, Ok(1)), (false, Err(RecvError))] {
-        let (channel, pass, _other) = channel_for_two(&rt)?;
+        let (channel, pass, _, _) = channel_for_three(rt.alloc())?;
         assert_eq!(rt; receive_beside(&rt, &channel, pass, sends), Some(got));
     }
     Ok(())

@@ -14,4 +14,4 @@ pub give_back-requires-in-Err-clause-rule : goal.give_back-requires-in-Err-claus
 give_back-requires-in-Err-clause-rule g c = let same = c.lock-held.ensures.same in let shows = c.value_mut-core.ensures.value ∙ c.lock-held.ensures.held.1 in
     let here = c.in-Err in
     keeps c.value_mut-core.result.now c.cancel_recv.new.self g.P.Protocol.fits g.P.Protocol.holds (found c.lock-held.result) (Fitted g.P.Protocol.holds) _ _ _ _ same.0.1 same.1 shows
-        (gone_receives _ _ c.poll_recv.new.core _ here.ensures.unchanged c.cancel_recv.ensures.after) (λ messages closed views h at. (_, views, h, at))
+    (gone_receives _ _ c.poll_recv.new.core _ here.ensures.unchanged c.cancel_recv.ensures.after) (λ messages closed views h at. (_, views, h, at))

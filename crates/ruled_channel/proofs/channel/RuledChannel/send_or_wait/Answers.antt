@@ -18,4 +18,4 @@ pub give_back-requires-in-Err-clause-rule : goal.give_back-requires-in-Err-claus
 give_back-requires-in-Err-clause-rule g c = let same = c.lock-held.ensures.same in let shows = c.value_mut-core.ensures.value ∙ c.lock-held.ensures.held.1 in
     let here = c.in-Err in
     keeps c.value_mut-core.result.now c.cancel_send.new.self g.P.Protocol.fits g.P.Protocol.holds (found c.lock-held.result) g.L.Lesson.fact _ _ _ _ same.0.1 same.1 shows
-        (gone_sends _ _ c.poll_send.new.core _ here.ensures.unchanged.0 c.cancel_send.ensures.after) c.requires.lesson
+    (gone_sends _ _ c.poll_send.new.core _ here.ensures.unchanged.0 c.cancel_send.ensures.after) c.requires.lesson

@@ -1,0 +1,145 @@
+//! The wait for the last receiver, as a future.
+ghost use Rattle.std.specs.Prelude.{◌≡◌, IsSome, Some};
+ghost use Rattle.std.specs.Option.{ForSome};
+ghost use Rattle.futures.specs.Task.{Covers, Keeps};
+ghost use Rattle.futures.specs.Poll.{IfReady, OnPending};
+ghost use Rattle.ruled_channel.specs.Passes.{IsPassOf};
+ghost use Rattle.ruled_channel.specs.Receiving.{IsBack};
+ghost use Rattle.ruled_channel.specs.Closing.{MayWait, GivesBack};
+
+use crate::channel::{Pass, RuledChannel};
+use crate::protocol::Protocol;
+use channel_core::{OutOfMemory, Ticket};
+use channel_wakers::Marker;
+use futures::future::Future;
+use futures::task::{Context, Poll};
+use std::sync::Wait;
+
+/// A wait that owns its pass, until no receiver is left.
+///
+/// Dropping it takes its entry out of the channel's list, and the pass is dropped with it.
+/// `into_pass` does the same, and keeps the pass.
+///
+/// ```
+/// let (channel, pass) = bounded_with::<u64, (), Unruled>(rt.alloc(), 1)?;
+/// let closed: UntilClosed<'_, _, _, _, _> = channel.closed_as(&rt, pass);
+/// assert!(rt; closed.into_pass().is_some());
+/// ```
+pub struct UntilClosed<'a, T: Drop, V, P: Protocol<T, V>, R: Wait> {
+    rt: &'a R,
+    channel: &'a RuledChannel<T, V, P>,
+    // None, once a poll was ready.
+    pass: Option<Pass<T, V>>,
+    ticket: Option<Ticket>,
+    marker: Marker,
+    ghost owns: { ForSome pass (λ p. IsPassOf channel.now p) },
+}
+
+impl<T: Drop, V, P: Protocol<T, V>> RuledChannel<T, V, P> {
+    /// Waits, in a task, until all receivers were given up. A channel that is closed by hand, or by
+    /// its last sender, may still have some.
+    ///
+    /// It gives the pass, and with it [`OutOfMemory`] if memory was refused when it began to wait.
+    ///
+    /// ```
+    /// let (channel, mut pass) = bounded_with::<u64, (), Unruled>(rt.alloc(), 1)?;
+    /// assert!(rt; channel.drop_receiver_as::<Unruled, _>(&rt, &mut pass));
+    /// let (_, closed) = block_on(&rt, channel.closed_as(&rt, pass))?;
+    /// assert_eq!(rt; closed, Ok(()));
+    /// ```
+    pub fn closed_as<'a, R: Wait>(
+        &'a self,
+        rt: &'a R,
+        pass: Pass<T, V>,
+    ) -> UntilClosed<'a, T, V, P, R>
+        requires { IsPassOf self.now pass }
+        ensures { MayWait result.channel.now result.pass
+            × (result.pass ≡ Some pass) × (result.channel.now ≡ self.now) }
+    {
+        UntilClosed {
+            rt,
+            channel: self,
+            pass: Some(pass),
+            ticket: None,
+            marker: Marker::new(),
+        }
+    }
+}
+
+impl<T: Drop, V, P: Protocol<T, V>, R: Wait> Future for UntilClosed<'_, T, V, P, R> {
+    type Output = (Pass<T, V>, Result<(), OutOfMemory>);
+
+    ghost can_poll = { λ f. MayWait f.channel.now f.pass };
+
+    ghost needs = { λ f source. source ≡ f.channel.now.source.id };
+
+    ghost gives = { λ f. GivesBack f.channel.now f.pass };
+
+    fn poll(&mut self, cx: &mut Context<'_>) -> Poll<Self::Output>
+        requires { MayWait self.old.channel.now self.old.pass }
+        ensures value { IfReady result (GivesBack self.old.channel.now self.old.pass) }
+        ensures again { OnPending result (MayWait self.new.channel.now self.new.pass) }
+        ensures same { OnPending result ((x : _)
+            → GivesBack self.new.channel.now self.new.pass x
+            → GivesBack self.old.channel.now self.old.pass x) }
+        ensures registered { OnPending result
+            (Covers cx.new (λ source. source ≡ self.new.channel.now.source.id)) }
+        ensures holds { OnPending result (IsSome self.new.ticket) }
+        ensures kept { Keeps cx.old cx.new }
+    {
+        let Some(mut pass) = self.pass.take() else {
+            unreachable!()
+        };
+        let (channel, ticket) = (self.channel, &mut self.ticket);
+        match channel.closed_or_wait(self.rt, &mut pass, ticket, &mut self.marker, cx) {
+            Ok(Poll::Ready(())) => Poll::Ready((pass, Ok(()))),
+            Ok(Poll::Pending) => {
+                self.pass = Some(pass);
+                Poll::Pending
+            }
+            Err(refused) => Poll::Ready((pass, Err(refused))),
+        }
+    }
+}
+
+impl<T: Drop, V, P: Protocol<T, V>, R: Wait> UntilClosed<'_, T, V, P, R> {
+    /// Gives the wait up. Its pass is as it was; there is none after a poll that was ready.
+    ///
+    /// ```
+    /// let (channel, pass) = bounded_with::<u64, (), Unruled>(rt.alloc(), 1)?;
+    /// let closed = channel.closed_as(&rt, pass);
+    /// assert!(rt; closed.into_pass().is_some());
+    /// ```
+    pub fn into_pass(mut self) -> Option<Pass<T, V>>
+        ensures { IsBack self.entry.channel.now self.entry.pass result }
+    {
+        self.leave()
+    }
+
+    // Takes its entry out of the list, and gives its pass.
+    fn leave(&mut self) -> Option<Pass<T, V>>
+        ensures { IsBack self.old.channel.now self.old.pass result }
+    {
+        let Some(mut pass) = self.pass.take() else {
+            return None;
+        };
+        if self.ticket.is_some() {
+            self.channel
+                .give_up_closed(self.rt, &mut pass, &mut self.ticket);
+        }
+        Some(pass)
+    }
+}
+
+impl<T: Drop, V, P: Protocol<T, V>, R: Wait> Drop for UntilClosed<'_, T, V, P, R> {
+    fn drop(mut self) {
+        let _pass = self.leave();
+        let Self {
+            rt: _,
+            channel: _,
+            pass: _,
+            ticket: _,
+            marker: _,
+        } = self;
+    }
+}

@@ -1,0 +1,112 @@
+//! Senders and receivers, counted by calls.
+//!
+//! A new channel counts one sender and one receiver, and the last of either that is given up closes
+//! it. They are counted by calls: a pass that is dropped closes nothing, since a drop can't ask for
+//! a proof that the rule allows the closing.
+ghost use Rattle.std.specs.Prelude.{◌≡◌, true};
+ghost use Rattle.std.specs.Bool.{OnTrue, OnFalse};
+ghost use Rattle.ruled_mutex.specs.Passes.{IsSamePass, view, number};
+ghost use Rattle.ruled_channel.specs.Rule.{Closes};
+ghost use Rattle.ruled_channel.specs.Passes.{IsPassOf};
+
+use crate::channel::{Pass, RuledChannel};
+use crate::outcomes::{Closed, Kept, Shut};
+use crate::protocol::Protocol;
+use channel_wakers::Ringer;
+use ruled_mutex::Unruled;
+use std::sync::Wait;
+
+impl<T: Drop, V, P: Protocol<T, V>> RuledChannel<T, V, P> {
+    /// Counts one more sender, and answers whether it is counted: not if all were given up, or if
+    /// there are more of them than half of what a `usize` can count.
+    ///
+    /// ```
+    /// let (channel, mut pass) = bounded_with::<u64, (), Unruled>(rt.alloc(), 1)?;
+    /// assert!(rt; channel.add_sender(&rt, &mut pass));
+    /// assert!(rt; !channel.drop_sender_as::<Unruled, _>(&rt, &mut pass));
+    /// assert!(rt; channel.drop_sender_as::<Unruled, _>(&rt, &mut pass));
+    /// ```
+    pub fn add_sender<R: Wait>(&self, rt: &R, pass: &mut Pass<T, V>) -> bool
+        requires { IsPassOf self.now pass.old }
+        ensures own { IsPassOf self.now pass.new × IsSamePass pass.old pass.new }
+        ensures same { view pass.new ≡ view pass.old }
+    {
+        let held = self.mutex.lock(rt, pass);
+        let is_counted = pass.value_mut(&self.mutex, &held).add_sender();
+        self.mutex.unlock_as::<Kept<P, Unruled>>(pass, held);
+        is_counted
+    }
+
+    /// Counts one more receiver, and answers whether it is counted: not if all were given up, or if
+    /// there are more of them than half of what a `usize` can count.
+    ///
+    /// ```
+    /// let (channel, mut pass) = bounded_with::<u64, (), Unruled>(rt.alloc(), 1)?;
+    /// assert!(rt; channel.add_receiver(&rt, &mut pass));
+    /// assert!(rt; !channel.drop_receiver_as::<Unruled, _>(&rt, &mut pass));
+    /// assert!(rt; channel.drop_receiver_as::<Unruled, _>(&rt, &mut pass));
+    /// ```
+    pub fn add_receiver<R: Wait>(&self, rt: &R, pass: &mut Pass<T, V>) -> bool
+        requires { IsPassOf self.now pass.old }
+        ensures own { IsPassOf self.now pass.new × IsSamePass pass.old pass.new }
+        ensures same { view pass.new ≡ view pass.old }
+    {
+        let held = self.mutex.lock(rt, pass);
+        let is_counted = pass.value_mut(&self.mutex, &held).add_receiver();
+        self.mutex.unlock_as::<Kept<P, Unruled>>(pass, held);
+        is_counted
+    }
+
+    /// Gives up one sender, and answers whether it was the last one and so closed the channel.
+    ///
+    /// ```
+    /// let (channel, mut pass) = bounded_with::<u64, (), Unruled>(rt.alloc(), 1)?;
+    /// assert!(rt; channel.drop_sender_as::<Unruled, _>(&rt, &mut pass));
+    /// let sent = channel.try_send_as::<Unruled, Unruled, _>(&rt, &mut pass, 5)?;
+    /// assert_eq!(rt; sent, Err(TrySendError::Closed(5)));
+    /// ```
+    pub fn drop_sender_as<M: Closed<V>, R: Wait>(&self, rt: &R, pass: &mut Pass<T, V>) -> bool
+        requires own { IsPassOf self.now pass.old }
+        requires rule { Closes P.holds (number pass.old) (view pass.old) M.then }
+        ensures own { IsPassOf self.now pass.new × IsSamePass pass.old pass.new }
+        ensures closed { OnTrue result (M.then (view pass.old) true (view pass.new)) }
+        ensures same { OnFalse result (view pass.new ≡ view pass.old) }
+    {
+        let held = self.mutex.lock(rt, pass);
+        let mut bell = Ringer::new(rt);
+        let has_closed = pass.value_mut(&self.mutex, &held).drop_sender(&mut bell);
+        if has_closed {
+            self.give_back::<Shut<M>, R>(pass, held, bell);
+        } else {
+            self.give_back::<Kept<P, Unruled>, R>(pass, held, bell);
+        }
+        has_closed
+    }
+
+    /// Gives up one receiver, and answers whether it was the last one and so closed the channel.
+    /// The last one also ends the wait of each `closed_as`.
+    ///
+    /// ```
+    /// let (channel, mut pass) = bounded_with::<u64, (), Unruled>(rt.alloc(), 1)?;
+    /// assert!(rt; channel.drop_receiver_as::<Unruled, _>(&rt, &mut pass));
+    /// assert!(rt; !channel.close_as::<Unruled, _>(&rt, &mut pass));
+    /// ```
+    pub fn drop_receiver_as<M: Closed<V>, R: Wait>(&self, rt: &R, pass: &mut Pass<T, V>) -> bool
+        requires own { IsPassOf self.now pass.old }
+        requires rule { Closes P.holds (number pass.old) (view pass.old) M.then }
+        ensures own { IsPassOf self.now pass.new × IsSamePass pass.old pass.new }
+        ensures closed { OnTrue result (M.then (view pass.old) true (view pass.new)) }
+        ensures same { OnFalse result (view pass.new ≡ view pass.old) }
+    {
+        let held = self.mutex.lock(rt, pass);
+        let mut bell = Ringer::new(rt);
+        let core = pass.value_mut(&self.mutex, &held);
+        let has_closed = core.drop_receiver(&mut None, &mut bell);
+        if has_closed {
+            self.give_back::<Shut<M>, R>(pass, held, bell);
+        } else {
+            self.give_back::<Kept<P, Unruled>, R>(pass, held, bell);
+        }
+        has_closed
+    }
+}

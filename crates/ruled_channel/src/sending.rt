@@ -1,0 +1,167 @@
+//! A send as a future.
+ghost use Rattle.std.specs.Prelude.{◌≡◌, false, IfSome, IsSome, Some};
+ghost use Rattle.std.specs.Option.{ForSome};
+ghost use Rattle.futures.specs.Task.{Covers, Keeps};
+ghost use Rattle.futures.specs.Poll.{IfReady, OnPending};
+ghost use Rattle.ruled_mutex.specs.Passes.{view, number};
+ghost use Rattle.ruled_channel.specs.Rule.{Sends, Learns};
+ghost use Rattle.ruled_channel.specs.Passes.{IsPassOf, IsFullAt};
+ghost use Rattle.ruled_channel.specs.Sending.{MaySend, GivesSent, AreBack};
+
+use crate::channel::{Pass, RuledChannel};
+use crate::outcomes::{Lesson, Sent};
+use crate::protocol::Protocol;
+use channel_core::{NoMemory, SendError, Ticket, TrySendError};
+use channel_wakers::Marker;
+use futures::future::Future;
+use futures::task::{Context, Poll};
+use std::marker::PhantomData;
+use std::sync::Wait;
+
+/// A send that owns its pass and its message, and gives the pass back with its answer.
+///
+/// While it waits, its entry is in the channel's list. Dropping it takes the entry out, and a
+/// notice that it had goes on to the next one; the pass and the message are dropped with it.
+/// `into_parts` does the same, and keeps both.
+///
+/// ```
+/// let (channel, pass) = bounded_with::<u64, (), Unruled>(rt.alloc(), 1)?;
+/// let send: Send<'_, _, _, _, _, _, _> = channel.send_as::<Unruled, Unruled, _>(&rt, pass, 5);
+/// assert!(rt; send.into_parts().is_some());
+/// ```
+pub struct Send<'a, T: Drop, V, P: Protocol<T, V>, M, L, R: Wait> {
+    rt: &'a R,
+    channel: &'a RuledChannel<T, V, P>,
+    // None, once a poll was ready.
+    parts: Option<(Pass<T, V>, T)>,
+    ticket: Option<Ticket>,
+    marker: Marker,
+    told: PhantomData<(M, L)>,
+    ghost owns: { ForSome parts (λ h. IsPassOf channel.now h.0) },
+}
+
+impl<T: Drop, V, P: Protocol<T, V>> RuledChannel<T, V, P> {
+    /// Puts a message last, in a task, which sleeps while the channel is full and open. The step of
+    /// the rule is made by the poll that is ready.
+    ///
+    /// It gives the pass, and with it the message in a [`SendError`] if the channel is closed, or
+    /// in a [`NoMemory`] if memory was refused: to an unbounded channel, or when it began to wait.
+    /// Then it waits no more.
+    ///
+    /// ```
+    /// let (channel, pass) = bounded_with::<u64, (), Unruled>(rt.alloc(), 1)?;
+    /// let (mut pass, sent) = block_on(&rt, channel.send_as::<Unruled, Unruled, _>(&rt, pass, 5))?;
+    /// assert_eq!(rt; sent, Ok(Ok(())));
+    /// let got = channel.try_recv_as::<Unruled, Unruled, Unruled, _>(&rt, &mut pass);
+    /// assert_eq!(rt; got, Ok(5));
+    /// ```
+    pub fn send_as<'a, M: Sent<T, V>, L: Lesson<T, V>, R: Wait>(
+        &'a self,
+        rt: &'a R,
+        pass: Pass<T, V>,
+        message: T,
+    ) -> Send<'a, T, V, P, M, L, R>
+        requires own { IsPassOf self.now pass }
+        requires rule { Sends P.fits P.holds (number pass) (view pass) message M.then }
+        requires lesson { Learns P.holds (number pass) (view pass) (L.fact (view pass)) }
+        ensures { MaySend P.fits P.holds M.then L.fact result.channel.now result.parts
+            × (result.parts ≡ Some (pass, message)) × (result.channel.now ≡ self.now) }
+    {
+        Send {
+            rt,
+            channel: self,
+            parts: Some((pass, message)),
+            ticket: None,
+            marker: Marker::new(),
+            told: PhantomData,
+        }
+    }
+}
+
+impl<T: Drop, V, P: Protocol<T, V>, M: Sent<T, V>, L: Lesson<T, V>, R: Wait> Future
+    for Send<'_, T, V, P, M, L, R> {
+    type Output = (Pass<T, V>, Result<Result<(), SendError<T>>, NoMemory<T>>);
+
+    ghost can_poll = { λ f. MaySend P.fits P.holds M.then L.fact f.channel.now f.parts };
+
+    ghost needs = { λ f source. source ≡ f.channel.now.source.id };
+
+    ghost gives = { λ f. GivesSent P.fits M.then L.fact f.channel.now f.parts };
+
+    fn poll(&mut self, cx: &mut Context<'_>) -> Poll<Self::Output>
+        requires { MaySend P.fits P.holds M.then L.fact self.old.channel.now self.old.parts }
+        ensures full { OnPending result (IfSome self.old.parts
+            (λ h. IsFullAt P.fits (L.fact (view h.0)))) }
+        ensures value { IfReady result
+            (GivesSent P.fits M.then L.fact self.old.channel.now self.old.parts) }
+        ensures again { OnPending result
+            (MaySend P.fits P.holds M.then L.fact self.new.channel.now self.new.parts) }
+        ensures same { OnPending result ((x : _)
+            → GivesSent P.fits M.then L.fact self.new.channel.now self.new.parts x
+            → GivesSent P.fits M.then L.fact self.old.channel.now self.old.parts x) }
+        ensures registered { OnPending result
+            (Covers cx.new (λ source. source ≡ self.new.channel.now.source.id)) }
+        ensures holds { OnPending result (IsSome self.new.ticket) }
+        ensures kept { Keeps cx.old cx.new }
+    {
+        let Some((mut pass, message)) = self.parts.take() else {
+            unreachable!()
+        };
+        let (channel, t) = (self.channel, &mut self.ticket);
+        let waiter = &mut self.marker;
+        match channel.send_or_wait::<M, L, R, _, _>(self.rt, &mut pass, message, t, waiter, cx) {
+            Ok(Ok(())) => Poll::Ready((pass, Ok(Ok(())))),
+            Ok(Err(TrySendError::Closed(back))) => Poll::Ready((pass, Ok(Err(SendError(back))))),
+            Ok(Err(TrySendError::Full(back))) => {
+                self.parts = Some((pass, back));
+                Poll::Pending
+            }
+            Err(refused) => Poll::Ready((pass, Err(refused))),
+        }
+    }
+}
+
+impl<T: Drop, V, P: Protocol<T, V>, M, L, R: Wait> Send<'_, T, V, P, M, L, R> {
+    /// Gives the send up. Its message was not sent, and comes back with its pass, which is as it
+    /// was; there are none after a poll that was ready. A notice that it had goes on to the next
+    /// one.
+    ///
+    /// ```
+    /// let (channel, pass) = bounded_with::<u64, (), Unruled>(rt.alloc(), 1)?;
+    /// let send = channel.send_as::<Unruled, Unruled, _>(&rt, pass, 5);
+    /// assert!(rt; matches!(send.into_parts(), Some((_, 5))));
+    /// ```
+    pub fn into_parts(mut self) -> Option<(Pass<T, V>, T)>
+        ensures { AreBack self.entry.channel.now self.entry.parts result }
+    {
+        self.leave()
+    }
+
+    // Takes its entry out of the list, and gives its pass and its message.
+    fn leave(&mut self) -> Option<(Pass<T, V>, T)>
+        ensures { AreBack self.old.channel.now self.old.parts result }
+    {
+        let Some((mut pass, message)) = self.parts.take() else {
+            return None;
+        };
+        if self.ticket.is_some() {
+            self.channel
+                .give_up_send(self.rt, &mut pass, &mut self.ticket);
+        }
+        Some((pass, message))
+    }
+}
+
+impl<T: Drop, V, P: Protocol<T, V>, M, L, R: Wait> Drop for Send<'_, T, V, P, M, L, R> {
+    fn drop(mut self) {
+        let _parts = self.leave();
+        let Self {
+            rt: _,
+            channel: _,
+            parts: _,
+            ticket: _,
+            marker: _,
+            told: _,
+        } = self;
+    }
+}

@@ -1,0 +1,97 @@
+//! Senders and receivers that are counted, and the wait for the last receiver.
+use crate::plain::channel_for_three;
+use futures::task::Poll;
+use futures::test::MockTask;
+use ruled_channel::{RecvError, TryRecvError, TrySendError, Unruled};
+use std::test::*;
+
+#[test]
+fn the_last_sender_closes(rt: HostRuntime) -> Result<(), Fail> {
+    let (channel, mut pass, other, _) = channel_for_three(rt.alloc())?;
+    let task = MockTask::new(&rt)?;
+    let p = &mut pass;
+    assert!(rt; channel.add_sender(&rt, p));
+    assert!(rt; !channel.drop_sender_as::<Unruled, _>(&rt, p));
+    assert_eq!(rt;
+        channel.try_recv_as::<Unruled, Unruled, Unruled, _>(&rt, p),
+        Err(TryRecvError::Empty)
+    );
+    let mut receive = channel.recv_as::<Unruled, Unruled, _>(&rt, other);
+    let Poll::Pending = task.poll(&mut receive) else {
+        assert!(rt; false);
+        return Ok(());
+    };
+    assert!(rt; channel.drop_sender_as::<Unruled, _>(&rt, p));
+    assert!(rt; task.is_woken());
+    assert!(rt;
+        matches!(
+            task.poll(&mut receive),
+            Poll::Ready((_, Ok(Err(RecvError))))
+        )
+    );
+    assert!(rt; !channel.drop_sender_as::<Unruled, _>(&rt, p));
+    assert!(rt; !channel.add_sender(&rt, p));
+    Ok(())
+}
+
+#[test]
+fn the_last_receiver_closes(rt: HostRuntime) -> Result<(), Fail> {
+    let (channel, mut pass, other, _) = channel_for_three(rt.alloc())?;
+    let task = MockTask::new(&rt)?;
+    let p = &mut pass;
+    assert!(rt; channel.add_receiver(&rt, p));
+    let mut closed = channel.closed_as(&rt, other);
+    let Poll::Pending = task.poll(&mut closed) else {
+        assert!(rt; false);
+        return Ok(());
+    };
+    assert!(rt; !channel.drop_receiver_as::<Unruled, _>(&rt, p));
+    assert!(rt; !task.is_woken());
+    assert!(rt; channel.drop_receiver_as::<Unruled, _>(&rt, p));
+    assert!(rt; task.is_woken());
+    assert!(rt; matches!(task.poll(&mut closed), Poll::Ready((_, Ok(())))));
+    let refused = channel.try_send_as::<Unruled, Unruled, _>(&rt, p, 1);
+    assert_eq!(rt; refused, Ok(Err(TrySendError::Closed(1))));
+    assert!(rt; !channel.add_receiver(&rt, p));
+    Ok(())
+}
+
+#[test]
+fn a_channel_closed_by_hand_has_its_receivers(rt: HostRuntime) -> Result<(), Fail> {
+    let (channel, mut pass, other, _) = channel_for_three(rt.alloc())?;
+    let task = MockTask::new(&rt)?;
+    let p = &mut pass;
+    assert!(rt; channel.close_as::<Unruled, _>(&rt, p));
+    let mut closed = channel.closed_as(&rt, other);
+    let Poll::Pending = task.poll(&mut closed) else {
+        assert!(rt; false);
+        return Ok(());
+    };
+    assert!(rt; !channel.drop_receiver_as::<Unruled, _>(&rt, p));
+    assert!(rt; task.is_woken());
+    assert!(rt; matches!(task.poll(&mut closed), Poll::Ready((_, Ok(())))));
+    assert!(rt; closed.into_pass().is_none());
+    Ok(())
+}
+
+#[test]
+fn a_wait_given_up_leaves_the_others(rt: HostRuntime) -> Result<(), Fail> {
+    let (channel, mut pass, other, last) = channel_for_three(rt.alloc())?;
+    let (task, next) = (MockTask::new(&rt)?, MockTask::new(&rt)?);
+    let mut closed = channel.closed_as(&rt, other);
+    let mut behind = channel.closed_as(&rt, last);
+    let Poll::Pending = task.poll(&mut closed) else {
+        assert!(rt; false);
+        return Ok(());
+    };
+    let Poll::Pending = next.poll(&mut behind) else {
+        assert!(rt; false);
+        return Ok(());
+    };
+    assert!(rt; closed.into_pass().is_some());
+    assert!(rt; !next.is_woken());
+    assert!(rt; channel.drop_receiver_as::<Unruled, _>(&rt, &mut pass));
+    assert!(rt; next.is_woken());
+    assert!(rt; matches!(next.poll(&mut behind), Poll::Ready((_, Ok(())))));
+    Ok(())
+}
