@@ -3,7 +3,8 @@
 //! A poll looks without a mark first. One that is ready needs none, nor memory for it; one that
 //! isn't has changed nothing. Then its mark is made, and left in the core's list under the same
 //! lock, so that whoever tells it finds it.
-ghost use Rattle.std.specs.Prelude.{◌≡◌, ◌==◌, ◌⊎◌, [], false, IfOk, IfErr, IsSome, OnErr};
+ghost use Rattle.std.specs.Prelude.{◌≡◌, ◌==◌, ◌⊎◌, [], ◌∷◌, ◌++◌, false, IfOk, IfErr, IsSome, OnErr};
+ghost use Rattle.event_list.specs.Waiting.{RingsEach};
 ghost use Rattle.futures.specs.declared.task.Poll.TheVariants.{Pending};
 ghost use Rattle.channel_model.specs.Errors.{message_of};
 ghost use Rattle.channel_model.specs.Tables.{OnReady, OnWait, closed_poll, recv_poll, send_poll};
@@ -38,6 +39,8 @@ impl<T: Drop, V, P: Protocol<T, V>> RuledChannel<T, V, P> {
         ensures reply { IfOk result (λ poll. poll ≡ recv_poll (oldest core.old) core.old.closed) }
         ensures after { OnReady result
             (core.new ≡ (polled_receive ticket.old core.old).channel) }
+        ensures rung { OnReady result (RingsEach (λ before mark after. after ≡ before ++ mark ∷ [])
+            bell.old (polled_receive ticket.old core.old).rung bell.new) }
         ensures waits { OnWait result ((w : Mark) × W.waits_by cx.new self.now.source.id w
             × RecvWaits ticket.old core.old w ticket.new core.new) }
         ensures keeps { W.keeps cx.old cx.new }
@@ -65,6 +68,8 @@ impl<T: Drop, V, P: Protocol<T, V>> RuledChannel<T, V, P> {
             (λ poll. poll ≡ send_poll message.old core.old.closed (is_channel_full core.old)) }
         ensures after { OnReady result
             (core.new ≡ (polled_send message.old ticket.old core.old).channel) }
+        ensures rung { OnReady result (RingsEach (λ before mark after. after ≡ before ++ mark ∷ [])
+            bell.old (polled_send message.old ticket.old core.old).rung bell.new) }
         ensures waits { OnWait result ((w : Mark) × W.waits_by cx.new self.now.source.id w
             × SendWaits message.old ticket.old core.old w ticket.new core.new) }
         ensures kept { OnWait result (message.new ≡ message.old) }
