@@ -22,12 +22,12 @@ use std::sync::Wait;
 ///
 /// ```
 /// let (channel, pass) = bounded_with::<u64, (), Unruled>(rt.alloc(), 1)?;
-/// let closed: UntilClosed<'_, _, _, _, _> = channel.closed_as(&rt, pass);
+/// let closed: UntilClosed<'_, '_, _, _, _, _> = channel.closed_as(&rt, pass);
 /// assert!(rt; closed.into_pass().is_some());
 /// ```
-pub struct UntilClosed<'a, T: Drop, V, P: Protocol<T, V>, R: Wait> {
-    rt: &'a R,
-    channel: &'a RuledChannel<T, V, P>,
+pub struct UntilClosed<'r, 'c, T: Drop, V, P: Protocol<T, V>, R: Wait> {
+    rt: &'r R,
+    channel: &'c RuledChannel<T, V, P>,
     // None, once a poll was ready.
     pass: Option<Pass<T, V>>,
     ticket: Option<Ticket>,
@@ -47,11 +47,11 @@ impl<T: Drop, V, P: Protocol<T, V>> RuledChannel<T, V, P> {
     /// let (_, closed) = block_on(&rt, channel.closed_as(&rt, pass))?;
     /// assert_eq!(rt; closed, Ok(()));
     /// ```
-    pub fn closed_as<'a, R: Wait>(
-        &'a self,
-        rt: &'a R,
+    pub fn closed_as<'r, 'c, R: Wait>(
+        &'c self,
+        rt: &'r R,
         pass: Pass<T, V>,
-    ) -> UntilClosed<'a, T, V, P, R>
+    ) -> UntilClosed<'r, 'c, T, V, P, R>
         requires { IsPassOf self.now pass }
         ensures { MayWait result.channel.now result.pass
             × (result.pass ≡ Some pass) × (result.channel.now ≡ self.now) }
@@ -66,7 +66,7 @@ impl<T: Drop, V, P: Protocol<T, V>> RuledChannel<T, V, P> {
     }
 }
 
-impl<T: Drop, V, P: Protocol<T, V>, R: Wait> Future for UntilClosed<'_, T, V, P, R> {
+impl<T: Drop, V, P: Protocol<T, V>, R: Wait> Future for UntilClosed<'_, '_, T, V, P, R> {
     type Output = (Pass<T, V>, Result<(), OutOfMemory>);
 
     ghost can_poll = { λ f. MayWait f.channel.now f.pass };
@@ -102,7 +102,7 @@ impl<T: Drop, V, P: Protocol<T, V>, R: Wait> Future for UntilClosed<'_, T, V, P,
     }
 }
 
-impl<T: Drop, V, P: Protocol<T, V>, R: Wait> UntilClosed<'_, T, V, P, R> {
+impl<T: Drop, V, P: Protocol<T, V>, R: Wait> UntilClosed<'_, '_, T, V, P, R> {
     /// Gives the wait up. Its pass is as it was; there is none after a poll that was ready.
     ///
     /// ```
@@ -131,7 +131,7 @@ impl<T: Drop, V, P: Protocol<T, V>, R: Wait> UntilClosed<'_, T, V, P, R> {
     }
 }
 
-impl<T: Drop, V, P: Protocol<T, V>, R: Wait> Drop for UntilClosed<'_, T, V, P, R> {
+impl<T: Drop, V, P: Protocol<T, V>, R: Wait> Drop for UntilClosed<'_, '_, T, V, P, R> {
     fn drop(mut self) {
         let _pass = self.leave();
         let Self {

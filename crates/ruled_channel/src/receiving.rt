@@ -26,12 +26,12 @@ use std::sync::Wait;
 ///
 /// ```
 /// let (channel, pass) = bounded_with::<u64, (), Unruled>(rt.alloc(), 1)?;
-/// let receive: Recv<'_, _, _, _, _, _, _> = channel.recv_as::<Unruled, Unruled, _>(&rt, pass);
+/// let receive: Recv<'_, '_, _, _, _, _, _, _> = channel.recv_as::<Unruled, Unruled, _>(&rt, pass);
 /// assert!(rt; receive.into_pass().is_some());
 /// ```
-pub struct Recv<'a, T: Drop, V, P: Protocol<T, V>, M, E, R: Wait> {
-    rt: &'a R,
-    channel: &'a RuledChannel<T, V, P>,
+pub struct Recv<'r, 'c, T: Drop, V, P: Protocol<T, V>, M, E, R: Wait> {
+    rt: &'r R,
+    channel: &'c RuledChannel<T, V, P>,
     // None, once a poll was ready.
     pass: Option<Pass<T, V>>,
     ticket: Option<Ticket>,
@@ -54,11 +54,11 @@ impl<T: Drop, V, P: Protocol<T, V>> RuledChannel<T, V, P> {
     /// let (_, got) = block_on(&rt, channel.recv_as::<Unruled, Unruled, _>(&rt, pass))?;
     /// assert_eq!(rt; got, Ok(Ok(5)));
     /// ```
-    pub fn recv_as<'a, M: Received<T, V>, E: AtEnd<V>, R: Wait>(
-        &'a self,
-        rt: &'a R,
+    pub fn recv_as<'r, 'c, M: Received<T, V>, E: AtEnd<V>, R: Wait>(
+        &'c self,
+        rt: &'r R,
         pass: Pass<T, V>,
-    ) -> Recv<'a, T, V, P, M, E, R>
+    ) -> Recv<'r, 'c, T, V, P, M, E, R>
         requires own { IsPassOf self.now pass }
         requires rule { Receives P.holds (number pass) (view pass) M.then }
         requires end { Ends P.holds (number pass) (view pass) E.then }
@@ -77,7 +77,7 @@ impl<T: Drop, V, P: Protocol<T, V>> RuledChannel<T, V, P> {
 }
 
 impl<T: Drop, V, P: Protocol<T, V>, M: Received<T, V>, E: AtEnd<V>, R: Wait> Future
-    for Recv<'_, T, V, P, M, E, R> {
+    for Recv<'_, '_, T, V, P, M, E, R> {
     type Output = (Pass<T, V>, Result<Result<T, RecvError>, OutOfMemory>);
 
     ghost can_poll = { λ f. MayPoll P.holds M.then E.then f.channel.now f.pass };
@@ -119,7 +119,7 @@ impl<T: Drop, V, P: Protocol<T, V>, M: Received<T, V>, E: AtEnd<V>, R: Wait> Fut
     }
 }
 
-impl<T: Drop, V, P: Protocol<T, V>, M, E, R: Wait> Recv<'_, T, V, P, M, E, R> {
+impl<T: Drop, V, P: Protocol<T, V>, M, E, R: Wait> Recv<'_, '_, T, V, P, M, E, R> {
     /// Gives the receive up. It took no message, and its pass is as it was; there is none after a
     /// poll that was ready. A notice that it had goes on to the next one.
     ///
@@ -149,7 +149,7 @@ impl<T: Drop, V, P: Protocol<T, V>, M, E, R: Wait> Recv<'_, T, V, P, M, E, R> {
     }
 }
 
-impl<T: Drop, V, P: Protocol<T, V>, M, E, R: Wait> Drop for Recv<'_, T, V, P, M, E, R> {
+impl<T: Drop, V, P: Protocol<T, V>, M, E, R: Wait> Drop for Recv<'_, '_, T, V, P, M, E, R> {
     fn drop(mut self) {
         let _pass = self.leave();
         let Self {

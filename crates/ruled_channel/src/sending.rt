@@ -26,12 +26,12 @@ use std::sync::Wait;
 ///
 /// ```
 /// let (channel, pass) = bounded_with::<u64, (), Unruled>(rt.alloc(), 1)?;
-/// let send: Send<'_, _, _, _, _, _, _> = channel.send_as::<Unruled, Unruled, _>(&rt, pass, 5);
+/// let send: Send<'_, '_, _, _, _, _, _, _> = channel.send_as::<Unruled, Unruled, _>(&rt, pass, 5);
 /// assert!(rt; send.into_parts().is_some());
 /// ```
-pub struct Send<'a, T: Drop, V, P: Protocol<T, V>, M, L, R: Wait> {
-    rt: &'a R,
-    channel: &'a RuledChannel<T, V, P>,
+pub struct Send<'r, 'c, T: Drop, V, P: Protocol<T, V>, M, L, R: Wait> {
+    rt: &'r R,
+    channel: &'c RuledChannel<T, V, P>,
     // None, once a poll was ready.
     parts: Option<(Pass<T, V>, T)>,
     ticket: Option<Ticket>,
@@ -55,12 +55,12 @@ impl<T: Drop, V, P: Protocol<T, V>> RuledChannel<T, V, P> {
     /// let got = channel.try_recv_as::<Unruled, Unruled, Unruled, _>(&rt, &mut pass);
     /// assert_eq!(rt; got, Ok(5));
     /// ```
-    pub fn send_as<'a, M: Sent<T, V>, L: Lesson<T, V>, R: Wait>(
-        &'a self,
-        rt: &'a R,
+    pub fn send_as<'r, 'c, M: Sent<T, V>, L: Lesson<T, V>, R: Wait>(
+        &'c self,
+        rt: &'r R,
         pass: Pass<T, V>,
         message: T,
-    ) -> Send<'a, T, V, P, M, L, R>
+    ) -> Send<'r, 'c, T, V, P, M, L, R>
         requires own { IsPassOf self.now pass }
         requires rule { Sends P.fits P.holds (number pass) (view pass) message M.then }
         requires lesson { Learns P.holds (number pass) (view pass) (L.fact (view pass)) }
@@ -79,7 +79,7 @@ impl<T: Drop, V, P: Protocol<T, V>> RuledChannel<T, V, P> {
 }
 
 impl<T: Drop, V, P: Protocol<T, V>, M: Sent<T, V>, L: Lesson<T, V>, R: Wait> Future
-    for Send<'_, T, V, P, M, L, R> {
+    for Send<'_, '_, T, V, P, M, L, R> {
     type Output = (Pass<T, V>, Result<Result<(), SendError<T>>, NoMemory<T>>);
 
     ghost can_poll = { λ f. MaySend P.fits P.holds M.then L.fact f.channel.now f.parts };
@@ -121,7 +121,7 @@ impl<T: Drop, V, P: Protocol<T, V>, M: Sent<T, V>, L: Lesson<T, V>, R: Wait> Fut
     }
 }
 
-impl<T: Drop, V, P: Protocol<T, V>, M, L, R: Wait> Send<'_, T, V, P, M, L, R> {
+impl<T: Drop, V, P: Protocol<T, V>, M, L, R: Wait> Send<'_, '_, T, V, P, M, L, R> {
     /// Gives the send up. Its message was not sent, and comes back with its pass, which is as it
     /// was; there are none after a poll that was ready. A notice that it had goes on to the next
     /// one.
@@ -152,7 +152,7 @@ impl<T: Drop, V, P: Protocol<T, V>, M, L, R: Wait> Send<'_, T, V, P, M, L, R> {
     }
 }
 
-impl<T: Drop, V, P: Protocol<T, V>, M, L, R: Wait> Drop for Send<'_, T, V, P, M, L, R> {
+impl<T: Drop, V, P: Protocol<T, V>, M, L, R: Wait> Drop for Send<'_, '_, T, V, P, M, L, R> {
     fn drop(mut self) {
         let _parts = self.leave();
         let Self {
