@@ -3,6 +3,7 @@ ghost use Rattle.std.specs.Prelude.{IfOk};
 ghost use Rattle.ruled_channel.specs.Passes.{IsPassOf};
 
 use futures::executor::block_on;
+use futures::future;
 use ruled_channel::{
     Join, RecvError, RuledChannel, SendError, Split, TryRecvError, Unruled, bounded_with,
 };
@@ -303,6 +304,24 @@ where
 {
     match block_on(rt, channel.send_as::<Unruled, Unruled, R>(rt, pass, 2)) {
         Ok((_pass, Ok(sent))) => Some(sent),
+        _ => None,
+    }
+}
+
+/// One task sends 7 and receives it, by two futures, of which the first begins to wait.
+pub fn send_to_itself<R>(rt: &R, channel: &Channel, mut pass: Pass) -> Option<u32>
+where
+    R: Wait + RandomSource + AllocGlobal,
+    requires { IsPassOf channel.now pass }
+{
+    let other = channel.another::<Halves>(&mut pass);
+    let receive = channel.recv_as::<Unruled, Unruled, R>(rt, other);
+    let send = channel.send_as::<Unruled, Unruled, R>(rt, pass, 7);
+    let Ok(((_, got), (_, Ok(Ok(()))))) = block_on(rt, future::join(receive, send)) else {
+        return None;
+    };
+    match got {
+        Ok(Ok(number)) => Some(number),
         _ => None,
     }
 }

@@ -1,5 +1,5 @@
 //! A send as a future, polled by hand and by an executor.
-use crate::plain::{channel_for_three, send_beside};
+use crate::plain::{channel_for_three, send_beside, send_to_itself};
 use futures::task::Poll;
 use futures::test::MockTask;
 use ruled_channel::{SendError, Unruled};
@@ -122,5 +122,12 @@ fn an_executor_waits_for_room(rt: HostRuntime) -> Result<(), Fail> {
         let (channel, pass, _, _) = channel_for_three(rt.alloc())?;
         assert_eq!(rt; send_beside(&rt, &channel, pass, receives), Some(sent));
     }
+    Ok(())
+}
+
+#[test]
+fn two_futures_of_one_task_meet(rt: HostRuntime) -> Result<(), Fail> {
+    let (channel, pass, _, _) = channel_for_three(rt.alloc())?;
+    assert_eq!(rt; send_to_itself(&rt, &channel, pass), Some(7));
     Ok(())
 }
