@@ -1,3 +1,4 @@
+pub mod Back
 pub mod Faults
 pub mod Filling
 pub mod InOrder

@@ -2,3 +2,4 @@ pub mod Chunks
 pub mod Pieces
 pub mod Slots
 pub mod Stamps
+pub mod Workers

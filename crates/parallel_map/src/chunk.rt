@@ -1,48 +1,40 @@
 //! The answers for a chunk of inputs.
-ghost use Rattle.std.specs.Prelude.{◌≡◌, ◌+◌, ◌^◌, ◌<◌, IfOk, length, map, take};
+ghost use Rattle.std.specs.Prelude.{◌≡◌, ◌+◌, ◌^◌, ◌<◌, IfOk, length, map};
 
 use crate::job::{Gate, Job};
 use std::alloc::{AllocError, Global};
-use std::marker::{Model, PhantomData};
+use std::marker::Model;
 
 /// The answers for a chunk of inputs, whose places follow one another.
-///
-/// Each is what the job answers to its input: the type keeps it, wherever the chunk has been.
-pub struct Chunk<'a, A, B, J: Job<A, B>> {
+pub struct Chunk<B> {
     // The place of the first input.
     from: usize,
-    // The inputs that the answers are for.
-    inputs: &'a [A],
     // What the job answered to them, in their order.
     answers: Vec<B>,
-    // The job is named by its type alone.
-    job: PhantomData<&'a J>,
 }
 
-/// The first place and the inputs, which decide the answers.
-impl<'a, A, B, J: Job<A, B>> Model for Chunk<'a, A, B, J> {
-    ghost use Rattle.std.specs.Prelude.{◌≡◌, map};
+/// The first place and the answers.
+impl<B> Model for Chunk<B> {
     ghost use Rattle.parallel_map.specs.Chunks.{ChunkView};
 
-    ghost Value = { ChunkView A };
+    ghost Value = { ChunkView B };
 
-    ghost view = { λ chunk. record { from = chunk.from; inputs = chunk.inputs.now } };
-
-    ghost invariant = { λ chunk. chunk.answers.items ≡ map J.answer chunk.inputs.now };
+    ghost view = { λ chunk. record { from = chunk.from; answers = chunk.answers.items } };
 }
 
-impl<'a, A, B: Drop, J: Job<A, B>> Chunk<'a, A, B, J> {
+impl<B: Drop> Chunk<B> {
     /// Runs the job on each input, between the gate's two calls, and keeps the answers in one
     /// block. The first input stands at the place `from`.
-    pub fn make<G: Gate>(
+    pub fn make<A, J: Job<A, B>, G: Gate>(
         alloc: Global,
         job: &J,
         gate: &G,
         from: usize,
-        inputs: &'a [A],
+        inputs: &[A],
     ) -> Result<Self, AllocError>
         requires places { from + length inputs.now < 2 ^ 64 }
-        ensures { IfOk result (λ chunk. chunk ≡ record { from = from; inputs = inputs.now }) }
+        ensures { IfOk result (λ chunk.
+            chunk ≡ record { from = from; answers = map J.answer inputs.now }) }
     {
         let mut answers = Vec::with_capacity(alloc, inputs.len())?;
         for (offset, input) in inputs.iter().enumerate() {
@@ -50,16 +42,11 @@ impl<'a, A, B: Drop, J: Job<A, B>> Chunk<'a, A, B, J> {
             answers.push_reserved(job.run(input));
             gate.after(from + offset);
         }
-        Ok(Chunk {
-            from,
-            inputs,
-            answers,
-            job: PhantomData,
-        })
+        Ok(Chunk { from, answers })
     }
 }
 
-impl<'a, A, B, J: Job<A, B>> Chunk<'a, A, B, J> {
+impl<B> Chunk<B> {
     /// The place of the first input.
     pub fn from(&self) -> usize
         ensures { result ≡ self.now.from }
@@ -67,34 +54,20 @@ impl<'a, A, B, J: Job<A, B>> Chunk<'a, A, B, J> {
         self.from
     }
 
-    /// The inputs that the answers are for.
-    pub fn inputs(&self) -> &'a [A]
-        ensures { result.now ≡ self.now.inputs }
-    {
-        self.inputs
-    }
-
     /// The answers.
     pub fn into_answers(self) -> Vec<B>
-        ensures { result.items ≡ map J.answer self.entry.inputs }
+        ensures { result.items ≡ self.answers }
     {
-        let Chunk {
-            from: _,
-            inputs: _,
-            answers,
-            job: _,
-        } = self;
+        let Chunk { from: _, answers } = self;
         answers
     }
 }
 
-impl<A, B: Drop, J: Job<A, B>> Drop for Chunk<'_, A, B, J> {
+impl<B: Drop> Drop for Chunk<B> {
     fn drop(self) {
         let Chunk {
             from: _,
-            inputs: _,
             answers: _answers,
-            job: _,
         } = self;
     }
 }

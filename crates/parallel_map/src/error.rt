@@ -1,11 +1,13 @@
 //! Why a map has no answers.
 ghost use Rattle.std.specs.Prelude.{◌≡◌};
 
-use async_channel::MakeError;
+use channel_model::MakeError;
 use std::error::Error;
 use std::fmt;
 
 /// Why there are no answers. A place is that of an input in the list, from 0 on.
+///
+/// The three that name a place come from `gather` alone.
 ///
 /// # Examples
 ///

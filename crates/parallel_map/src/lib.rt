@@ -1,15 +1,18 @@
 //! A map over a list by many threads, whose answer is proved to be the plain map.
 //!
 //! The inputs are cut into chunks, whose places follow one another. The first place of each chunk
-//! goes out to workers through one channel, and the chunk with its answers comes back through
-//! another, beside that place and the inputs themselves. Chunks come in any order. They are put in
-//! order, and each has to be of the inputs that come next; then its answers are moved behind the
-//! others in one step. For answers that come one by one there are pieces: [`gather`] puts each at
-//! its place, and sees that every place has just one piece, which is of the input there.
+//! goes out to workers through one channel, and its answers come back through another, beside that
+//! place. Chunks come in any order. They are put in order, and their answers are moved behind one
+//! another, a chunk in one step.
 //!
-//! What the answers are follows from what the type of the messages keeps, and not from what
-//! channels do: a chunk, like a [`Piece`], holds what the [`Job`] answers to its inputs, and
-//! nothing else can be made.
+//! Both channels are those of `ruled_channel_rules`: what is sent is what is received, each message
+//! once. A worker's thread promises that it has sent the chunk for each place that it received. So
+//! all answers are there, and nothing is compared: a map answers the plain map, or that it was
+//! refused memory, a thread or a stamp.
+//!
+//! For answers that come one by one, from anywhere, there are pieces: [`gather`] puts each at its
+//! place, and sees that every place has just one piece, which is of the input there. A [`Piece`]
+//! holds what the [`Job`] answers to its input, and nothing else can be made.
 //!
 //! # Examples
 //!
@@ -36,6 +39,7 @@ mod error;
 mod gathering;
 mod job;
 mod joining;
+mod lines;
 mod map;
 mod piece;
 mod workers;

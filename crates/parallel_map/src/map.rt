@@ -1,14 +1,19 @@
 //! The map of a list, by many threads.
-ghost use Rattle.std.specs.Prelude.{◌≡◌, ◌≢◌, ◌<◌, ◌≤◌, ◌/◌, min, max, [], map, IsOk, IfOk, OnOk, Err, None};
+ghost use Rattle.std.specs.Prelude.{◌≡◌, ◌≢◌, ◌<◌, ◌≤◌, ◌/◌, ◌⊎◌, min, max, [], map, IsOk, IfOk, IfErr, OnOk, Err, None};
 ghost use Rattle.identity.specs.Stamps.{next_stamp};
+ghost use Rattle.ruled_channel_rules.specs.Handles.{known};
+ghost use Rattle.ruled_channel_rules.specs.Whole.{hub_log};
+ghost use Rattle.parallel_map.specs.Chunks.{AreAllChunksOf};
 ghost use Rattle.parallel_map.specs.Stamps.{behind_two, DrewTwoAtMost};
+ghost use Rattle.parallel_map.specs.Workers.{AreHubsOf};
 
+use crate::chunk::Chunk;
 use crate::error::MapError;
 use crate::job::{Gate, Job};
 use crate::joining::join_chunks;
-use crate::workers::{self, Ends};
-use async_channel::{StampMaker, bounded, unbounded};
-use identity::Exact;
+use crate::lines::{bounded_line, unbounded_line};
+use crate::workers::{self, Hubs, Task};
+use identity::{Exact, StampMaker};
 use std::alloc::Global;
 use std::sync::Wait;
 use std::thread;
@@ -35,6 +40,44 @@ fn chunk_size(count: usize, workers: usize, largest: usize) -> usize
         .max(1)
 }
 
+// The chunks of all answers, by threads that are joined.
+fn answered<A, B, J, G, R>(
+    rt: &R,
+    task: &Task<'_, A, B, J, G>,
+    hubs: Hubs<B>,
+    count: usize,
+) -> Result<Vec<Chunk<B>>, MapError>
+where
+    A: Sync,
+    B: Drop + Send,
+    J: Job<A, B> + Sync,
+    G: Gate + Sync,
+    R: Wait + Threads + Sync,
+    requires own { AreHubsOf task.now.places task.now.chunks hubs.places hubs.chunks }
+    requires new { (known hubs.places ≡ hub_log 0 0) × (known hubs.chunks ≡ hub_log 0 0) }
+    requires size { 0 < task.now.size }
+    requires count { 0 < count }
+    ensures all { IfOk result (λ found.
+        AreAllChunksOf (map J.answer task.now.inputs.now) found.items) }
+    ensures refused { IfErr result (λ error.
+        (error ≡ MapError.OutOfMemory) ⊎ (error ≡ MapError.NoThread)) }
+{
+    thread::scope(
+        thread::scope_env(),
+        rt,
+        move |scope| -> Result<Vec<Chunk<B>>, MapError>
+            requires own { AreHubsOf task.now.places task.now.chunks hubs.places hubs.chunks }
+            requires new { (known hubs.places ≡ hub_log 0 0) × (known hubs.chunks ≡ hub_log 0 0) }
+            requires size { 0 < task.now.size }
+            requires count { 0 < count }
+            ensures all { IfOk result (λ found.
+                AreAllChunksOf (map J.answer task.entry.now.inputs.now) found.items) }
+            ensures refused { IfErr result (λ error.
+                (error ≡ MapError.OutOfMemory) ⊎ (error ≡ MapError.NoThread)) }
+        { workers::run(scope, rt, task, hubs, count) },
+    )
+}
+
 /// The job's answers for all inputs, in their order, by threads.
 ///
 /// As many threads are started as there are to be workers, or as there are inputs where these are
@@ -46,9 +89,8 @@ fn chunk_size(count: usize, workers: usize, largest: usize) -> usize
 ///
 /// No inputs have no answers: then nothing is asked for. Else both channels are made first, and may
 /// be refused with `OutOfMemory` or `NoStamps`. Then `NoThread` is answered where a worker couldn't
-/// be started, else `OutOfMemory` where the caller or a worker was refused memory. Else the answers
-/// are put in their places, and a chunk that isn't of its inputs, comes twice or is missing is
-/// answered with `Stranger`, `Doubled` or `Missing` and a place.
+/// be started, else `OutOfMemory` where the caller or a worker was refused memory. Else all answers
+/// are there: no other error comes.
 ///
 /// # Examples
 ///
@@ -77,6 +119,8 @@ where
     requires workers { 0 < workers }
     requires cap { 0 < cap }
     ensures mapped { IfOk result (λ answers. answers.items ≡ map J.answer inputs.now) }
+    ensures total { IfErr result (λ error. (error ≡ MapError.OutOfMemory)
+        ⊎ (error ≡ MapError.NoThread) ⊎ (error ≡ MapError.NoStamps)) }
     ensures empty { inputs.now ≡ [] → IsOk result × (maker.new ≡ maker.old) }
     ensures spent { inputs.now ≢ [] → maker.old ≡ None → result ≡ Err MapError.NoStamps }
     ensures short { result ≡ Err MapError.NoStamps → next_stamp maker.old ≡ None }
@@ -129,6 +173,8 @@ where
     requires workers { 0 < workers }
     requires cap { 0 < cap }
     ensures mapped { IfOk result (λ answers. answers.items ≡ map J.answer inputs.now) }
+    ensures total { IfErr result (λ error. (error ≡ MapError.OutOfMemory)
+        ⊎ (error ≡ MapError.NoThread) ⊎ (error ≡ MapError.NoStamps)) }
     ensures empty { inputs.now ≡ [] → IsOk result × (maker.new ≡ maker.old) }
     ensures spent { inputs.now ≢ [] → maker.old ≡ None → result ≡ Err MapError.NoStamps }
     ensures short { result ≡ Err MapError.NoStamps → next_stamp maker.old ≡ None }
@@ -138,21 +184,24 @@ where
     if inputs.is_empty() {
         return Ok(Vec::new(alloc));
     }
-    let (to_workers, places) = bounded(rt, alloc, cap, maker)?;
-    let (chunks, from_workers) = unbounded(rt, alloc, maker)?;
-    let ends = Ends { places, chunks };
-    let size = chunk_size(inputs.len(), workers, largest);
-    let count = workers.min(inputs.len());
-    thread::scope(
-        thread::scope_env(),
-        rt,
-        |scope|
-            requires { 0 < size }
-        {
-            workers::run(
-                scope, rt, alloc, job, gate, inputs, size, ends, to_workers, count,
-            )
-        },
-    )?;
-    join_chunks(alloc, inputs, workers::received(alloc, &from_workers)?)
+    let (places, jobs) = bounded_line(alloc, cap, maker)?;
+    let (chunks, results) = unbounded_line(alloc, maker)?;
+    let hubs = Hubs {
+        places: jobs,
+        chunks: results,
+    };
+    let task = Task {
+        places,
+        chunks,
+        alloc,
+        job,
+        gate,
+        inputs,
+        size: chunk_size(inputs.len(), workers, largest),
+    };
+    let found = answered(rt, &task, hubs, workers.min(inputs.len()))?;
+    match join_chunks(alloc, inputs.len(), found) {
+        Ok(answers) => Ok(answers),
+        Err(_) => Err(MapError::OutOfMemory),
+    }
 }

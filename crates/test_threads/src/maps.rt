@@ -340,73 +340,58 @@ fn the_gate_is_around_each_job(rt: HostRuntime) -> Result<(), Fail> {
     Ok(())
 }
 
-/// Counts how often a runtime is copied, and refuses more copies than `most`.
-#[derive(Drop)]
-struct Copies<'a> {
-    made: &'a AtomicU64,
-    most: u64,
-}
-
-impl Clone for Copies<'_> {
-    fn clone(&self) -> Result<Self, AllocError> {
-        if self.made.load(Ordering::SeqCst) >= self.most {
-            return Err(AllocError);
-        }
-        self.made.fetch_add(1, Ordering::SeqCst);
-        Ok(Copies {
-            made: self.made,
-            most: self.most,
-        })
-    }
-}
-
-/// A map of two inputs by so many workers, whose runtime may be copied so often. It answers how
-/// often it was.
-fn copies_of_a_map<R>(
-    rt: &R,
-    workers: usize,
-    most: u64,
-) -> Result<(u64, Result<Vec<u64>, MapError>), Fail>
-where
-    R: Wait + Threads + Clone + Drop + AllocGlobal + Send + Sync,
-{
-    let made = AtomicU64::new(0);
+#[test]
+fn no_more_workers_than_inputs(rt: HostRuntime) -> Result<(), Fail> {
+    // For so many threads there is no memory.
+    let most = usize::MAX;
     let mut maker = StampMaker::new();
-    let counted = (rt, Copies { made: &made, most });
-    let workers = workers.max(1);
-    let got = map_all(
-        &counted,
+    let answers = map_all(
+        &rt,
         rt.alloc(),
         &Square,
         &Open,
         &[5, 6],
-        workers,
+        most,
         2,
         &mut maker,
-    );
-    Ok((made.load(Ordering::SeqCst), got))
-}
-
-#[test]
-fn no_more_workers_than_inputs(rt: HostRuntime) -> Result<(), Fail> {
-    let (two, answers) = copies_of_a_map(&rt, 2, 1_000)?;
-    assert_eq!(rt; answers?.as_slice(), [25, 36].as_slice());
-    let (one, answers) = copies_of_a_map(&rt, 1, 1_000)?;
-    assert_eq!(rt; answers?.as_slice(), [25, 36].as_slice());
-    assert!(rt; one < two);
-    let (many, answers) = copies_of_a_map(&rt, 100, 1_000)?;
-    assert_eq!(rt; answers?.as_slice(), [25, 36].as_slice());
-    assert_eq!(rt; many, two);
+    )?;
+    assert_eq!(rt; answers.as_slice(), [25, 36].as_slice());
     Ok(())
 }
 
-#[test]
-fn refused_copies_of_a_runtime_are_named(rt: HostRuntime) -> Result<(), Fail> {
-    let (needed, _) = copies_of_a_map(&rt, 2, 1_000)?;
-    for most in 0..needed {
-        let (made, answers) = copies_of_a_map(&rt, 2, most)?;
-        assert_eq!(rt; made, most);
-        assert!(rt; matches!(&answers, Err(MapError::OutOfMemory)));
+/// A runtime's part that can't be copied.
+#[derive(Drop)]
+struct Single;
+
+impl Clone for Single {
+    fn clone(&self) -> Result<Self, AllocError> {
+        Err(AllocError)
     }
+}
+
+/// A map of two inputs, whose runtime can't be copied.
+fn maps_without_copies<R>(rt: &R) -> Result<Vec<u64>, Fail>
+where
+    R: Wait + Threads + Clone + Drop + AllocGlobal + Send + Sync,
+{
+    let mut maker = StampMaker::new();
+    let single = (rt, Single);
+    let answers = map_all(
+        &single,
+        rt.alloc(),
+        &Square,
+        &Open,
+        &[5, 6],
+        2,
+        2,
+        &mut maker,
+    )?;
+    Ok(answers)
+}
+
+#[test]
+fn a_runtime_is_not_copied(rt: HostRuntime) -> Result<(), Fail> {
+    let answers = maps_without_copies(&rt)?;
+    assert_eq!(rt; answers.as_slice(), [25, 36].as_slice());
     Ok(())
 }

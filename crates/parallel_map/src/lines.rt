@@ -1,0 +1,52 @@
+//! The channels of a map.
+ghost use Rattle.std.specs.Prelude.{◌≡◌, ◌↔◌, ◌<◌, None, Err, IfOk, OnOk, OnErr};
+ghost use Rattle.identity.specs.Stamps.{next_stamp};
+ghost use Rattle.ruled_channel_rules.specs.Handles.{IsHubOf, known};
+ghost use Rattle.ruled_channel_rules.specs.Whole.{hub_log};
+
+use channel_model::MakeError;
+use identity::StampMaker;
+use ruled_channel_rules::{Channel, Hub, bounded, unbounded};
+use std::alloc::Global;
+
+/// A channel that holds at most `cap` messages, for which a stamp is drawn.
+pub fn bounded_line<T: Drop>(
+    alloc: Global,
+    cap: usize,
+    maker: &mut StampMaker,
+) -> Result<(Channel<T>, Hub<T>), MakeError>
+    requires { 0 < cap }
+    ensures spent { (result ≡ Err MakeError.NoStamps) ↔ (maker.old ≡ None) }
+    ensures unchanged { OnErr result (maker.new ≡ maker.old) }
+    ensures rises { OnOk result (maker.new ≡ next_stamp maker.old) }
+    ensures own { IfOk result (λ made. IsHubOf made.0 made.1 × (known made.1 ≡ hub_log 0 0)) }
+{
+    if maker.is_spent() {
+        return Err(MakeError::NoStamps);
+    }
+    let Ok(made) = bounded(alloc, cap) else {
+        return Err(MakeError::OutOfMemory);
+    };
+    let _stamp = maker.draw();
+    Ok(made)
+}
+
+/// A channel without a capacity, for which a stamp is drawn.
+pub fn unbounded_line<T: Drop>(
+    alloc: Global,
+    maker: &mut StampMaker,
+) -> Result<(Channel<T>, Hub<T>), MakeError>
+    ensures spent { (result ≡ Err MakeError.NoStamps) ↔ (maker.old ≡ None) }
+    ensures unchanged { OnErr result (maker.new ≡ maker.old) }
+    ensures rises { OnOk result (maker.new ≡ next_stamp maker.old) }
+    ensures own { IfOk result (λ made. IsHubOf made.0 made.1 × (known made.1 ≡ hub_log 0 0)) }
+{
+    if maker.is_spent() {
+        return Err(MakeError::NoStamps);
+    }
+    let Ok(made) = unbounded(alloc) else {
+        return Err(MakeError::OutOfMemory);
+    };
+    let _stamp = maker.draw();
+    Ok(made)
+}
