@@ -10,6 +10,7 @@ use Rattle.std.proofs.lemmas.Grind.{flat_map-append}
 use Rattle.std.specs.Prelude.{IsPermutation}
 use Rattle.std.specs.List.{All, flat_map, sum_by}
 use Rattle.std.specs.List.Sorted.{IsNonDecreasing, IsNonDecreasingBy}
+use Rattle.parallel_map.proofs.Faults.{itself, lower_or_above}
 use Rattle.parallel_map.specs.Chunks.{ChunkView, chunk_at, AreStartsOf, AreAllChunksOf}
 
 -- numbers, each at least the one before it
@@ -19,9 +20,6 @@ Rise low (n ∷ ns) = (low ≤ n) × Rise n ns
 
 abbrev times : ℕ → List ℕ → ℕ
 times k ns = sum_by (λ n. cond (n == k) 1 0) ns
-
-itself : (n : ℕ) → (n == n) ≡ true
-itself n = ⊎_elim (λ yes. yes.0) (λ no. absurd (no.1 refl)) (eqb_tells n n)
 
 apart : (n k : ℕ) → n ≢ k → (n == k) ≡ false
 apart n k ne = ⊎_elim (λ yes. absurd (ne yes.1)) (λ no. no.0) (eqb_tells n k)
@@ -41,15 +39,6 @@ at_least_one k ns =
     let here = ap (λ b. cond b 1 0 + times k ns) (itself k) in
     omega (arith, first, here)
 
-compared : (a b : ℕ) → (a ≡ b) ⊎ ((a < b) ⊎ (b < a))
-compared zero zero = inl refl
-compared zero (suc b) = inr (inl (omega arith))
-compared (suc a) zero = inr (inr (omega arith))
-compared (suc a) (suc b) =
-    ⊎_elim (λ same. inl (ap suc same))
-    (λ other. inr (⊎_elim (λ low. inl (omega (arith, low))) (λ high. inr (omega (arith, high))) other))
-    (compared a b)
-
 -- where the first is lower, the other list hasn't got it
 not_lower : (x y : ℕ) (xs ys : List ℕ) → x < y → Rise y ys → times x (y ∷ ys) ≡ times x (x ∷ xs) → ⊥
 not_lower x y xs ys less up same =
@@ -67,12 +56,12 @@ one_order (x ∷ xs) [] low bottom up rise same =
     let s = same (λ _. 1) in let c = sum_by-cons (λ _. 1) x xs in absurd (omega (arith, s, c))
 one_order (x ∷ xs) (y ∷ ys) low bottom up rise same =
     let first : x ≡ y =
-    ⊎_elim (λ e. e)
-    (λ other. absurd (⊎_elim
+    ⊎_elim (λ yes. yes.1)
+    (λ no. absurd (⊎_elim
     (λ less. not_lower x y xs ys less rise.1 (same (λ n. cond (n == x) 1 0)))
     (λ more. not_lower y x ys xs more up.1 (sym (same (λ n. cond (n == y) 1 0))))
-    other))
-    (compared x y) in
+    (lower_or_above x y no.1)))
+    (eqb_tells x y) in
     let others : (f : ℕ → ℕ) → sum_by f ys ≡ sum_by f xs =
     λ f. let s = same f in let c = sum_by-cons f x xs in let d = sum_by-cons f y ys in let e = ap f first in omega (arith, s, c, d, e) in
     ap (λ n. n ∷ xs) first ∙ ap (λ ns. y ∷ ns) (one_order xs ys x y up.1 rise.1 others)

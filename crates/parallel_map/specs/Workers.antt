@@ -11,7 +11,8 @@ use Rattle.parallel_map.specs.Chunks.{ChunkView, chunk_at}
 
 module _ {B : Type 0} where
   -- a worker receives places by the first channel, and sends chunks by the second
-  abbrev pub AreEndsOf : Channel ℕ → Channel (ChunkView B) → Receiver ℕ → Sender (ChunkView B) → Type 0
+  abbrev pub AreEndsOf : Channel ℕ → Channel (ChunkView B) → Receiver ℕ → Sender (ChunkView B)
+      → Type 0
   AreEndsOf places chunks receiver sender = IsReceiverOf places receiver × IsSenderOf chunks sender
 
   -- it has done nothing yet
@@ -39,6 +40,7 @@ module _ {B : Type 0} where
     pub many : (length jobs.got ≡ back) × (length results.sent ≡ back)
 
   -- each has sent the chunk for each place that it received, and no more places came
-  pub record AreAllDone (all : List B) (size : ℕ) (jobs : Log ℕ) (results : Log (ChunkView B)) : Type 0 where
+  pub record AreAllDone (all : List B) (size : ℕ) (jobs : Log ℕ) (results : Log (ChunkView B))
+      : Type 0 where
     pub answered : results.sent ≡ map (map (chunk_at all size)) jobs.got
     pub ended : 0 < length jobs.got → jobs.ended ≡ true
