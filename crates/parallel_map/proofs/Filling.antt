@@ -1,6 +1,5 @@
 -- Slots and pieces.
-use Rattle.std.proofs.Common.{◌≡◌, ◌≢◌, ℕ, ◌+◌, ◌<◌, ◌≤◌, ◌==◌, Bool, true, false, ◌-◌, cond, List, [], ◌∷◌, length, set, take, drop, replicate, map, get_or, ◌++◌, Some, None, Option, zero, suc, slice_get, refl, ap, sym, ◌∙◌, subst, ⊎_elim, arith, length-set, length-append, ◌⊎◌, inl, inr}
-use Rattle.std.specs.List.{All, count_by}
+use Rattle.std.proofs.Common.{◌≡◌, ◌≢◌, ℕ, ◌+◌, ◌<◌, ◌≤◌, ◌==◌, true, false, cond, List, [], ◌∷◌, length, set, take, drop, replicate, map, get_or, ◌++◌, Some, None, Option, zero, suc, slice_get, refl, ap, sym, ◌∙◌, subst, ⊎_elim, arith, length-set, length-append, ◌⊎◌, inl, inr}
 use Rattle.std.proofs.lemmas.Bool.Decides.{eqb_tells}
 use Rattle.std.proofs.lemmas.List.Sums.{sum_by_push}
 use Rattle.std.proofs.lemmas.List.Elements.{All-push}
@@ -11,7 +10,7 @@ use Rattle.std.specs.declared.vec.IntoIter.{IntoIter}
 use Rattle.std.specs.Iterator.{Yields}
 use Rattle.parallel_map.specs.declared.error.MapError.{MapError}
 use Rattle.parallel_map.specs.declared.error.MapError.TheVariants.{OutOfMemory, NoStamps, NoThread, Stranger, Doubled, Missing}
-use Rattle.parallel_map.specs.Pieces.{PieceView, IsOfItsInput, count_at, AreSound, AreWhole, IsFirstFaulty, IsFault}
+use Rattle.parallel_map.specs.Pieces.{PieceView, IsOfItsInput, count_at, AreSound, AreWhole, IsFault}
 use Rattle.parallel_map.specs.Slots.{AreFilled, IsRefused}
 
 -- a list after one of its places was written

@@ -1,5 +1,5 @@
 -- Chunks in the order of their places.
-use Rattle.std.proofs.Common.{◌≡◌, ◌≢◌, ℕ, ◌+◌, ◌-◌, ◌<◌, ◌≤◌, ◌==◌, min, false, true, cond, List, [], ◌∷◌, ◌++◌, length, take, drop, get_or, map, zero, suc, refl, ap, sym, ◌∙◌, subst, ⊎_elim, ◌⊎◌, inl, inr, arith, length-drop}
+use Rattle.std.proofs.Common.{◌≡◌, ◌≢◌, ℕ, ◌+◌, ◌-◌, ◌<◌, ◌≤◌, ◌==◌, min, false, cond, List, [], ◌∷◌, ◌++◌, length, take, drop, get_or, map, suc, refl, ap, sym, ◌∙◌, ⊎_elim, arith, length-drop}
 use Rattle.std.proofs.Math.Seq.{take-add}
 use Rattle.std.proofs.lemmas.Bool.Decides.{eqb_tells}
 use Rattle.std.proofs.lemmas.List.{map-append, take_all, take_min, append-nil, take-map, drop-map}

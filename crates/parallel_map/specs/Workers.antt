@@ -1,5 +1,5 @@
 -- What the workers of a map have received and sent.
-use Rattle.std.specs.Prelude.{◌≡◌, ◌<◌, ℕ, List, [], length, map, Bool, true}
+use Rattle.std.specs.Prelude.{◌≡◌, ◌<◌, ℕ, List, [], length, map, true}
 use Rattle.ruled_channel_rules.specs.declared.handles.Channel.{Channel}
 use Rattle.ruled_channel_rules.specs.declared.handles.Hub.{Hub}
 use Rattle.ruled_channel_rules.specs.declared.handles.Receiver.{Receiver}

@@ -1,6 +1,6 @@
-use Rattle.std.proofs.Common.{◌≡◌, ◌<◌, ◌≤◌, ◌+◌, ◌∷◌, [], ◌++◌, length, map, slice_get, Some, None, refl, sym, ap, ◌∙◌, arith, subst}
+use Rattle.std.proofs.Common.{length, Some, refl, sym, ap, ◌∙◌, arith}
 use Rattle.std.proofs.lemmas.Option.{slice_get_read}
-use Rattle.parallel_map.proofs.Filling.{AreEmptied, none_emptied, one_emptied, vacant_is_fault, all_emptied, later_more}
+use Rattle.parallel_map.proofs.Filling.{none_emptied, one_emptied, vacant_is_fault, all_emptied, later_more}
 use Rattle.parallel_map.proofs.gathering.answers_of.Goals as goal
 
 pub returns-in-None-clause-err : goal.returns-in-None-clause-err

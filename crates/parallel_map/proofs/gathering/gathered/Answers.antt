@@ -1,7 +1,5 @@
-use Rattle.std.proofs.Common.{◌≡◌, ◌∷◌, [], ◌++◌, ℕ, List, map, refl, sym, ap, ◌∙◌, inr, length, arith, subst}
+use Rattle.std.proofs.Common.{◌++◌, sym, ap, ◌∙◌, inr, length, arith}
 use Rattle.std.proofs.lemmas.Result.{err_from_is_err_and, IfOk-weaker, IfErr-weaker}
-use Rattle.parallel_map.specs.Pieces.{AreSound, AreWhole, IsFault}
-use Rattle.parallel_map.specs.Slots.{AreFilled}
 use Rattle.parallel_map.proofs.Filling.{taken_front, taken_all, written, none_filled, none_sound, more_sound, more_filled, refused_is_fault}
 use Rattle.parallel_map.proofs.gathering.gathered.Goals as goal
 

@@ -1,6 +1,5 @@
-use Rattle.std.proofs.Common.{◌≡◌, ◌∙◌, map, sym, ap}
+use Rattle.std.proofs.Common.{◌∙◌, map, sym, ap}
 use Rattle.std.proofs.lemmas.Result.{IfOk-weaker}
-use Rattle.parallel_map.specs.Chunks.{ChunkView}
 use Rattle.parallel_map.proofs.InOrder.{answered_part}
 use Rattle.parallel_map.proofs.workers.answer.Goals as goal
 
