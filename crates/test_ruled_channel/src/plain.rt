@@ -259,9 +259,12 @@ where
     R: Wait + RandomSource + AllocGlobal,
     requires { IsPassOf channel.now pass }
 {
-    match block_on(rt, channel.recv_as::<Unruled, Unruled, R>(rt, pass)) {
-        Ok((_pass, Ok(got))) => Some(got),
-        _ => None,
+    let Ok((_pass, got)) = block_on(rt, channel.recv_as::<Unruled, Unruled, R>(rt, pass)) else {
+        return None;
+    };
+    match got {
+        Ok(got) => Some(got),
+        Err(_) => None,
     }
 }
 
@@ -302,9 +305,12 @@ where
     R: Wait + RandomSource + AllocGlobal,
     requires { IsPassOf channel.now pass }
 {
-    match block_on(rt, channel.send_as::<Unruled, Unruled, R>(rt, pass, 2)) {
-        Ok((_pass, Ok(sent))) => Some(sent),
-        _ => None,
+    let Ok((_pass, sent)) = block_on(rt, channel.send_as::<Unruled, Unruled, R>(rt, pass, 2)) else {
+        return None;
+    };
+    match sent {
+        Ok(sent) => Some(sent),
+        Err(_) => None,
     }
 }
 
