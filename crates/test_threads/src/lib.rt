@@ -10,6 +10,8 @@ mod pieces;
 #[cfg(test)]
 mod records;
 #[cfg(test)]
+mod sizes;
+#[cfg(test)]
 mod square;
 #[cfg(test)]
 mod texts;

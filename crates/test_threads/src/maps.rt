@@ -10,7 +10,7 @@ use std::thread;
 use std::thread::Threads;
 
 /// How often a worker looks for the other one.
-const MEETING_TURNS: u32 = 10_000_000;
+pub const MEETING_TURNS: u32 = 10_000_000;
 
 /// How often a worker looks for one that can't come.
 const LONELY_TURNS: u32 = 10_000;

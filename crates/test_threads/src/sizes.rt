@@ -1,27 +1,14 @@
-//! Maps of many inputs, by many threads and by hand.
-ghost use Rattle.std.specs.Prelude.{◌*◌, ◌%◌, ◌^◌};
-
-use async_channel::StampMaker;
-use parallel_map::{Gate, Job, Open, Piece, gather, map_all};
+//! Sizes beyond any limit that no page names: inputs, pieces and workers of a map, and clerks.
+use crate::maps::MEETING_TURNS;
+use crate::square::Square;
+use channel_record::{Call, Clerk, Outcome, Recorder, StampMaker};
+use parallel_map::{Gate, Open, Piece, gather, map_all};
 use std::alloc::Global;
 use std::process::Abort;
+use std::sync::Wait;
 use std::sync::atomic::{AtomicBool, AtomicU64, Ordering};
 use std::test::Fail;
 use std::thread;
-
-/// How often a worker looks for the other ones.
-const MEETING_TURNS: u32 = 10_000_000;
-
-/// The square of a number, without what is above 64 bits.
-struct Square;
-
-impl Job<u64, u64> for Square {
-    ghost answer = { λ number. (number * number) % 2 ^ 64 };
-
-    fn run(&self, number: &u64) -> u64 {
-        number.wrapping_mul(*number)
-    }
-}
 
 /// Looks whether the answers are the squares of the inputs.
 fn are_squares(rt: &impl Abort, inputs: &[u64], answers: &[u64]) {
@@ -105,5 +92,37 @@ fn a_hundred_workers_run_at_once(rt: HostRuntime) -> Result<(), Fail> {
     )?;
     are_squares(&rt, inputs.as_slice(), answers.as_slice());
     assert!(rt; !gate.late.load(Ordering::SeqCst));
+    Ok(())
+}
+
+/// A hundred thousand clerks of the recorder.
+fn clerks_of(
+    rt: &impl Wait,
+    alloc: Global,
+    recorder: &Recorder<u64>,
+) -> Result<Vec<Clerk<u64>>, Fail> {
+    let mut clerks = Vec::new(alloc);
+    for _ in 0..100_000u32 {
+        clerks.push(recorder.clerk(rt)?)?;
+    }
+    Ok(clerks)
+}
+
+/// Whether a message of this clerk goes in.
+fn sends(rt: &impl Wait, recorder: &Recorder<u64>, clerk: &mut Clerk<u64>) -> bool {
+    recorder.owns(clerk)
+        && recorder.call(rt, clerk, Call::TrySend(7)) == Ok(Outcome::TrySent(Ok(())))
+}
+
+#[test]
+fn recorded_clerks(rt: HostRuntime) -> Result<(), Fail> {
+    let recorder = Recorder::unbounded(rt.alloc(), &mut StampMaker::new())?;
+    let mut clerks = clerks_of(&rt, rt.alloc(), &recorder)?;
+    for clerk in &mut clerks {
+        assert!(rt; sends(&rt, &recorder, clerk));
+    }
+    let book = recorder.finish(clerks)?;
+    assert_eq!(rt; (book.clerks(), book.history().len()), (100_000, 100_000));
+    assert_eq!(rt; book.places(99_999), Some([99_999].as_slice()));
     Ok(())
 }

@@ -1,5 +1,0 @@
-//! Tests that a recorded channel has as many clerks as memory allows.
-#![tactic(auto)]
-
-#[cfg(test)]
-mod clerks;
