@@ -80,7 +80,7 @@ where
 
 /// The job's answers for all inputs, in their order, by threads.
 ///
-/// As many threads are started as there are to be workers, or as there are inputs where these are
+/// As many threads are started as there are to be workers, or as there are inputs if these are
 /// fewer. They are handed chunks of inputs, whose places follow one another. A chunk has one input,
 /// or else each worker has at least 32 chunks of at most 8,192 inputs. At most `cap` chunks are on
 /// their way to the workers at a time. The gate is called around the job at each input. When the
@@ -88,8 +88,8 @@ where
 /// about as many again.
 ///
 /// No inputs have no answers: then nothing is asked for. Else both channels are made first, and may
-/// be refused with `OutOfMemory` or `NoStamps`. Then `NoThread` is answered where a worker couldn't
-/// be started, else `OutOfMemory` where the caller or a worker was refused memory. Else all answers
+/// be refused with `OutOfMemory` or `NoStamps`. Then `NoThread` is answered if a worker couldn't
+/// be started, else `OutOfMemory` if the caller or a worker was refused memory. Else all answers
 /// are there: no other error comes.
 ///
 /// # Examples

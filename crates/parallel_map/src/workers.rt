@@ -2,7 +2,7 @@
 //!
 //! Each worker takes places from one channel. For each it runs the job on the chunk of inputs that
 //! begins there, and sends the chunk of answers into the other channel. It ends when no more places
-//! come. Where it is refused memory it closes the channel of places, so that the others end too,
+//! come. If it is refused memory it closes the channel of places, so that the others end too,
 //! and nobody waits to send. The caller starts the workers, sends the first place of each chunk and
 //! joins every worker that was started, whatever was refused meanwhile. Both channels are under the
 //! rule that what is received is what is sent. So once all ends are back the caller has the chunks
@@ -87,7 +87,7 @@ fn answer<A, B: Drop, J: Job<A, B>, G: Gate>(
     Chunk::make(task.alloc, task.job, task.gate, from, part)
 }
 
-// Works at chunks until no more places come. It answers false where memory was refused.
+// Works at chunks until no more places come. It answers false if memory was refused.
 fn work<A, B, J, G, R>(rt: &R, task: &Task<'_, A, B, J, G>, mut ends: Ends<B>) -> Worked<B>
 where
     B: Drop,
@@ -118,7 +118,7 @@ where
     (ends, false)
 }
 
-// That a worker hands back its ends, and has answered what it received where it says so.
+// That a worker hands back its ends, and has answered what it received if it says so.
 struct Hired<'s, 'a, A, B: Drop, J: Job<A, B>, G> {
     task: &'s Task<'a, A, B, J, G>,
 }
@@ -175,7 +175,7 @@ where
     }
 }
 
-// Starts the workers, each with ends of its own. Where one isn't started, those before it are.
+// Starts the workers, each with ends of its own. If one isn't started, those before it are.
 fn start_all<'s, 'a: 's, E, A, B, J, G, R>(
     scope: &'s Scope<'s, E>,
     rt: &'s R,
@@ -214,7 +214,7 @@ where
     Ok(())
 }
 
-// Sends the first place of each chunk, as long as the channel is open. It answers false where that
+// Sends the first place of each chunk, as long as the channel is open. It answers false if that
 // ended, or memory was refused.
 fn send_places<A, R: Wait>(
     rt: &R,
@@ -239,7 +239,7 @@ fn send_places<A, R: Wait>(
     true
 }
 
-// Sends the first place of each chunk where all workers were started, and closes the channel. It
+// Sends the first place of each chunk if all workers were started, and closes the channel. It
 // answers whether all places were sent.
 fn feed<A, B: Drop, J, G, R: Wait>(
     rt: &R,
