@@ -15,7 +15,8 @@ replies, status 1 and the line `out of memory`. test_memory must print the same 
 on standard error stands at most that the call which made this request was refused, and the program
 makes that call again by itself, once it has seen that nothing else changed. Where a recorder's
 `finish` is refused the row begins anew, behind the line `row again`. Anything else is a difference.
-So is a request by a call of which test_memory says that it makes none.
+So is a request by a call of which test_memory says that it makes none. Of maps by threads it is
+left open which call makes a request, and how many there are.
 
 A line is printed for each row: how many of its requests were refused in turn, how many of them were
 answered as refused, how many changed nothing, and how many came to something else. Of the longest
@@ -38,6 +39,8 @@ CRATES = TOOLS.parent / "crates"
 ROWS = CRATES / "test_rows" / "src" / "rows"
 CASES = TOOLS / "chanrun_runs"
 STORED = TOOLS / "refused_requests" / "requests.txt"
+# The rows whose calls start threads.
+BY_THREADS = {"maps by threads"}
 # How many requests of a long script are refused, from either end.
 ENDS = 50
 SECONDS = 60
@@ -95,6 +98,7 @@ class Script:
 
     program = "program_chanrun"
     arguments = ()
+    is_counted = True
 
     def __init__(self, name, script, output, status=0, error=b"", is_long=False):
         self.name, self.script, self.output = name, script, output
@@ -134,6 +138,7 @@ class Calls:
 
     program = "test_memory"
     ending = (0, b"")
+    is_counted = True
 
     def __init__(self, name, arguments, output, script=b"", is_marked=True):
         self.name, self.arguments, self.output = name, arguments, output
@@ -191,6 +196,34 @@ class Calls:
             mine = [outcomes[number] for number in range(low + 1, high + 1)]
             if mine and "refused" not in mine:
                 yield call
+
+
+class Threads(Calls):
+    """A row of test_memory whose threads make another number of requests each time.
+
+    So nothing is stored of it. Which call makes a request isn't known either: any may say that it
+    was refused.
+    """
+
+    is_counted = False
+    # how many further requests are refused, if they are made
+    MORE = 20
+
+    def numbers(self, counts):
+        return list(range(counts[0] + 1, counts[-1] + 1 + self.MORE))
+
+    def faults(self, counts):
+        return [] if len(counts) == len(self.lines) + 1 else ["another number of lines"]
+
+    def outcome(self, counts, _number, output, ending):
+        calls = {call for _, call, _, _ in self.calls(counts)}
+        refusals = {(0, f"refused: {call}\n".encode()) for call in calls}
+        if output.decode() != self.output or ending not in {self.ending, *refusals}:
+            return "different"
+        return "unchanged" if ending == self.ending else "refused"
+
+    def never_refused(self, _counts, outcomes):
+        return [] if "refused" in outcomes.values() else [self.name]
 
 
 def as_lines(lines):
@@ -255,7 +288,7 @@ def own_rows():
     text = (CRATES / "test_memory" / "stdout").read_text(encoding="utf-8")
     for row in re.split(r"^(?=row )", text, flags=re.MULTILINE)[1:]:
         name = row.splitlines()[0].removeprefix("row ")
-        yield Calls(name, [name], row)
+        yield (Threads if name in BY_THREADS else Calls)(name, [name], row)
 
 
 def stored_requests():
@@ -299,13 +332,16 @@ def main():
     if sys.argv[1:] and not is_written:
         raise SystemExit(__doc__)
     rows = [*own_rows(), *run_rows(), *script_rows(), *faulty_rows(), *long_rows()]
-    made, given, faults = {}, [], []
+    made, names, given, faults = {}, set(), [], []
     with tempfile.TemporaryDirectory() as folder, ThreadPoolExecutor(os.cpu_count()) as pool:
         sweep = Sweep(pathlib.Path(folder))
         for row in rows:
             name = f"{row.program}: {row.name}"
-            faults += [f"two rows are {name}"] if name in made else []
-            made[name], of_row, wrong = sweep_row(sweep, pool, row)
+            faults += [f"two rows are {name}"] if name in names else []
+            names.add(name)
+            count, of_row, wrong = sweep_row(sweep, pool, row)
+            if row.is_counted:
+                made[name] = count
             given += of_row
             faults += wrong
     if is_written:

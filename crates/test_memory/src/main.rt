@@ -5,9 +5,11 @@
 //! begins with a line `row` and its name; memory asked for before that line belongs to no row.
 #![tactic(auto)]
 
+mod batches;
 mod cores;
 mod handles;
 mod lists;
+mod maps;
 mod operations;
 mod records;
 mod report;
@@ -20,6 +22,7 @@ use std::process::ExitCode;
 use std::random::RandomSource;
 use std::rt::Env;
 use std::sync::Wait;
+use std::thread::Threads;
 use std::{env, io};
 
 /// A row that takes no script.
@@ -47,12 +50,19 @@ enum Row {
     ClosedWoken,
     StreamWoken,
     GivenUp,
+    Batches,
+    BlockingBatches,
+    SendManyWoken,
+    SendManyGrows,
+    ReceiveManyWoken,
+    ReceiveManyRounds,
     Recorder,
     Book,
     Journal,
+    Maps,
 }
 
-const ROWS: [Row; 25] = [
+const ROWS: [Row; 32] = [
     Row::List,
     Row::OtherList,
     Row::Thousand,
@@ -75,9 +85,16 @@ const ROWS: [Row; 25] = [
     Row::ClosedWoken,
     Row::StreamWoken,
     Row::GivenUp,
+    Row::Batches,
+    Row::BlockingBatches,
+    Row::SendManyWoken,
+    Row::SendManyGrows,
+    Row::ReceiveManyWoken,
+    Row::ReceiveManyRounds,
     Row::Recorder,
     Row::Book,
     Row::Journal,
+    Row::Maps,
 ];
 
 impl Row {
@@ -105,15 +122,22 @@ impl Row {
             Row::ClosedWoken => "a closed operation told and woken",
             Row::StreamWoken => "a stream told and woken",
             Row::GivenUp => "operations given up",
+            Row::Batches => "batches",
+            Row::BlockingBatches => "batches by calls that block",
+            Row::SendManyWoken => "a send of many told and woken",
+            Row::SendManyGrows => "a send of many without a capacity",
+            Row::ReceiveManyWoken => "a receive of many told and woken",
+            Row::ReceiveManyRounds => "a receive of many in rounds",
             Row::Recorder => "the recorder's calls",
             Row::Book => "a book without calls",
             Row::Journal => "a journal by hand",
+            Row::Maps => "maps by threads",
         }
     }
 
     fn make<R>(self, rt: &R, alloc: Global) -> Result<(), Wrong>
     where
-        R: Wait + Clone + Drop + RandomSource + AllocGlobal + Report,
+        R: Wait + Threads + Clone + Drop + Send + Sync + RandomSource + AllocGlobal + Report,
     {
         println!(rt; "row {}", self.name())?;
         match self {
@@ -139,9 +163,16 @@ impl Row {
             Row::ClosedWoken => operations::closed_woken(rt, alloc),
             Row::StreamWoken => operations::stream_woken(rt, alloc),
             Row::GivenUp => operations::given_up(rt, alloc),
+            Row::Batches => batches::calls(rt, alloc),
+            Row::BlockingBatches => batches::blocking(rt, alloc),
+            Row::SendManyWoken => batches::send_many_woken(rt, alloc),
+            Row::SendManyGrows => batches::send_many_grows(rt, alloc),
+            Row::ReceiveManyWoken => batches::recv_many_woken(rt, alloc),
+            Row::ReceiveManyRounds => batches::recv_many_rounds(rt, alloc),
             Row::Recorder => records::calls(rt, alloc),
             Row::Book => records::book_without_calls(rt, alloc),
             Row::Journal => records::journal(rt, alloc),
+            Row::Maps => maps::all(rt, alloc),
         }
     }
 }
@@ -155,7 +186,7 @@ fn asked(rt: &(impl Env + AllocGlobal)) -> Result<Option<String>, Wrong> {
 /// All rows that take no script.
 fn make_all<R>(rt: &R, alloc: Global) -> Result<(), Wrong>
 where
-    R: Wait + Clone + Drop + RandomSource + AllocGlobal + Report,
+    R: Wait + Threads + Clone + Drop + Send + Sync + RandomSource + AllocGlobal + Report,
 {
     for row in ROWS {
         row.make(rt, alloc)?;
@@ -166,7 +197,7 @@ where
 /// The row of this name.
 fn make_one<R>(rt: &R, alloc: Global, name: &str, input: impl Read + Drop) -> Result<(), Wrong>
 where
-    R: Wait + Clone + Drop + RandomSource + AllocGlobal + Report,
+    R: Wait + Threads + Clone + Drop + Send + Sync + RandomSource + AllocGlobal + Report,
 {
     if name == "step by step" {
         return scripts::step_by_step(rt, alloc, &io::read_to_string(alloc, input)?);

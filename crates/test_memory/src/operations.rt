@@ -16,7 +16,7 @@ use std::random::RandomSource;
 use std::sync::Wait;
 
 /// The same poll, whose refusal is an error.
-fn refusal_out<X>(polled: Poll<Result<X, OutOfMemory>>) -> Result<Poll<X>, OutOfMemory> {
+pub fn refusal_out<X>(polled: Poll<Result<X, OutOfMemory>>) -> Result<Poll<X>, OutOfMemory> {
     match polled {
         Poll::Ready(Ok(value)) => Ok(Poll::Ready(value)),
         Poll::Ready(Err(OutOfMemory)) => Err(OutOfMemory),
@@ -48,9 +48,9 @@ fn task<R: RandomSource + AllocGlobal + Report>(rt: &R) -> Result<MockTask, Wron
 }
 
 /// The ends of a new channel, and a task.
-type Scene<R> = (Sender<u64, R>, Receiver<u64, R>, MockTask);
+pub type Scene<R> = (Sender<u64, R>, Receiver<u64, R>, MockTask);
 
-fn scene<R>(rt: &R, alloc: Global, capacity: usize) -> Result<Scene<R>, Wrong>
+pub fn scene<R>(rt: &R, alloc: Global, capacity: usize) -> Result<Scene<R>, Wrong>
 where
     R: Wait + Clone + Drop + RandomSource + AllocGlobal + Report,
 {
@@ -147,7 +147,7 @@ impl fmt::Display for Message {
     }
 }
 
-fn woken(rt: &impl Report, task: &MockTask) -> Result<(), Wrong> {
+pub fn woken(rt: &impl Report, task: &MockTask) -> Result<(), Wrong> {
     no_request(rt, "is the task woken", task.is_woken())
 }
 
