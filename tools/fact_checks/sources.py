@@ -1,6 +1,7 @@
 """The calls of the crates, as the sources have them, with the clauses that stand at each."""
 import importlib.machinery
 import importlib.util
+import itertools
 import re
 from pathlib import Path
 
@@ -32,7 +33,7 @@ class Owner:
 
 
 class Call:
-    """A function or method, the names of the clauses that it ensures, and their text."""
+    """A function or method, the line of its first attribute, and the clauses that it ensures."""
 
     def __init__(self, path, line, owner, name, is_said_public):
         self.path, self.line, self.name = path, line, name
@@ -71,7 +72,8 @@ class Crate:
                 self.laws.add((owner.name, law[1]))
             found = FUNCTION.match(line)
             if found and bool(found[1]) == bool(owner):
-                call = Call(path, number, owner, found[3], found[2] == 'pub ')
+                begin = number - len(attributes(lines[: number - 1]))
+                call = Call(path, begin, owner, found[3], found[2] == 'pub ')
                 call.clauses, call.text = contract(lines[number - 1 :], found[1])
                 self.calls.append(call)
 
@@ -89,6 +91,11 @@ class Crate:
         """The call whose text stands at this line of a file, or None."""
         before = [call for call in self.calls if call.path == path and call.line <= line]
         return max(before, key=lambda call: call.line, default=None)
+
+
+def attributes(lines):
+    """The attributes with which the lines end: a place in an item may be the first of them."""
+    return [*itertools.takewhile(lambda line: line.strip().startswith('#['), reversed(lines))]
 
 
 def owner_of(lines):
