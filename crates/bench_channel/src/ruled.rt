@@ -190,9 +190,7 @@ impl<R: Wait> Port for Kit<'_, R> {
 
     fn take(&mut self) -> u64 {
         let pass = &mut self.pass;
-        self.receiver
-            .recv_as::<Free, R>(self.rt, pass)
-            .unwrap_or(0)
+        self.receiver.recv_as::<Free, R>(self.rt, pass).unwrap_or(0)
     }
 }
 
@@ -229,13 +227,7 @@ where
 }
 
 /// The rows of one thread to one, on both channels with this capacity.
-pub fn singles<R>(
-    rt: &R,
-    form: Form<'_>,
-    work: &str,
-    capacity: usize,
-    count: u64,
-) -> Result<()>
+pub fn singles<R>(rt: &R, form: Form<'_>, work: &str, capacity: usize, count: u64) -> Result<()>
 where
     R: Threads + Wait + AllocGlobal + Clock + Print + Send + Sync,
     requires { 0 < capacity }
