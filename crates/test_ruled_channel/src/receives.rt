@@ -1,8 +1,11 @@
 //! A receive as a future, polled by hand and by an executor.
-use crate::plain::{channel_for_three, receive_beside};
+ghost use Rattle.ruled_channel.specs.Passes.{IsPassOf};
+
+use crate::plain::{Channel, Pass, channel_for_three, receive_beside};
 use futures::task::Poll;
 use futures::test::MockTask;
 use ruled_channel::{RecvError, Unruled};
+use std::sync::Wait;
 use std::test::*;
 
 #[test]
@@ -54,23 +57,35 @@ fn a_receive_that_waits_is_woken_by_the_close(rt: HostRuntime) -> Result<(), Fai
     Ok(())
 }
 
+/// Whether a message goes in and comes out again at once.
+fn comes_and_goes<R: Wait>(rt: &R, channel: &Channel, pass: &mut Pass, message: u32) -> bool
+    requires { IsPassOf channel.now pass.old }
+    ensures { IsPassOf channel.now pass.new }
+{
+    let sent = channel.try_send_as::<Unruled, Unruled, _>(rt, pass, message);
+    let got = channel.try_recv_as::<Unruled, Unruled, Unruled, _>(rt, pass);
+    sent == Ok(Ok(())) && got == Ok(message)
+}
+
 #[test]
 fn a_receive_woken_in_vain_waits_again(rt: HostRuntime) -> Result<(), Fail> {
     let (channel, mut pass, other, _) = channel_for_three(rt.alloc())?;
     let task = MockTask::new(&rt)?;
     let mut receive = channel.recv_as::<Unruled, Unruled, _>(&rt, other);
-    for message in [1, 2] {
-        let Poll::Pending = task.poll(&mut receive) else {
-            assert!(rt; false);
-            return Ok(());
-        };
-        assert!(rt; !task.is_woken());
-        let sent = channel.try_send_as::<Unruled, Unruled, _>(&rt, &mut pass, message);
-        assert_eq!(rt; sent, Ok(Ok(())));
-        assert!(rt; task.is_woken());
-        let got = channel.try_recv_as::<Unruled, Unruled, Unruled, _>(&rt, &mut pass);
-        assert_eq!(rt; got, Ok(message));
-    }
+    let Poll::Pending = task.poll(&mut receive) else {
+        assert!(rt; false);
+        return Ok(());
+    };
+    assert!(rt; !task.is_woken());
+    assert!(rt; comes_and_goes(&rt, &channel, &mut pass, 1));
+    assert!(rt; task.is_woken());
+    let Poll::Pending = task.poll(&mut receive) else {
+        assert!(rt; false);
+        return Ok(());
+    };
+    assert!(rt; !task.is_woken());
+    assert!(rt; comes_and_goes(&rt, &channel, &mut pass, 2));
+    assert!(rt; task.is_woken());
     assert!(rt; receive.into_pass().is_some());
     Ok(())
 }
