@@ -1,9 +1,11 @@
-//! Numbers go through a channel from one thread to another: it is proved that the copy is the whole.
+//! Numbers go through a channel, between threads and between tasks: each copy is proved whole.
 #![tactic(auto)]
 
+mod in_one_task;
 mod relay;
 
 use anyhow::Result;
+use in_one_task::relay_in_one_task;
 use relay::relay;
 
 fn main(rt: HostRuntime) -> Result<()> {
@@ -11,5 +13,7 @@ fn main(rt: HostRuntime) -> Result<()> {
     for number in relay(&rt, rt.alloc(), &numbers)? {
         println!(rt; "{number} arrived")?;
     }
+    let copy = relay_in_one_task(&rt, rt.alloc(), &numbers)?;
+    println!(rt; "{} arrived in one task", copy.len())?;
     Ok(())
 }

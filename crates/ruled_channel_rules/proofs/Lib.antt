@@ -2,3 +2,5 @@ pub mod Merging
 pub mod Keeps
 pub mod Settled
 pub mod Stages
+pub mod GivenUp
+pub mod Lists

@@ -1,3 +1,7 @@
 pub mod Merged
 pub mod Whole
 pub mod Handles
+pub mod Sending
+pub mod Receiving
+pub mod SendingEach
+pub mod Collecting

@@ -23,7 +23,7 @@ use std::sync::Wait;
 /// ```
 #[derive(Drop)]
 pub struct Channel<T> {
-    ruled: RuledChannel<T, Log<T>, Whole>,
+    pub(crate) ruled: RuledChannel<T, Log<T>, Whole>,
 }
 
 /// Makes the senders and the receivers of a channel, and takes them back. It has no bytes.
@@ -36,7 +36,7 @@ pub struct Channel<T> {
 /// ```
 #[derive(Drop)]
 pub struct Hub<T> {
-    pass: Pass<T, Log<T>>,
+    pub(crate) pass: Pass<T, Log<T>>,
 }
 
 /// Sends messages, and knows which. It has no bytes.
@@ -48,7 +48,7 @@ pub struct Hub<T> {
 /// ```
 #[derive(Drop)]
 pub struct Sender<T> {
-    pass: Pass<T, Log<T>>,
+    pub(crate) pass: Pass<T, Log<T>>,
 }
 
 /// Receives messages, and knows which. It has no bytes.
@@ -62,7 +62,7 @@ pub struct Sender<T> {
 /// ```
 #[derive(Drop)]
 pub struct Receiver<T> {
-    pass: Pass<T, Log<T>>,
+    pub(crate) pass: Pass<T, Log<T>>,
 }
 
 /// An open and empty channel that holds at most `cap` messages, and its hub.

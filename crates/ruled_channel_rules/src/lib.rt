@@ -6,6 +6,9 @@
 //! [`Hub::settle_pair`] of one sender and one receiver, [`Hub::settle_to_one`] of several senders,
 //! [`Hub::settle`] of several of both.
 //!
+//! Calls that wait block their thread, or are futures, which own their handle and give it back:
+//! [`Sender::send`], [`Sender::send_each`], [`Receiver::recv`] and [`Receiver::collect`].
+//!
 //! Handles have no bytes, and a call is told its channel. Dropping a handle closes nothing; without
 //! it the hub can't settle.
 //!
@@ -14,6 +17,10 @@
 
 mod handles;
 mod log;
+mod receiving;
+mod sending;
 
 pub use handles::{Channel, Hub, Receiver, Sender, bounded, unbounded};
+pub use receiving::{Collect, Recv};
 pub use ruled_channel::{NoMemory, OutOfMemory, RecvError, SendError};
+pub use sending::{Send, SendEach};

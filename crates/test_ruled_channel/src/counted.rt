@@ -95,3 +95,74 @@ fn a_wait_given_up_leaves_the_others(rt: HostRuntime) -> Result<(), Fail> {
     assert!(rt; matches!(next.poll(&mut behind), Poll::Ready((_, Ok(())))));
     Ok(())
 }
+
+#[test]
+fn a_channel_closed_by_hand_counts_on(rt: HostRuntime) -> Result<(), Fail> {
+    let (channel, mut pass, _, _) = channel_for_three(rt.alloc())?;
+    let p = &mut pass;
+    assert!(rt; channel.close_as::<Unruled, _>(&rt, p));
+    assert!(rt; channel.add_sender(&rt, p));
+    assert!(rt; channel.add_receiver(&rt, p));
+    assert!(rt; !channel.drop_sender_as::<Unruled, _>(&rt, p));
+    assert!(rt; channel.add_sender(&rt, p));
+    assert!(rt; !channel.drop_sender_as::<Unruled, _>(&rt, p));
+    assert!(rt; !channel.drop_sender_as::<Unruled, _>(&rt, p));
+    assert!(rt; !channel.add_sender(&rt, p));
+    assert!(rt; !channel.drop_receiver_as::<Unruled, _>(&rt, p));
+    assert!(rt; !channel.drop_receiver_as::<Unruled, _>(&rt, p));
+    assert!(rt; !channel.add_receiver(&rt, p));
+    Ok(())
+}
+
+#[test]
+fn a_wait_given_up_is_woken_no_more(rt: HostRuntime) -> Result<(), Fail> {
+    for is_dropped in [false, true] {
+        let (channel, mut pass, other, _) = channel_for_three(rt.alloc())?;
+        let task = MockTask::new(&rt)?;
+        let mut closed = channel.closed_as(&rt, other);
+        let Poll::Pending = task.poll(&mut closed) else {
+            assert!(rt; false);
+            return Ok(());
+        };
+        if is_dropped {
+            drop(closed);
+        } else {
+            assert!(rt; closed.into_pass().is_some());
+        }
+        // its waker, which was let go, woke it
+        task.enter(|_| ());
+        assert!(rt; channel.drop_receiver_as::<Unruled, _>(&rt, &mut pass));
+        assert!(rt; !task.is_woken());
+    }
+    Ok(())
+}
+
+#[test]
+fn a_wait_polled_again_wakes_nobody(rt: HostRuntime) -> Result<(), Fail> {
+    let (channel, _, other, _) = channel_for_three(rt.alloc())?;
+    let task = MockTask::new(&rt)?;
+    let mut closed = channel.closed_as(&rt, other);
+    let Poll::Pending = task.poll(&mut closed) else {
+        assert!(rt; false);
+        return Ok(());
+    };
+    let Poll::Pending = task.poll(&mut closed) else {
+        assert!(rt; false);
+        return Ok(());
+    };
+    assert!(rt; !task.is_woken());
+    Ok(())
+}
+
+#[test]
+fn a_ready_wait_leaves_no_waker(rt: HostRuntime) -> Result<(), Fail> {
+    let (channel, mut pass, other, _) = channel_for_three(rt.alloc())?;
+    let task = MockTask::new(&rt)?;
+    assert!(rt; channel.drop_receiver_as::<Unruled, _>(&rt, &mut pass));
+    let mut closed = channel.closed_as(&rt, other);
+    assert!(rt; matches!(task.poll(&mut closed), Poll::Ready((_, Ok(())))));
+    // a waker that is let go wakes its task
+    drop(closed);
+    assert!(rt; !task.is_woken());
+    Ok(())
+}

@@ -2,6 +2,8 @@
 #![tactic(auto)]
 
 #[cfg(test)]
+mod blocked;
+#[cfg(test)]
 mod counted;
 pub mod plain;
 #[cfg(test)]
@@ -10,5 +12,7 @@ mod receives;
 mod rules;
 #[cfg(test)]
 mod sends;
+#[cfg(test)]
+mod tasks;
 #[cfg(test)]
 mod tests;

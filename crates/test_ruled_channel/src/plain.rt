@@ -222,8 +222,8 @@ pub fn two_and_two<R: Threads + Wait + Sync>(
     )
 }
 
-// Lets others run for a while.
-fn give_turns() {
+/// Lets others run for a while.
+pub fn give_turns() {
     for _ in 0..1000 {
         yield_now();
     }

@@ -161,3 +161,69 @@ fn an_executor_waits_for_another_thread(rt: HostRuntime) -> Result<(), Fail> {
     }
     Ok(())
 }
+
+#[test]
+fn a_receive_polled_again_keeps_its_place(rt: HostRuntime) -> Result<(), Fail> {
+    let (channel, mut pass, other, last) = channel_for_three(rt.alloc())?;
+    let (task, next) = (MockTask::new(&rt)?, MockTask::new(&rt)?);
+    let mut receive = channel.recv_as::<Unruled, Unruled, _>(&rt, other);
+    let mut behind = channel.recv_as::<Unruled, Unruled, _>(&rt, last);
+    let Poll::Pending = task.poll(&mut receive) else {
+        assert!(rt; false);
+        return Ok(());
+    };
+    let Poll::Pending = next.poll(&mut behind) else {
+        assert!(rt; false);
+        return Ok(());
+    };
+    let Poll::Pending = task.poll(&mut receive) else {
+        assert!(rt; false);
+        return Ok(());
+    };
+    assert!(rt; !task.is_woken());
+    let sent = channel.try_send_as::<Unruled, Unruled, _>(&rt, &mut pass, 1);
+    assert_eq!(rt; sent, Ok(Ok(())));
+    assert!(rt; task.is_woken() && !next.is_woken());
+    Ok(())
+}
+
+#[test]
+fn a_receive_that_takes_anothers_message_waits_no_more(rt: HostRuntime) -> Result<(), Fail> {
+    let (channel, mut pass, other, last) = channel_for_three(rt.alloc())?;
+    let (task, next) = (MockTask::new(&rt)?, MockTask::new(&rt)?);
+    let mut receive = channel.recv_as::<Unruled, Unruled, _>(&rt, other);
+    let mut behind = channel.recv_as::<Unruled, Unruled, _>(&rt, last);
+    let Poll::Pending = task.poll(&mut receive) else {
+        assert!(rt; false);
+        return Ok(());
+    };
+    let Poll::Pending = next.poll(&mut behind) else {
+        assert!(rt; false);
+        return Ok(());
+    };
+    let sent = channel.try_send_as::<Unruled, Unruled, _>(&rt, &mut pass, 1);
+    assert_eq!(rt; sent, Ok(Ok(())));
+    assert!(rt; matches!(next.poll(&mut behind), Poll::Ready((_, Ok(Ok(1))))));
+    let Poll::Pending = task.poll(&mut receive) else {
+        assert!(rt; false);
+        return Ok(());
+    };
+    let sent = channel.try_send_as::<Unruled, Unruled, _>(&rt, &mut pass, 2);
+    assert_eq!(rt; sent, Ok(Ok(())));
+    assert!(rt; task.is_woken());
+    Ok(())
+}
+
+#[test]
+fn a_ready_receive_leaves_no_waker(rt: HostRuntime) -> Result<(), Fail> {
+    let (channel, mut pass, other, _) = channel_for_three(rt.alloc())?;
+    let task = MockTask::new(&rt)?;
+    let sent = channel.try_send_as::<Unruled, Unruled, _>(&rt, &mut pass, 1);
+    assert_eq!(rt; sent, Ok(Ok(())));
+    let mut receive = channel.recv_as::<Unruled, Unruled, _>(&rt, other);
+    assert!(rt; matches!(task.poll(&mut receive), Poll::Ready((_, Ok(Ok(1))))));
+    // a waker that is let go wakes its task
+    drop(receive);
+    assert!(rt; !task.is_woken());
+    Ok(())
+}

@@ -40,3 +40,21 @@ fn a_receiver_closes_a_channel_without_a_bound(rt: HostRuntime) -> Result<(), Fa
     assert!(rt; all.is_ok_and(|all| all.as_slice() == [1, 2, 3].as_slice()));
     Ok(())
 }
+
+#[test]
+fn a_hundred_thousand_messages(rt: HostRuntime) -> Result<(), Fail> {
+    let Ok((channel, mut hub)) = unbounded::<u32>(rt.alloc()) else {
+        return Err(AllocError.into());
+    };
+    let messages = (0..100_000u32).collect::<Vec<_>>(rt.alloc())?;
+    let mut sender = hub.sender(&channel);
+    let mut receiver = hub.receiver(&channel);
+    assert_eq!(rt;
+        sender.send_all(&rt, &channel, messages.as_slice()),
+        100_000
+    );
+    assert!(rt; sender.close(&rt, &channel));
+    let all = receiver.recv_all(&rt, rt.alloc(), &channel);
+    assert!(rt; all.is_ok_and(|all| all.as_slice() == messages.as_slice()));
+    Ok(())
+}

@@ -131,3 +131,95 @@ fn two_futures_of_one_task_meet(rt: HostRuntime) -> Result<(), Fail> {
     assert_eq!(rt; send_to_itself(&rt, &channel, pass), Some(7));
     Ok(())
 }
+
+#[test]
+fn a_send_polled_again_keeps_its_place(rt: HostRuntime) -> Result<(), Fail> {
+    let (channel, mut pass, other, last) = channel_for_three(rt.alloc())?;
+    let (task, next) = (MockTask::new(&rt)?, MockTask::new(&rt)?);
+    let sent = channel.try_send_as::<Unruled, Unruled, _>(&rt, &mut pass, 1);
+    assert_eq!(rt; sent, Ok(Ok(())));
+    let mut send = channel.send_as::<Unruled, Unruled, _>(&rt, other, 2);
+    let mut behind = channel.send_as::<Unruled, Unruled, _>(&rt, last, 3);
+    let Poll::Pending = task.poll(&mut send) else {
+        assert!(rt; false);
+        return Ok(());
+    };
+    let Poll::Pending = next.poll(&mut behind) else {
+        assert!(rt; false);
+        return Ok(());
+    };
+    let Poll::Pending = task.poll(&mut send) else {
+        assert!(rt; false);
+        return Ok(());
+    };
+    assert!(rt; !task.is_woken());
+    let got = channel.try_recv_as::<Unruled, Unruled, Unruled, _>(&rt, &mut pass);
+    assert_eq!(rt; got, Ok(1));
+    assert!(rt; task.is_woken() && !next.is_woken());
+    Ok(())
+}
+
+#[test]
+fn a_send_that_takes_anothers_room_waits_no_more(rt: HostRuntime) -> Result<(), Fail> {
+    let (channel, mut pass, other, last) = channel_for_three(rt.alloc())?;
+    let (task, next) = (MockTask::new(&rt)?, MockTask::new(&rt)?);
+    let sent = channel.try_send_as::<Unruled, Unruled, _>(&rt, &mut pass, 1);
+    assert_eq!(rt; sent, Ok(Ok(())));
+    let mut send = channel.send_as::<Unruled, Unruled, _>(&rt, other, 2);
+    let mut behind = channel.send_as::<Unruled, Unruled, _>(&rt, last, 3);
+    let Poll::Pending = task.poll(&mut send) else {
+        assert!(rt; false);
+        return Ok(());
+    };
+    let Poll::Pending = next.poll(&mut behind) else {
+        assert!(rt; false);
+        return Ok(());
+    };
+    let got = channel.try_recv_as::<Unruled, Unruled, Unruled, _>(&rt, &mut pass);
+    assert_eq!(rt; got, Ok(1));
+    assert!(rt; matches!(next.poll(&mut behind), Poll::Ready((_, Ok(Ok(()))))));
+    let Poll::Pending = task.poll(&mut send) else {
+        assert!(rt; false);
+        return Ok(());
+    };
+    let got = channel.try_recv_as::<Unruled, Unruled, Unruled, _>(&rt, &mut pass);
+    assert_eq!(rt; got, Ok(3));
+    assert!(rt; task.is_woken());
+    Ok(())
+}
+
+#[test]
+fn a_send_given_up_untold_leaves_the_room_to_the_next(rt: HostRuntime) -> Result<(), Fail> {
+    let (channel, mut pass, other, last) = channel_for_three(rt.alloc())?;
+    let (task, next) = (MockTask::new(&rt)?, MockTask::new(&rt)?);
+    let sent = channel.try_send_as::<Unruled, Unruled, _>(&rt, &mut pass, 1);
+    assert_eq!(rt; sent, Ok(Ok(())));
+    let mut send = channel.send_as::<Unruled, Unruled, _>(&rt, other, 2);
+    let mut behind = channel.send_as::<Unruled, Unruled, _>(&rt, last, 3);
+    let Poll::Pending = task.poll(&mut send) else {
+        assert!(rt; false);
+        return Ok(());
+    };
+    let Poll::Pending = next.poll(&mut behind) else {
+        assert!(rt; false);
+        return Ok(());
+    };
+    drop(send);
+    assert!(rt; !next.is_woken());
+    let got = channel.try_recv_as::<Unruled, Unruled, Unruled, _>(&rt, &mut pass);
+    assert_eq!(rt; got, Ok(1));
+    assert!(rt; next.is_woken());
+    Ok(())
+}
+
+#[test]
+fn a_ready_send_leaves_no_waker(rt: HostRuntime) -> Result<(), Fail> {
+    let (channel, _, other, _) = channel_for_three(rt.alloc())?;
+    let task = MockTask::new(&rt)?;
+    let mut send = channel.send_as::<Unruled, Unruled, _>(&rt, other, 1);
+    assert!(rt; matches!(task.poll(&mut send), Poll::Ready((_, Ok(Ok(()))))));
+    // a waker that is let go wakes its task
+    drop(send);
+    assert!(rt; !task.is_woken());
+    Ok(())
+}

@@ -1,0 +1,54 @@
+-- When a send may be polled, and what it gives.
+use Rattle.std.specs.Prelude.{◌≡◌, true, [], ◌∷◌, ◌++◌, Option, Result, IfOk, IfErr}
+use Rattle.channel_core.specs.Channel.{Channel as Core}
+use Rattle.channel_model.specs.declared.errors.NoMemory.{NoMemory}
+use Rattle.channel_model.specs.declared.errors.SendError.{SendError}
+use Rattle.channel_wakers.specs.declared.mark.Mark.{Mark}
+use Rattle.ruled_mutex.specs.declared.pass.Pass.{Pass}
+use Rattle.ruled_channel.specs.declared.channel.RuledChannel.{RuledChannel}
+use Rattle.ruled_channel.specs.Sending.{MaySend as MayPoll, GivesSent}
+use Rattle.ruled_channel_rules.specs.declared.log.Log.{Log}
+use Rattle.ruled_channel_rules.specs.declared.handles.Channel.{Channel}
+use Rattle.ruled_channel_rules.specs.declared.handles.Sender.{Sender}
+use Rattle.ruled_channel_rules.specs.Whole.{IsWhole, with_sent}
+use Rattle.ruled_channel_rules.specs.Handles.{IsSenderOf, sent_by, sender_closed}
+
+module _ {T : Type 0} where
+  -- a sender that has sent nothing more, and knows nothing more
+  abbrev pub IsAsItWas : Sender T → Sender T → Type 0
+  IsAsItWas old new = (sent_by new ≡ sent_by old) × (sender_closed new ≡ sender_closed old)
+
+  -- The sender comes back, and has sent the message; or it has not, and the message comes back too.
+  -- If the channel was closed, it knows it.
+  abbrev pub TellsSent : Channel T → Sender T → T
+      → Sender T × Result (Result (Unit {0}) (SendError T)) (NoMemory T) → Type 0
+  TellsSent channel s m out =
+      IsSenderOf channel out.0
+      × IfOk out.1 (λ answer. IfOk answer (λ _. sent_by out.0 ≡ sent_by s ++ m ∷ [])
+      × IfErr answer (λ error. (error.0 ≡ m) × (sent_by out.0 ≡ sent_by s)
+      × (sender_closed out.0 ≡ true)))
+      × IfErr out.1 (λ error. (error.0 ≡ m) × IsAsItWas s out.0)
+
+  -- the same, before one that was refused is told that the channel is closed
+  abbrev pub Comes : Channel T → Sender T → T
+      → Sender T × Result (Result (Unit {0}) (SendError T)) (NoMemory T) → Type 0
+  Comes channel s m out =
+      IsSenderOf channel out.0
+      × IfOk out.1 (λ answer. IfOk answer (λ _. sent_by out.0 ≡ sent_by s ++ m ∷ [])
+      × IfErr answer (λ error. (error.0 ≡ m) × IsAsItWas s out.0))
+      × IfErr out.1 (λ error. (error.0 ≡ m) × IsAsItWas s out.0)
+
+  module _ {P : Type 0} where
+    -- what the send below gives
+    abbrev pub Gives : RuledChannel T (Log T) P → Option (Pass (Core T Mark) (Log T) × T)
+        → Pass (Core T Mark) (Log T) × Result (Result (Unit {0}) (SendError T)) (NoMemory T)
+        → Type 0
+    Gives = GivesSent (λ _. Unit {0}) (λ v m w. w ≡ with_sent v m) (λ _ _ _. Unit {0})
+
+    -- The send below may be polled, and whatever it gives is a send of this message by this sender.
+    abbrev pub MaySend : Channel T → Sender T → T → RuledChannel T (Log T) P
+        → Option (Pass (Core T Mark) (Log T) × T) → Type 0
+    MaySend channel s m below parts =
+        MayPoll (λ _. Unit {0}) IsWhole (λ v m w. w ≡ with_sent v m) (λ _ _ _. Unit {0}) below parts
+        × ((x : Pass (Core T Mark) (Log T) × Result (Result (Unit {0}) (SendError T)) (NoMemory T))
+        → Gives below parts x → Comes channel s m (record { pass = x.0 }, x.1))

@@ -1,0 +1,281 @@
+//! Receives as futures, which own their receiver and give it back.
+ghost use Rattle.std.specs.Prelude.{◌≡◌, IfSome, IfNone, IsSomeAnd};
+ghost use Rattle.futures.specs.Task.{Covers, Keeps};
+ghost use Rattle.futures.specs.Poll.{IfReady, OnPending};
+ghost use Rattle.ruled_channel_rules.specs.Handles.{IsReceiverOf, got_by};
+ghost use Rattle.ruled_channel_rules.specs.Receiving.{MayReceive, TellsReceived};
+
+use crate::handles::{Channel, Receiver};
+use crate::log::{Log, Whole};
+use crate::sending::BUDGET;
+use futures::future::Future;
+use futures::ready;
+use futures::task::{Context, Poll};
+use ruled_channel::{OutOfMemory, RecvError};
+use std::alloc::Global;
+use std::snapshot::Snapshot;
+use std::sync::Wait;
+
+/// A receive that owns its receiver, and gives it back with its answer.
+///
+/// Dropping it takes no message, and its receiver is dropped with it. `give_up` keeps it.
+///
+/// ```
+/// let (channel, mut hub) = bounded(rt.alloc(), 1)?;
+/// let mut receive: Recv<'_, '_, u64, _> = hub.receiver(&channel).recv(&rt, &channel);
+/// drop(receive.give_up());
+/// ```
+#[derive(Drop)]
+pub struct Recv<'r, 'c, T: Drop, R: Wait> {
+    channel: &'c Channel<T>,
+    // None, once a poll was ready.
+    inner: Option<ruled_channel::Recv<'r, 'c, T, Log<T>, Whole, Whole, Whole, R>>,
+    // What it began with.
+    receiver: Snapshot<Receiver<T>>,
+}
+
+impl<T: Drop> Receiver<T> {
+    /// Takes the oldest message, in a task, which sleeps while there is none.
+    ///
+    /// It gives the receiver, and with it a message, [`RecvError`] if the channel is closed and
+    /// empty, or [`OutOfMemory`] if memory was refused.
+    ///
+    /// ```
+    /// let (channel, mut hub) = bounded(rt.alloc(), 4)?;
+    /// let mut sender = hub.sender(&channel);
+    /// assert_eq!(rt; sender.send_blocking(&rt, &channel, 1)?, Ok(()));
+    /// let receive = hub.receiver(&channel).recv(&rt, &channel);
+    /// let (receiver, got) = block_on(&rt, receive)?;
+    /// assert_eq!(rt; got, Ok(Ok(1)));
+    /// drop(receiver);
+    /// ```
+    pub fn recv<'r, 'c, R: Wait>(self, rt: &'r R, channel: &'c Channel<T>) -> Recv<'r, 'c, T, R>
+        requires own { IsReceiverOf channel.now self }
+        ensures may { IsSomeAnd result.inner (λ b. MayReceive result.channel.now
+            result.receiver.value b.channel.now b.pass) }
+        ensures of { (result.channel.now ≡ channel.now) × (result.receiver.value ≡ self) }
+    {
+        let receiver = Snapshot::of(&self);
+        let Receiver { pass } = self;
+        Recv {
+            channel,
+            inner: Some(channel.ruled.recv_as::<Whole, Whole, R>(rt, pass)),
+            receiver,
+        }
+    }
+}
+
+impl<T: Drop, R: Wait> Future for Recv<'_, '_, T, R> {
+    type Output = (Receiver<T>, Result<Result<T, RecvError>, OutOfMemory>);
+
+    ghost can_poll = { λ f. IsSomeAnd f.inner (λ b. MayReceive f.channel.now f.receiver.value
+        b.channel.now b.pass) };
+
+    ghost needs = { λ f source. IsSomeAnd f.inner (λ b. source ≡ b.channel.now.source.id) };
+
+    ghost gives = { λ f. TellsReceived f.channel.now f.receiver.value };
+
+    fn poll(&mut self, cx: &mut Context<'_>) -> Poll<Self::Output>
+        requires { IsSomeAnd self.old.inner (λ b. MayReceive self.old.channel.now
+            self.old.receiver.value b.channel.now b.pass) }
+        ensures value { IfReady result
+            (TellsReceived self.old.channel.now self.old.receiver.value) }
+        ensures again { OnPending result (IsSomeAnd self.new.inner
+            (λ b. MayReceive self.new.channel.now self.new.receiver.value
+            b.channel.now b.pass)) }
+        ensures same { OnPending result ((x : _)
+            → TellsReceived self.new.channel.now self.new.receiver.value x
+            → TellsReceived self.old.channel.now self.old.receiver.value x) }
+        ensures registered { OnPending result (Covers cx.new
+            (λ source. IsSomeAnd self.new.inner (λ b. source ≡ b.channel.now.source.id))) }
+        ensures stays { (self.new.channel.now ≡ self.old.channel.now)
+            × (self.new.receiver.value ≡ self.old.receiver.value) }
+        ensures kept { Keeps cx.old cx.new }
+    {
+        let Some(mut inner) = self.inner.take() else {
+            unreachable!()
+        };
+        match inner.poll(cx) {
+            Poll::Ready((pass, got)) => Poll::Ready((Receiver { pass }, got)),
+            Poll::Pending => {
+                self.inner = Some(inner);
+                Poll::Pending
+            }
+        }
+    }
+}
+
+impl<T: Drop, R: Wait> Recv<'_, '_, T, R> {
+    /// Gives up a receive that was not ready yet. Its receiver got no message.
+    ///
+    /// ```
+    /// let (channel, mut hub) = bounded(rt.alloc(), 4)?;
+    /// let mut sender = hub.sender(&channel);
+    /// let mut receive = hub.receiver(&channel).recv(&rt, &channel);
+    /// let mut receiver = receive.give_up();
+    /// assert_eq!(rt; sender.send_blocking(&rt, &channel, 1)?, Ok(()));
+    /// assert_eq!(rt; receiver.recv_blocking(&rt, &channel)?, Ok(1));
+    /// ```
+    pub fn give_up(&mut self) -> Receiver<T>
+        requires may { IsSomeAnd self.old.inner (λ b. MayReceive self.old.channel.now
+            self.old.receiver.value b.channel.now b.pass) }
+        ensures own { IsReceiverOf self.old.channel.now result }
+        ensures same { got_by result ≡ got_by self.old.receiver.value }
+    {
+        let Some(inner) = self.inner.take() else {
+            unreachable!()
+        };
+        let Some(pass) = inner.into_pass() else {
+            unreachable!()
+        };
+        Receiver { pass }
+    }
+}
+
+/// A receive of all messages, that owns its receiver and gives it back with them.
+///
+/// Dropping it takes no more, and its receiver is dropped with it. `give_up` keeps it.
+///
+/// ```
+/// let (channel, mut hub) = bounded(rt.alloc(), 4)?;
+/// let receiver = hub.receiver(&channel);
+/// let mut collect: Collect<'_, '_, u64, _> = receiver.collect(&rt, rt.alloc(), &channel);
+/// assert!(rt; collect.give_up().1.is_empty());
+/// ```
+#[derive(Drop)]
+pub struct Collect<'r, 'c, T: Drop, R: Wait> {
+    rt: &'r R,
+    channel: &'c Channel<T>,
+    // None, once a poll was ready.
+    parts: Option<(Recv<'r, 'c, T, R>, Vec<T>)>,
+    // What it began with.
+    receiver: Snapshot<Receiver<T>>,
+}
+
+impl<T: Drop> Receiver<T> {
+    ghost use Rattle.ruled_channel_rules.specs.Collecting.{MayCollect};
+
+    /// Receives messages, in a task, as `recv_all` does: until the channel is closed and empty. If
+    /// memory is refused, it closes the channel, so that nobody waits to send, and what it had
+    /// received is gone.
+    ///
+    /// ```
+    /// let (channel, mut hub) = bounded(rt.alloc(), 4)?;
+    /// let mut sender = hub.sender(&channel);
+    /// assert_eq!(rt; sender.send_all(&rt, &channel, &[1, 2]), 2);
+    /// sender.close(&rt, &channel);
+    /// let collect = hub.receiver(&channel).collect(&rt, rt.alloc(), &channel);
+    /// let (receiver, all) = block_on(&rt, collect)?;
+    /// assert_eq!(rt; all?.as_slice(), [1, 2].as_slice());
+    /// drop(receiver);
+    /// ```
+    pub fn collect<'r, 'c, R: Wait>(
+        self,
+        rt: &'r R,
+        alloc: Global,
+        channel: &'c Channel<T>,
+    ) -> Collect<'r, 'c, T, R>
+        requires own { IsReceiverOf channel.now self }
+        ensures may { MayCollect result.channel.now result.receiver.value result.parts }
+        ensures of { (result.channel.now ≡ channel.now) × (result.receiver.value ≡ self) }
+    {
+        let receiver = Snapshot::of(&self);
+        Collect {
+            rt,
+            channel,
+            parts: Some((self.recv(rt, channel), Vec::new(alloc))),
+            receiver,
+        }
+    }
+}
+
+impl<T: Drop, R: Wait> Future for Collect<'_, '_, T, R> {
+    ghost use Rattle.ruled_channel_rules.specs.Collecting.{MayCollect, TellsCollected, waits_at};
+
+    type Output = (Receiver<T>, Result<Vec<T>, OutOfMemory>);
+
+    ghost can_poll = { λ f. MayCollect f.channel.now f.receiver.value f.parts };
+
+    ghost needs = { λ f. waits_at f.parts };
+
+    ghost gives = { λ f. TellsCollected f.channel.now f.receiver.value };
+
+    fn poll(&mut self, cx: &mut Context<'_>) -> Poll<Self::Output> {
+        for _ in 0..BUDGET {
+            if let Some(answer) = ready!(self.advance(cx)) {
+                return Poll::Ready(answer);
+            }
+        }
+        cx.yield_now()
+    }
+}
+
+impl<T: Drop, R: Wait> Collect<'_, '_, T, R> {
+    ghost use Rattle.ruled_channel_rules.specs.Collecting.{MayCollect, TellsCollected, HasGot, waits_at};
+
+    /// Gives it up before it was ready: its receiver, and what it received.
+    ///
+    /// ```
+    /// let (channel, mut hub) = bounded(rt.alloc(), 4)?;
+    /// let receiver = hub.receiver(&channel);
+    /// let mut collect: Collect<'_, '_, u64, _> = receiver.collect(&rt, rt.alloc(), &channel);
+    /// let (receiver, messages) = collect.give_up();
+    /// assert!(rt; messages.is_empty());
+    /// drop(receiver);
+    /// ```
+    pub fn give_up(&mut self) -> (Receiver<T>, Vec<T>)
+        requires may { MayCollect self.old.channel.now self.old.receiver.value self.old.parts }
+        ensures { HasGot self.old.channel.now self.old.receiver.value result.1.items result.0 }
+    {
+        let Some((mut receive, all)) = self.parts.take() else {
+            unreachable!()
+        };
+        (receive.give_up(), all)
+    }
+
+    // Polls the receive that waits, and begins the next one after a message.
+    fn advance(
+        &mut self,
+        cx: &mut Context<'_>,
+    ) -> Poll<Option<(Receiver<T>, Result<Vec<T>, OutOfMemory>)>>
+        requires { MayCollect self.old.channel.now self.old.receiver.value self.old.parts }
+        ensures done { IfReady result (λ done. IfSome done
+            (TellsCollected self.old.channel.now self.old.receiver.value)) }
+        ensures goes_on { IfReady result (λ done. IfNone done
+            (MayCollect self.old.channel.now self.old.receiver.value self.new.parts)) }
+        ensures again { OnPending result
+            (MayCollect self.old.channel.now self.old.receiver.value self.new.parts) }
+        ensures registered { OnPending result (Covers cx.new (waits_at self.new.parts)) }
+        ensures stays { (self.new.channel.now ≡ self.old.channel.now)
+            × (self.new.receiver.value ≡ self.old.receiver.value) }
+        ensures kept { Keeps cx.old cx.new }
+    {
+        let Some((mut receive, mut all)) = self.parts.take() else {
+            unreachable!()
+        };
+        let Poll::Ready((receiver, got)) = receive.poll(cx) else {
+            self.parts = Some((receive, all));
+            return Poll::Pending;
+        };
+        match got {
+            Ok(Ok(message)) => {
+                if all.push(message).is_err() {
+                    return Poll::Ready(Some((self.refuse(receiver), Err(OutOfMemory))));
+                }
+                self.parts = Some((receiver.recv(self.rt, self.channel), all));
+                Poll::Ready(None)
+            }
+            Ok(Err(_)) => Poll::Ready(Some((receiver, Ok(all)))),
+            Err(_) => Poll::Ready(Some((self.refuse(receiver), Err(OutOfMemory)))),
+        }
+    }
+
+    // Memory was refused: nobody is to wait to send.
+    fn refuse(&self, mut receiver: Receiver<T>) -> Receiver<T>
+        requires { IsReceiverOf self.now.channel.now receiver }
+        ensures { IsReceiverOf self.now.channel.now result }
+    {
+        receiver.close(self.rt, self.channel);
+        receiver
+    }
+}

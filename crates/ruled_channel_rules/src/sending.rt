@@ -1,0 +1,368 @@
+//! Sends as futures, which own their sender and give it back.
+ghost use Rattle.std.specs.Prelude.{◌≡◌, true, false, IfSome, IfNone, IsSomeAnd};
+ghost use Rattle.futures.specs.Task.{Covers, Keeps};
+ghost use Rattle.futures.specs.Poll.{IfReady, OnPending};
+ghost use Rattle.ruled_channel_rules.specs.Handles.{IsSenderOf};
+ghost use Rattle.ruled_channel_rules.specs.Sending.{Comes, MaySend, TellsSent, IsAsItWas};
+
+use crate::handles::{Channel, Sender};
+use crate::log::{Log, Whole};
+use futures::future::Future;
+use futures::ready;
+use futures::task::{Context, Poll};
+use ruled_channel::{NoMemory, SendError, Unruled};
+use std::mem;
+use std::snapshot::Snapshot;
+use std::sync::Wait;
+
+/// What became of a message.
+type Sent<T> = Result<Result<(), SendError<T>>, NoMemory<T>>;
+
+/// How many steps a poll makes before the task's others have a turn.
+pub(crate) const BUDGET: u32 = 128;
+
+/// A send that owns its sender and its message, and gives the sender back with its answer.
+///
+/// Dropping it sends nothing, and its sender is dropped with it. `give_up` keeps both.
+///
+/// ```
+/// let (channel, mut hub) = bounded(rt.alloc(), 1)?;
+/// let mut send: Send<'_, '_, u64, _> = hub.sender(&channel).send(&rt, &channel, 5);
+/// assert!(rt; matches!(send.give_up(), (_, 5)));
+/// ```
+#[derive(Drop)]
+pub struct Send<'r, 'c, T: Drop, R: Wait> {
+    rt: &'r R,
+    channel: &'c Channel<T>,
+    // None, once a poll was ready.
+    inner: Option<ruled_channel::Send<'r, 'c, T, Log<T>, Whole, Whole, Unruled, R>>,
+    // What it began with.
+    sender: Snapshot<Sender<T>>,
+    message: Snapshot<T>,
+}
+
+impl<T: Drop> Sender<T> {
+    /// Sends a message, in a task, which sleeps while the channel is full.
+    ///
+    /// It gives the sender, and with it the message in a [`SendError`] if the channel is closed, or
+    /// in a [`NoMemory`] if memory was refused.
+    ///
+    /// ```
+    /// let (channel, mut hub) = bounded(rt.alloc(), 4)?;
+    /// let mut receiver = hub.receiver(&channel);
+    /// let send = hub.sender(&channel).send(&rt, &channel, 1);
+    /// let (sender, sent) = block_on(&rt, send)?;
+    /// assert_eq!(rt; sent, Ok(Ok(())));
+    /// assert_eq!(rt; receiver.recv_blocking(&rt, &channel)?, Ok(1));
+    /// drop(sender);
+    /// ```
+    pub fn send<'r, 'c, R: Wait>(
+        self,
+        rt: &'r R,
+        channel: &'c Channel<T>,
+        message: T,
+    ) -> Send<'r, 'c, T, R>
+        requires own { IsSenderOf channel.now self }
+        ensures may { IsSomeAnd result.inner (λ b. MaySend result.channel.now result.sender.value
+            result.message.value b.channel.now b.parts) }
+        ensures of { (result.channel.now ≡ channel.now) × (result.sender.value ≡ self)
+            × (result.message.value ≡ message) }
+    {
+        let sender = Snapshot::of(&self);
+        let first = Snapshot::of(&message);
+        let Sender { pass } = self;
+        let ruled = &channel.ruled;
+        Send {
+            rt,
+            channel,
+            inner: Some(ruled.send_as::<Whole, Unruled, R>(rt, pass, message)),
+            sender,
+            message: first,
+        }
+    }
+}
+
+impl<T: Drop, R: Wait> Future for Send<'_, '_, T, R> {
+    type Output = (Sender<T>, Sent<T>);
+
+    ghost can_poll = { λ f. IsSomeAnd f.inner (λ b. MaySend f.channel.now f.sender.value
+        f.message.value b.channel.now b.parts) };
+
+    ghost needs = { λ f source. IsSomeAnd f.inner (λ b. source ≡ b.channel.now.source.id) };
+
+    ghost gives = { λ f. TellsSent f.channel.now f.sender.value f.message.value };
+
+    fn poll(&mut self, cx: &mut Context<'_>) -> Poll<Self::Output>
+        requires { IsSomeAnd self.old.inner (λ b. MaySend self.old.channel.now
+            self.old.sender.value self.old.message.value b.channel.now b.parts) }
+        ensures value { IfReady result
+            (TellsSent self.old.channel.now self.old.sender.value self.old.message.value) }
+        ensures again { OnPending result (IsSomeAnd self.new.inner
+            (λ b. MaySend self.new.channel.now self.new.sender.value self.new.message.value
+            b.channel.now b.parts)) }
+        ensures same { OnPending result ((x : _)
+            → TellsSent self.new.channel.now self.new.sender.value self.new.message.value x
+            → TellsSent self.old.channel.now self.old.sender.value self.old.message.value x) }
+        ensures registered { OnPending result (Covers cx.new
+            (λ source. IsSomeAnd self.new.inner (λ b. source ≡ b.channel.now.source.id))) }
+        ensures stays { (self.new.channel.now ≡ self.old.channel.now)
+            × (self.new.sender.value ≡ self.old.sender.value)
+            × (self.new.message.value ≡ self.old.message.value) }
+        ensures kept { Keeps cx.old cx.new }
+    {
+        let Some(mut inner) = self.inner.take() else {
+            unreachable!()
+        };
+        match inner.poll(cx) {
+            Poll::Ready((pass, sent)) => Poll::Ready(self.answer(Sender { pass }, sent)),
+            Poll::Pending => {
+                self.inner = Some(inner);
+                Poll::Pending
+            }
+        }
+    }
+}
+
+impl<T: Drop, R: Wait> Send<'_, '_, T, R> {
+    /// Gives up a send that was not ready yet: its sender, which is as it was, and its message.
+    ///
+    /// ```
+    /// let (channel, mut hub) = bounded(rt.alloc(), 1)?;
+    /// let mut send = hub.sender(&channel).send(&rt, &channel, 5);
+    /// let (sender, message) = send.give_up();
+    /// assert_eq!(rt; message, 5);
+    /// drop(sender);
+    /// ```
+    pub fn give_up(&mut self) -> (Sender<T>, T)
+        requires may { IsSomeAnd self.old.inner (λ b. MaySend self.old.channel.now
+            self.old.sender.value self.old.message.value b.channel.now b.parts) }
+        ensures own { IsSenderOf self.old.channel.now result.0 }
+        ensures same { IsAsItWas self.old.sender.value result.0 }
+        ensures message { result.1 ≡ self.old.message.value }
+    {
+        let Some(inner) = self.inner.take() else {
+            unreachable!()
+        };
+        let Some((pass, message)) = inner.into_parts() else {
+            unreachable!()
+        };
+        (Sender { pass }, message)
+    }
+
+    // The answer of the send below. One that was refused learns that the channel is closed.
+    fn answer(&self, mut sender: Sender<T>, sent: Sent<T>) -> (Sender<T>, Sent<T>)
+        requires { Comes self.now.channel.now self.now.sender.value self.now.message.value
+            (sender, sent) }
+        ensures { TellsSent self.now.channel.now self.now.sender.value self.now.message.value
+            result }
+    {
+        if let Ok(Err(_)) = &sent {
+            sender.close(self.rt, self.channel);
+        }
+        (sender, sent)
+    }
+}
+
+/// A send of several messages, one after another, that owns its sender and gives it back with how
+/// many were sent.
+///
+/// Dropping it sends no more, and its sender is dropped with it. `give_up` keeps it.
+///
+/// ```
+/// let (channel, mut hub) = bounded(rt.alloc(), 4)?;
+/// let sender: Sender<u64> = hub.sender(&channel);
+/// let mut send: SendEach<'_, '_, '_, _, _> = sender.send_each(&rt, &channel, &[1, 2]);
+/// assert!(rt; matches!(send.give_up(), (_, 0)));
+/// ```
+#[derive(Drop)]
+pub struct SendEach<'r, 'c, 'm, T: Drop, R: Wait> {
+    rt: &'r R,
+    channel: &'c Channel<T>,
+    messages: &'m [T],
+    // How many were sent.
+    sent: usize,
+    closes: bool,
+    turn: Turn<Sender<T>, Send<'r, 'c, T, R>>,
+    // What it began with.
+    sender: Snapshot<Sender<T>>,
+}
+
+/// What a send of several messages does next.
+#[derive(Drop)]
+pub enum Turn<S, F> {
+    // The sender is at hand.
+    Next(S),
+    // The next message is being sent.
+    Wait(F),
+    Over,
+}
+
+impl<T: Copy + Drop> Sender<T> {
+    ghost use Rattle.ruled_channel_rules.specs.SendingEach.{MaySendEach};
+
+    /// Sends messages, in a task, as `send_all` does: until one can't be sent, as the channel is
+    /// closed or memory was refused. It gives the sender, and how many were sent.
+    ///
+    /// ```
+    /// let (channel, mut hub) = bounded(rt.alloc(), 4)?;
+    /// let mut receiver = hub.receiver(&channel);
+    /// let send = hub.sender(&channel).send_each(&rt, &channel, &[1, 2]);
+    /// let (sender, sent) = block_on(&rt, send)?;
+    /// assert_eq!(rt; sent, 2);
+    /// assert_eq!(rt; receiver.recv_blocking(&rt, &channel)?, Ok(1));
+    /// drop(sender);
+    /// ```
+    pub fn send_each<'r, 'c, 'm, R: Wait>(
+        self,
+        rt: &'r R,
+        channel: &'c Channel<T>,
+        messages: &'m [T],
+    ) -> SendEach<'r, 'c, 'm, T, R>
+        requires own { IsSenderOf channel.now self }
+        ensures may { MaySendEach result.channel.now result.sender.value result.messages.now
+            result.sent result.turn }
+        ensures of { (result.channel.now ≡ channel.now) × (result.sender.value ≡ self)
+            × (result.messages.now ≡ messages.now) }
+        ensures open { result.closes ≡ false }
+    {
+        let sender = Snapshot::of(&self);
+        SendEach {
+            rt,
+            channel,
+            messages,
+            sent: 0,
+            closes: false,
+            turn: Turn::Next(self),
+            sender,
+        }
+    }
+
+    /// As `send_each`, and closes the channel when it is done.
+    ///
+    /// ```
+    /// let (channel, mut hub) = bounded(rt.alloc(), 4)?;
+    /// let mut receiver = hub.receiver(&channel);
+    /// let send = hub.sender(&channel).send_each_and_close(&rt, &channel, &[1, 2]);
+    /// let (sender, sent) = block_on(&rt, send)?;
+    /// assert_eq!(rt; sent, 2);
+    /// let all = receiver.recv_all(&rt, rt.alloc(), &channel)?;
+    /// assert_eq!(rt; all.as_slice(), [1, 2].as_slice());
+    /// drop(sender);
+    /// ```
+    pub fn send_each_and_close<'r, 'c, 'm, R: Wait>(
+        self,
+        rt: &'r R,
+        channel: &'c Channel<T>,
+        messages: &'m [T],
+    ) -> SendEach<'r, 'c, 'm, T, R>
+        requires own { IsSenderOf channel.now self }
+        ensures may { MaySendEach result.channel.now result.sender.value result.messages.now
+            result.sent result.turn }
+        ensures of { (result.channel.now ≡ channel.now) × (result.sender.value ≡ self)
+            × (result.messages.now ≡ messages.now) }
+        ensures closes { result.closes ≡ true }
+    {
+        let mut each = self.send_each(rt, channel, messages);
+        each.closes = true;
+        each
+    }
+}
+
+impl<T: Drop, R: Wait> SendEach<'_, '_, '_, T, R> {
+    ghost use Rattle.ruled_channel_rules.specs.SendingEach.{MaySendEach, HasSent};
+
+    /// Gives it up before it was ready: its sender, and how many messages were sent.
+    ///
+    /// ```
+    /// let (channel, mut hub) = bounded(rt.alloc(), 4)?;
+    /// let mut send = hub.sender(&channel).send_each(&rt, &channel, &[1, 2]);
+    /// let (sender, sent) = send.give_up();
+    /// assert_eq!(rt; sent, 0);
+    /// drop(sender);
+    /// ```
+    pub fn give_up(&mut self) -> (Sender<T>, usize)
+        requires may { MaySendEach self.old.channel.now self.old.sender.value
+            self.old.messages.now self.old.sent self.old.turn }
+        ensures { HasSent self.old.channel.now self.old.sender.value self.old.messages.now
+            result.1 result.0 }
+    {
+        match mem::replace(&mut self.turn, Turn::Over) {
+            Turn::Next(sender) => (sender, self.sent),
+            Turn::Wait(mut send) => (send.give_up().0, self.sent),
+            Turn::Over => unreachable!(),
+        }
+    }
+}
+
+impl<T: Copy + Drop, R: Wait> SendEach<'_, '_, '_, T, R> {
+    ghost use Rattle.ruled_channel_rules.specs.SendingEach.{MaySendEach, HasSent, waits_at};
+
+    // Makes one step: begins the next send, or polls the one that waits.
+    fn advance(&mut self, cx: &mut Context<'_>) -> Poll<Option<Sender<T>>>
+        requires { MaySendEach self.old.channel.now self.old.sender.value self.old.messages.now
+            self.old.sent self.old.turn }
+        ensures done { IfReady result (λ done. IfSome done
+            (HasSent self.old.channel.now self.old.sender.value self.old.messages.now
+            self.new.sent)) }
+        ensures goes_on { IfReady result (λ done. IfNone done
+            (MaySendEach self.old.channel.now self.old.sender.value self.old.messages.now
+            self.new.sent self.new.turn)) }
+        ensures again { OnPending result
+            (MaySendEach self.old.channel.now self.old.sender.value self.old.messages.now
+            self.new.sent self.new.turn) }
+        ensures registered { OnPending result (Covers cx.new (waits_at self.new.turn)) }
+        ensures stays { (self.new.channel.now ≡ self.old.channel.now)
+            × (self.new.sender.value ≡ self.old.sender.value)
+            × (self.new.messages.now ≡ self.old.messages.now)
+            × (self.new.closes ≡ self.old.closes) }
+        ensures kept { Keeps cx.old cx.new }
+    {
+        match mem::replace(&mut self.turn, Turn::Over) {
+            Turn::Next(sender) => {
+                if self.sent == self.messages.len() {
+                    return Poll::Ready(Some(sender));
+                }
+                let message = self.messages[self.sent];
+                self.turn = Turn::Wait(sender.send(self.rt, self.channel, message));
+                Poll::Ready(None)
+            }
+            Turn::Wait(mut send) => match send.poll(cx) {
+                Poll::Ready((sender, Ok(Ok(())))) => {
+                    self.sent += 1;
+                    self.turn = Turn::Next(sender);
+                    Poll::Ready(None)
+                }
+                Poll::Ready((sender, _)) => Poll::Ready(Some(sender)),
+                Poll::Pending => {
+                    self.turn = Turn::Wait(send);
+                    Poll::Pending
+                }
+            },
+            Turn::Over => unreachable!(),
+        }
+    }
+}
+
+impl<T: Copy + Drop, R: Wait> Future for SendEach<'_, '_, '_, T, R> {
+    ghost use Rattle.ruled_channel_rules.specs.SendingEach.{MaySendEach, TellsSentEach, waits_at};
+
+    type Output = (Sender<T>, usize);
+
+    ghost can_poll = { λ f. MaySendEach f.channel.now f.sender.value f.messages.now f.sent f.turn };
+
+    ghost needs = { λ f. waits_at f.turn };
+
+    ghost gives = { λ f. TellsSentEach f.channel.now f.sender.value f.messages.now f.closes };
+
+    fn poll(&mut self, cx: &mut Context<'_>) -> Poll<Self::Output> {
+        for _ in 0..BUDGET {
+            if let Some(mut sender) = ready!(self.advance(cx)) {
+                if self.closes {
+                    sender.close(self.rt, self.channel);
+                }
+                return Poll::Ready((sender, self.sent));
+            }
+        }
+        cx.yield_now()
+    }
+}
