@@ -81,6 +81,8 @@ fn batches_at_a_bounded_channel(rt: HostRuntime) -> Result<(), Fail> {
     receive(&rt, alloc, &r, ROUND_LIMIT, 0, Ok(ROUND_LIMIT));
     assert!(rt; s.close());
     send(&rt, alloc, &s, [5, 6], Err(TrySendError::Closed(())))?;
+    send(&rt, alloc, &s, [5, 5], Err(TrySendError::Closed(())))?;
+    receive(&rt, alloc, &r, 0, 0, Ok(0));
     receive(&rt, alloc, &r, 5, ROUND_LIMIT, Ok(2));
     receive(&rt, alloc, &r, 5, 0, Err(TryRecvError::Closed));
     receive(&rt, alloc, &r, 0, 0, Err(TryRecvError::Closed));
@@ -155,6 +157,7 @@ fn blocking_batches(rt: HostRuntime) -> Result<(), Fail> {
     send_blocking(&rt, alloc, &s, [3, 5], (Err(SendError(())), 2))?;
     receive_blocking(&rt, alloc, &r, 2, 2, Ok(1));
     receive_blocking(&rt, alloc, &r, 2, 0, Err(RecvError));
+    receive_blocking(&rt, alloc, &r, 0, 0, Ok(0));
     Ok(())
 }
 

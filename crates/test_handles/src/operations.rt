@@ -1,6 +1,6 @@
 //! Operations and streams, polled by hand.
 use crate::probe::channel;
-use async_channel::Sender;
+use async_channel::{RecvError, Sender};
 use futures::executor::block_on;
 use futures::task::Poll;
 use futures::test::MockTask;
@@ -90,6 +90,32 @@ fn a_finished_receive_acts_as_new(rt: HostRuntime) -> Result<(), Fail> {
 }
 
 #[test]
+fn a_finished_receive_takes_what_is_left(rt: HostRuntime) -> Result<(), Fail> {
+    let task = MockTask::new(&rt)?;
+    let (s, r) = channel(&rt, rt.alloc(), None).expect(&rt, "a channel");
+    send_three(&rt, s);
+    let mut recv = r.recv();
+    for message in 0..3u64 {
+        assert_eq!(rt; ready(&task, &mut recv), Some(Ok(Ok(message))));
+    }
+    assert_eq!(rt; ready(&task, &mut recv), Some(Ok(Err(RecvError))));
+    Ok(())
+}
+
+#[test]
+fn a_task_that_takes_over_is_woken(rt: HostRuntime) -> Result<(), Fail> {
+    let (first, second) = (MockTask::new(&rt)?, MockTask::new(&rt)?);
+    let (s, r) = channel(&rt, rt.alloc(), None).expect(&rt, "a channel");
+    let mut recv = r.recv();
+    assert!(rt; is_pending(&first, &mut recv));
+    assert!(rt; is_pending(&second, &mut recv));
+    assert!(rt; !second.is_woken());
+    assert_eq!(rt; s.try_send(1u64), Ok(Ok(())));
+    assert!(rt; second.is_woken());
+    Ok(())
+}
+
+#[test]
 fn a_second_pending_poll_wakes_nobody(rt: HostRuntime) -> Result<(), Fail> {
     let task = MockTask::new(&rt)?;
     let (_s, r) = channel::<u64, _>(&rt, rt.alloc(), None).expect(&rt, "a channel");
@@ -108,6 +134,9 @@ fn a_ready_poll_wakes_nobody(rt: HostRuntime) -> Result<(), Fail> {
     assert_eq!(rt; s.try_send(1u64), Ok(Ok(())));
     let mut recv = r.recv();
     assert_eq!(rt; ready(&task, &mut recv), Some(Ok(Ok(1))));
+    assert!(rt; !task.is_woken());
+    // a waker that is let go wakes its task
+    drop(recv);
     assert!(rt; !task.is_woken());
     Ok(())
 }

@@ -83,6 +83,22 @@ fn forced_sends_into_new_channels(rt: HostRuntime) -> Result<(), Fail> {
 }
 
 #[test]
+fn forced_sends_without_a_bound_displace_nothing(rt: HostRuntime) -> Result<(), Fail> {
+    run(
+        &rt,
+        None,
+        &[
+            (ForceSend(1), Forced(Ok(None))),
+            (ForceSend(2), Forced(Ok(None))),
+            (ForceSend(3), Forced(Ok(None))),
+            (ForceSend(4), Forced(Ok(None))),
+            (Ask, Numbers(4, false, false, false)),
+            (Recv, Got(Ok(1))),
+        ],
+    )
+}
+
+#[test]
 fn smoke(rt: HostRuntime) -> Result<(), Fail> {
     for (capacity, call, sent) in [
         (Some(1), Send(7), Sent(Ok(()))),
@@ -183,5 +199,16 @@ fn recv_after_close(rt: HostRuntime) -> Result<(), Fail> {
             ],
         )?;
     }
+    Ok(())
+}
+
+#[test]
+fn what_is_left_stays_without_receivers(rt: HostRuntime) -> Result<(), Fail> {
+    let (s, r) = channel(&rt, rt.alloc(), Some(2)).expect(&rt, "a channel");
+    assert_eq!(rt; s.try_send(1), Ok(Ok(())));
+    assert_eq!(rt; s.try_send(2), Ok(Ok(())));
+    drop(r);
+    assert_eq!(rt; s.len(), 2);
+    assert!(rt; s.is_full() && s.is_closed());
     Ok(())
 }

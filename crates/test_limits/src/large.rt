@@ -1,7 +1,7 @@
 //! A hundred thousand of each: no limit shows that the contracts don't tell.
 use async_channel::{
-    Closed, Receiver, Send, SendError, Sender, StampMaker, WeakReceiver, WeakSender, bounded,
-    unbounded,
+    Closed, Receiver, Send, SendError, Sender, StampMaker, TrySendError, WeakReceiver, WeakSender,
+    bounded, unbounded,
 };
 use futures::Stream;
 use futures::task::Poll;
@@ -258,6 +258,39 @@ fn receives_by_poll<R: Wait + Clone + Drop + AllocGlobal + Abort>(
     assert!(rt; matches!(&task.poll(&mut recv), Poll::Ready(Ok(100_000))));
     drop(recv);
     all_came(rt, into.as_slice());
+}
+
+#[test]
+fn places(rt: HostRuntime) -> Result<(), Fail> {
+    let (s, r) = bounded(&rt, rt.alloc(), 100_000, &mut StampMaker::new())?;
+    assert!(rt; s.try_send_many(&mut messages(rt.alloc())?) == Ok(Ok(100_000)));
+    assert!(rt; s.is_full() && r.is_full());
+    assert_eq!(rt; s.try_send(7), Ok(Err(TrySendError::Full(7))));
+    Ok(())
+}
+
+/// Takes what is left of a batch, one message after the other.
+fn receives_one_by_one<R: Wait + Clone + Drop + AllocGlobal + Abort>(
+    rt: &R,
+    r: &Receiver<u64, R>,
+) -> Result<(), AllocError> {
+    let mut into = Vec::new(rt.alloc());
+    for message in r.try_iter() {
+        into.push(message)?;
+    }
+    all_came(rt, into.as_slice());
+    Ok(())
+}
+
+#[test]
+fn what_is_left_one_by_one(rt: HostRuntime) -> Result<(), Fail> {
+    let (s, r) = unbounded(&rt, rt.alloc(), &mut StampMaker::new())?;
+    assert!(rt; s.try_send_many(&mut messages(rt.alloc())?) == Ok(Ok(100_000)));
+    assert!(rt; !s.is_full() && !r.is_full());
+    assert!(rt; s.close());
+    receives_one_by_one(&rt, &r)?;
+    assert!(rt; r.is_terminated());
+    Ok(())
 }
 
 #[test]

@@ -9,9 +9,6 @@ use std::test::Fail;
 
 const MANY: u64 = 100_000;
 
-/// How many operations of a run live at once: a run looks some of them up one by one.
-const NAMES: u64 = 10_000;
-
 fn listen(rt: &impl Abort, list: &mut WaitList<u64>, tickets: &mut Vec<Ticket>) {
     for number in 0..MANY {
         let Ok(ticket) = list.listen(number) else {
@@ -126,22 +123,22 @@ fn steps_of_a_run(rt: HostRuntime) -> Result<(), Fail> {
 }
 
 fn start(rt: &impl Abort, run: &mut Run<u64>) {
-    for op in 0..NAMES {
+    for op in 0..MANY {
         assert!(rt; is_answered(run, Step::StartRecv { op, receiver: 0 }, Reply::Done));
         assert!(rt; is_answered(run, Step::Poll(op), Reply::RecvPolled(Poll::Pending)));
     }
 }
 
 fn send(rt: &impl Abort, run: &mut Run<u64>) {
-    for m in 0..NAMES {
+    for m in 0..MANY {
         assert!(rt; is_answered(run, Step::TrySend(0, m), Reply::TrySent(Ok(()))));
     }
 }
 
 fn settle(rt: &impl Abort, run: &mut Run<u64>) -> Result<(), Fail> {
     let settled = run.settle()?;
-    assert!(rt; settled.polls == 10_000);
-    assert!(rt; settled.finished.len() as u64 == NAMES);
+    assert!(rt; settled.polls == 100_000);
+    assert!(rt; settled.finished.len() as u64 == MANY);
     Ok(())
 }
 
@@ -151,4 +148,49 @@ fn operations_of_a_run(rt: HostRuntime) -> Result<(), Fail> {
     start(&rt, &mut run);
     send(&rt, &mut run);
     settle(&rt, &mut run)
+}
+
+/// Copies each kind of handle until so many live.
+fn copy(rt: &impl Abort, run: &mut Run<u64>) {
+    assert!(rt; is_answered(run, Step::DowngradeSender { of: 0, new: 0 }, Reply::Done));
+    assert!(rt; is_answered(run, Step::DowngradeReceiver { of: 0, new: 0 }, Reply::Done));
+    for new in 1..MANY {
+        let of = new - 1;
+        assert!(rt; is_answered(run, Step::CloneSender { of, new }, Reply::Done));
+        assert!(rt; is_answered(run, Step::CloneReceiver { of, new }, Reply::Done));
+        assert!(rt; is_answered(run, Step::CloneWeakSender { of, new }, Reply::Done));
+        assert!(rt; is_answered(run, Step::CloneWeakReceiver { of, new }, Reply::Done));
+    }
+}
+
+/// Counts the strong ones by the last of each kind.
+fn count(rt: &impl Abort, run: &mut Run<u64>) {
+    let last = MANY - 1;
+    let senders = Step::SenderCount(Side::Receiver(last));
+    assert!(rt; is_answered(run, senders, Reply::Count(100_000)));
+    let receivers = Step::ReceiverCount(Side::Sender(last));
+    assert!(rt; is_answered(run, receivers, Reply::Count(100_000)));
+}
+
+/// Gives up all but one receiver: the channel is open as long as a sender lives.
+fn give_up(rt: &impl Abort, run: &mut Run<u64>) {
+    let is_closed = Step::IsClosed(Side::Receiver(0));
+    for name in 1..MANY {
+        assert!(rt; is_answered(run, Step::DropSender(name), Reply::Done));
+        assert!(rt; is_answered(run, Step::DropReceiver(name), Reply::Done));
+        assert!(rt; is_answered(run, Step::DropWeakSender(name), Reply::Done));
+        assert!(rt; is_answered(run, Step::DropWeakReceiver(name), Reply::Done));
+        assert!(rt; is_answered(run, is_closed, Reply::Flag(false)));
+    }
+    assert!(rt; is_answered(run, Step::DropSender(0), Reply::Done));
+    assert!(rt; is_answered(run, is_closed, Reply::Flag(true)));
+}
+
+#[test]
+fn handles_of_a_run(rt: HostRuntime) -> Result<(), Fail> {
+    let mut run = Run::new(rt.alloc(), Kind::Unbounded)?;
+    copy(&rt, &mut run);
+    count(&rt, &mut run);
+    give_up(&rt, &mut run);
+    Ok(())
 }

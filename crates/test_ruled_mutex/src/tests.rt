@@ -8,7 +8,7 @@ use std::alloc::AllocError;
 use std::sync::Wait;
 use std::sync::atomic::{AtomicU64, Ordering};
 use std::test::*;
-use std::thread::join;
+use std::thread::{Threads, join};
 use std::{mem, thread};
 
 const EACH: u64 = 20_000;
@@ -80,33 +80,43 @@ fn a_held_lock_is_refused(rt: HostRuntime) -> Result<(), Fail> {
 
 const ROUNDS: u64 = 200;
 
-// How often a thread lets others run before it gives the lock back, so that who waits for it mostly
-// sleeps by then.
+// How often a thread lets others run before it gives the lock back, so that those who wait for it
+// mostly sleep by then.
 const PAUSES: u32 = 50;
 
-// Takes the lock while the other thread holds it, says before each time that it will, and adds one.
+// Takes the lock while the first thread holds it, says before each time that it will, and adds one.
 fn follow<R: Wait>(rt: &R, mutex: &Mutex, coming: &AtomicU64) {
     for round in 0..ROUNDS {
         let mut pass = mutex.pass();
-        while_below(rt, coming, 3 * round + 1);
+        while_below(rt, coming, 5 * round + 1);
         coming.fetch_add(1, Ordering::SeqCst);
         mutex.with_as::<Unruled, _, _, _>(rt, &mut pass, |value| *value = value.wrapping_add(1));
         coming.fetch_add(1, Ordering::SeqCst);
+        while_below(rt, coming, 5 * round + 5);
     }
 }
 
-// Holds the lock until the other thread has come to it.
+// Two threads that do so.
+fn follow_in_pair<R: Threads + Wait + Sync>(rt: &R, mutex: &Mutex, coming: &AtomicU64) {
+    join(
+        rt,
+        || follow(rt, mutex, coming),
+        || follow(rt, mutex, coming),
+    );
+}
+
+// Holds the lock until both other threads have come to it.
 fn lead<R: Wait>(rt: &R, mutex: &Mutex, coming: &AtomicU64) {
     for round in 0..ROUNDS {
         let mut pass = mutex.pass();
         let held = mutex.lock(rt, &mut pass);
         coming.fetch_add(1, Ordering::SeqCst);
-        while_below(rt, coming, 3 * round + 2);
+        while_below(rt, coming, 5 * round + 3);
         for _ in 0..PAUSES {
             thread::yield_now();
         }
         mutex.unlock_as::<Unruled>(&mut pass, held);
-        while_below(rt, coming, 3 * round + 3);
+        while_below(rt, coming, 5 * round + 5);
     }
 }
 
@@ -120,7 +130,8 @@ fn while_below<R: Wait>(rt: &R, number: &AtomicU64, least: u64) {
     }
 }
 
-// A lock that wakes nobody leaves the second thread asleep, and the test does not end.
+// A lock that wakes nobody leaves both other threads asleep, and one that forgets the second of them
+// leaves it asleep. The test does not end then.
 #[test]
 fn whoever_sleeps_is_woken(rt: HostRuntime) -> Result<(), Fail> {
     let Ok((mutex, mut pass)) = Mutex::new(rt.alloc(), 0) else {
@@ -130,11 +141,11 @@ fn whoever_sleeps_is_woken(rt: HostRuntime) -> Result<(), Fail> {
     join(
         &rt,
         || lead(&rt, &mutex, &coming),
-        || follow(&rt, &mutex, &coming),
+        || follow_in_pair(&rt, &mutex, &coming),
     );
     assert_eq!(rt;
         mutex.with_as::<Unruled, _, _, _>(&rt, &mut pass, |value| *value),
-        ROUNDS
+        2 * ROUNDS
     );
     Ok(())
 }

@@ -187,16 +187,27 @@ fn one_worker_has_the_whole_chunk(rt: HostRuntime) -> Result<(), Fail> {
     Ok(())
 }
 
-/// The worker at place 0 goes on when place 3 was begun: then the chunks between have been sent.
+/// The worker at place 0 goes on when this place was begun: then the chunks between have been sent.
 #[derive(Drop)]
 struct FirstIsLast {
+    last: usize,
     last_begun: AtomicBool,
     late: AtomicBool,
 }
 
+impl FirstIsLast {
+    fn behind(last: usize) -> FirstIsLast {
+        FirstIsLast {
+            last,
+            last_begun: AtomicBool::new(false),
+            late: AtomicBool::new(false),
+        }
+    }
+}
+
 impl Gate for FirstIsLast {
     fn before(&self, place: usize) {
-        if place == 3 {
+        if place == self.last {
             self.last_begun.store(true, Ordering::SeqCst);
         }
         if place != 0 {
@@ -216,15 +227,57 @@ impl Gate for FirstIsLast {
 
 #[test]
 fn chunks_come_in_another_order(rt: HostRuntime) -> Result<(), Fail> {
-    let gate = FirstIsLast {
-        last_begun: AtomicBool::new(false),
-        late: AtomicBool::new(false),
-    };
+    let gate = FirstIsLast::behind(3);
     let mut maker = StampMaker::new();
     let inputs = [5, 6, 7, 8];
     let answers = map_all(&rt, rt.alloc(), &Square, &gate, &inputs, 2, 4, &mut maker)?;
     assert_eq!(rt; answers.as_slice(), [25, 36, 49, 64].as_slice());
     assert!(rt; !gate.late.load(Ordering::SeqCst));
+    Ok(())
+}
+
+/// Whether another worker begins this place while one is at place 0.
+fn another_begins<R>(rt: &R, count: u64, place: usize) -> Result<bool, Fail>
+where
+    R: Wait + Threads + Clone + Drop + AllocGlobal + Send + Sync,
+{
+    let a = rt.alloc();
+    let gate = FirstIsLast::behind(place);
+    let inputs = (0..count).collect::<Vec<_>>(a)?;
+    let mut maker = StampMaker::new();
+    let inputs = inputs.as_slice();
+    let answers = map_all(rt, a, &Square, &gate, inputs, 2, 4, &mut maker)?;
+    Ok(answers.len() == inputs.len() && !gate.late.load(Ordering::SeqCst))
+}
+
+#[test]
+fn a_worker_has_many_chunks(rt: HostRuntime) -> Result<(), Fail> {
+    // 64 chunks, each of 3 inputs, and what is left
+    assert!(rt; another_begins(&rt, 200, 3)?);
+    Ok(())
+}
+
+#[test]
+fn a_chunk_has_8192_inputs_at_most(rt: HostRuntime) -> Result<(), Fail> {
+    assert!(rt; another_begins(&rt, 600_000, 8_192)?);
+    Ok(())
+}
+
+#[test]
+fn places_that_no_memory_has(rt: HostRuntime) -> Result<(), Fail> {
+    let most = usize::MAX;
+    let mut maker = StampMaker::new();
+    let got = map_all(
+        &rt,
+        rt.alloc(),
+        &Square,
+        &Open,
+        &[5, 6],
+        2,
+        most,
+        &mut maker,
+    );
+    assert!(rt; matches!(&got, Err(MapError::OutOfMemory)));
     Ok(())
 }
 

@@ -203,6 +203,28 @@ fn a_book_without_calls(rt: HostRuntime) -> Result<(), Fail> {
     )
 }
 
+#[test]
+fn a_clerk_comes_late_and_one_is_idle(rt: HostRuntime) -> Result<(), Fail> {
+    let mut maker = StampMaker::new();
+    let recorder = Recorder::unbounded(rt.alloc(), &mut maker)?;
+    let mut clerks = clerks_of(&rt, rt.alloc(), &recorder, 1)?;
+    let first = [
+        (0, Call::TrySend(1), Outcome::TrySent(Ok(()))),
+        (0, Call::Close, Outcome::Flag(true)),
+    ];
+    make(&rt, &recorder, &mut clerks, &first)?;
+    clerks.push(recorder.clerk(&rt)?)?;
+    clerks.push(recorder.clerk(&rt)?)?;
+    let second = [(1, Call::TryRecv, Outcome::Received(Ok(1)))];
+    make(&rt, &recorder, &mut clerks, &second)?;
+    let book = recorder.finish(clerks)?;
+    assert_eq!(rt; book.clerks(), 3);
+    assert_eq!(rt; book.places(0), Some([0, 1].as_slice()));
+    assert_eq!(rt; book.places(1), Some([2].as_slice()));
+    assert_eq!(rt; book.places(2).map(|places| places.len()), Some(0));
+    Ok(())
+}
+
 /// Makes two calls on a journal with room for one message, and looks at what comes of them.
 fn displaces(rt: &impl Abort, journal: &mut Journal<u64>) {
     let first = journal.call(Call::ForceSend(1)).ok();

@@ -10,7 +10,8 @@ use async_channel::{
 };
 use futures::task::Poll;
 use futures::test::MockTask;
-use std::alloc::AllocGlobal;
+use std::alloc::{AllocError, AllocGlobal};
+use std::collections::VecDeque;
 use std::process::Abort;
 use std::random::RandomSource;
 use std::sync::Wait;
@@ -290,5 +291,83 @@ fn a_blocked_batch_waits_for_a_message(rt: HostRuntime) -> Result<(), Fail> {
     assert!(rt; are_waiting(&weak, Group::Receives, 1));
     assert_eq!(rt; s.try_send(7), Ok(Ok(())));
     assert!(rt; thread.join(&rt));
+    Ok(())
+}
+
+/// How often a thread is blocked in a batch. In some of these rounds it takes the messages before
+/// others wait.
+const BATCHES: u32 = 20;
+
+/// Blocks a thread in a batch of receives, and sends it two messages with two sends behind them. It
+/// answers whether both of these are woken, if both had to wait.
+fn batch_wakes_both<R>(rt: &R) -> Result<Option<bool>, Fail>
+where
+    R: Threads + Wait + Clone + Drop + RandomSource + AllocGlobal + Abort,
+    R: std::marker::Send + Sync + 'static,
+{
+    let (s, r) = channel(rt, rt.alloc(), Some(2))?;
+    let (weak, own, alloc) = (s.downgrade()?, r.try_clone()?, rt.alloc());
+    let blocked = thread::spawn(rt, move || {
+        let mut into = Vec::new(alloc);
+        own.recv_many_blocking(&mut into, 5).is_ok()
+    })?;
+    assert!(rt; are_waiting(&weak, Group::Receives, 1));
+    let (task, other) = (MockTask::new(rt)?, MockTask::new(rt)?);
+    let (mut first, mut second) = (s.send(3), s.send(4));
+    let mut from = VecDeque::new(alloc);
+    from.push_back(1u64).map_err(|_| AllocError)?;
+    from.push_back(2).map_err(|_| AllocError)?;
+    assert_eq!(rt; s.try_send_many(&mut from), Ok(Ok(2)));
+    let both_wait = matches!(&task.poll(&mut first), Poll::Pending)
+        && matches!(&other.poll(&mut second), Poll::Pending);
+    assert!(rt; blocked.join(rt));
+    Ok(both_wait.then_some(task.is_woken() && other.is_woken()))
+}
+
+#[test]
+fn a_blocked_batch_tells_as_many_sends(rt: HostRuntime) -> Result<(), Fail> {
+    for _ in 0..BATCHES {
+        assert!(rt; batch_wakes_both(&rt)? != Some(false));
+    }
+    Ok(())
+}
+
+/// Lets others run for a while.
+fn give_turns() {
+    for _ in 0..10_000u32 {
+        thread::yield_now();
+    }
+}
+
+#[test]
+fn a_blocked_receive_sleeps_until_it_is_told(rt: HostRuntime) -> Result<(), Fail> {
+    let (s, r) = channel(&rt, rt.alloc(), None)?;
+    let (task, weak, other) = (MockTask::new(&rt)?, s.downgrade()?, r.try_clone()?);
+    let mut recv = r.recv();
+    assert!(rt; matches!(&task.poll(&mut recv), Poll::Pending));
+    let thread = thread::spawn(&rt, move || other.recv_blocking())?;
+    assert!(rt; are_waiting(&weak, Group::Receives, 2));
+    assert_eq!(rt; s.try_send(7u64), Ok(Ok(())));
+    give_turns();
+    assert!(rt; matches!(&task.poll(&mut recv), Poll::Ready(Ok(Ok(7)))));
+    assert_eq!(rt; s.try_send(8), Ok(Ok(())));
+    assert_eq!(rt; thread.join(&rt), Ok(Ok(8)));
+    Ok(())
+}
+
+#[test]
+fn a_blocked_send_sleeps_until_it_is_told(rt: HostRuntime) -> Result<(), Fail> {
+    let (s, r) = channel(&rt, rt.alloc(), Some(1))?;
+    assert_eq!(rt; s.try_send(1u64), Ok(Ok(())));
+    let (task, weak, other) = (MockTask::new(&rt)?, s.downgrade()?, s.try_clone()?);
+    let mut send = s.send(2);
+    assert!(rt; matches!(&task.poll(&mut send), Poll::Pending));
+    let thread = thread::spawn(&rt, move || other.send_blocking(3))?;
+    assert!(rt; are_waiting(&weak, Group::Sends, 2));
+    assert_eq!(rt; r.try_recv(), Ok(1));
+    give_turns();
+    assert!(rt; matches!(&task.poll(&mut send), Poll::Ready(Ok(Ok(())))));
+    assert_eq!(rt; r.try_recv(), Ok(2));
+    assert_eq!(rt; thread.join(&rt), Ok(Ok(())));
     Ok(())
 }

@@ -1,6 +1,6 @@
 //! Operations that are given up: each leaves its list, and a notice that it had goes on.
 use crate::waiting::{channel, numbers};
-use async_channel::{Group, Receiver, Sender};
+use async_channel::{Closed, Group, Receiver, Sender};
 use futures::task::Poll;
 use futures::test::MockTask;
 use futures::{Future, Stream};
@@ -93,5 +93,34 @@ fn a_withdrawn_send_waits_no_more(rt: HostRuntime) -> Result<(), Fail> {
     assert_eq!(rt; numbers(&weak, Group::Sends), (1, 0));
     assert_eq!(rt; send.into_msg(), Some(2));
     assert_eq!(rt; numbers(&weak, Group::Sends), (0, 0));
+    Ok(())
+}
+
+/// Polls a stream and a closed operation, which wait then.
+fn both_wait<R>(
+    task: &MockTask,
+    stream: &mut Receiver<u8, R>,
+    closed: &mut Closed<'_, u8, R>,
+) -> bool
+where
+    R: Wait + Clone + Drop,
+{
+    task.enter(|cx| matches!(&stream.poll_next(cx), Poll::Pending)) && is_pending(task, closed)
+}
+
+#[test]
+fn streams_and_closed_operations_are_told(rt: HostRuntime) -> Result<(), Fail> {
+    let (s, mut stream) = channel::<u8, _>(&rt, rt.alloc(), None)?;
+    let (task, weak, last) = (MockTask::new(&rt)?, s.downgrade()?, stream.try_clone()?);
+    let mut closed = s.closed();
+    assert!(rt; both_wait(&task, &mut stream, &mut closed));
+    assert_eq!(rt; numbers(&weak, Group::Streams), (1, 0));
+    assert!(rt; s.close());
+    assert_eq!(rt; numbers(&weak, Group::Streams), (1, 1));
+    assert_eq!(rt; numbers(&weak, Group::Closeds), (1, 0));
+    drop(stream);
+    drop(last);
+    assert_eq!(rt; numbers(&weak, Group::Streams), (0, 0));
+    assert_eq!(rt; numbers(&weak, Group::Closeds), (1, 1));
     Ok(())
 }

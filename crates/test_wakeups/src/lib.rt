@@ -10,6 +10,8 @@ mod cancelled;
 #[cfg(test)]
 mod many;
 #[cfg(test)]
+mod rounds;
+#[cfg(test)]
 mod scene;
 #[cfg(test)]
 mod telling;

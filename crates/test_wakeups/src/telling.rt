@@ -355,3 +355,23 @@ fn those_of_one_kind_are_told_one_at_a_time(rt: HostRuntime) -> Result<(), Fail>
         ],
     )
 }
+
+#[test]
+fn an_untold_poll_keeps_its_place(rt: HostRuntime) -> Result<(), Fail> {
+    at_empty(
+        &rt,
+        &[
+            (Poll(0), Pending, &[]),
+            (TrySend(7), TrySent(Ok(())), &[0, 2, 3]),
+            (Poll(0), Got(Ok(7)), &[2, 3]),
+        ],
+    )?;
+    at_full(
+        &rt,
+        &[
+            (Poll(0), Pending, &[]),
+            (TryRecv, Received(Ok(1)), &[0]),
+            (Poll(0), Sent(Ok(())), &[]),
+        ],
+    )
+}
