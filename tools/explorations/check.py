@@ -4,9 +4,10 @@
 What it prints of examples/NAME.explore is compared with examples/NAME.outcomes, with the orders
 that tools/explorations/every_order.py makes by the rules, and each script in it is replayed by the
 built chanrun, whose replies have to be those of the outcome. What it prints of the inputs in
-reports.py is compared whole. Of each byte it is asked whether a name may have it, and lines, names
-and arguments are given at their limits and one beyond. The gate leaves the programs built; where
-one isn't, `rt run` builds it. The last line counts the cases, and the status is 0 where all passed.
+reports.py is compared whole, and a report of 5,040 outcomes has each of them once. Of each byte it
+is asked whether a name may have it, and lines, names and arguments are given at their limits and
+one beyond. The gate leaves the programs built; if one isn't, `rt run` builds it. The last line
+counts the cases, and the status is 0 if all passed.
 With the argument --write the outcomes are stored in place of being compared.
 """
 
@@ -175,15 +176,15 @@ def at_limits():
 
 def hostile():
     """Inputs with their arguments, and the status, the first line and the fault that are wanted."""
-    many = b"unbounded\nparty all\n" + b"len s0\n" * 9998
-    crowd = b"unbounded\n" + b"".join(b"party p%d\nlen s0\n" % n for n in range(200))
+    many = b"unbounded\nparty all\n" + b"len s0\n" * 100_000
+    crowd = b"unbounded\n" + b"".join(b"party p%d\nlen s0\n" % n for n in range(10_000))
     names = b"unbounded\nclone s0 s%d\nparty a\nrecv o%d r0\nawait o%d\n" % ((LARGEST,) * 3)
     two = b"unbounded\nparty a\nlen s0\nparty b\nlen s0\n"
     more = b", and more: the limit is met"
     cases = {name: (given, [], 2, b"", fault) for name, (given, fault) in faulty().items()}
     return cases | {
-        "10,000 lines": (many, [], 0, b"orders 1", b""),
-        "200 parties": (crowd, ["--orders", "100"], 3, b"orders 100" + more, b""),
+        "100,000 lines": (many, [], 0, b"orders 1", b""),
+        "10,000 parties": (crowd, ["--orders", "1"], 3, b"orders 1" + more, b""),
         "largest names": (names, [], 0, b"orders 1", b""),
         "no party": (b"unbounded\nlen s0\n", [], 0, b"orders 1", b""),
         "a party without lines": (b"unbounded\nparty a\n", [], 0, b"orders 1", b""),
@@ -195,6 +196,22 @@ def hostile():
         "another argument": (two, ["--all"], 2, b"", USAGE),
         "an argument more": (two, ["--orders", "5", "6"], 2, b"", USAGE),
     }
+
+
+def wrong_with_many(program):
+    """What is wrong with the report of 5,040 outcomes, after 208 lines before the parties."""
+    sent = "".join(f"try_send s0 {n}\n" for n in range(1, 8))
+    parties = "".join(f"party p{n}\ntry_recv r0\n" for n in range(1, 8))
+    before = "unbounded\n" + sent + "len s0\n" * 200
+    ran = run(program, (before + parties).encode())
+    text = ran.stdout.decode()
+    if ran.returncode or not text.startswith("orders 5040\noutcomes 5040\nstuck 0\n"):
+        yield f"status {ran.returncode}, {text[:60]!r}"
+    outcomes = list(outcomes_in(text))
+    if len({lines for _, _, lines, _ in outcomes}) != 5040:
+        yield f"{len(outcomes)} outcomes"
+    if any(script != before + "try_recv r0\n" * 6 + "try_recv r0" for *_, script in outcomes):
+        yield "a script is another one"
 
 
 def main():
@@ -215,6 +232,9 @@ def main():
     wrong = list(wrong_with_names(programs["program_chanexplore"]))
     cases, failed = cases + 1, failed + bool(wrong)
     print(f"chanexplore: characters of names: {'; '.join(wrong[:1]) or 'ok'}")
+    wrong = list(wrong_with_many(programs["program_chanexplore"]))
+    cases, failed = cases + 1, failed + bool(wrong)
+    print(f"chanexplore: many outcomes: {'; '.join(wrong) or 'ok'}")
     for name, (given, arguments, status, first, fault) in (hostile() | at_limits()).items():
         ran = run(programs["program_chanexplore"], given, arguments)
         got = (ran.returncode, ran.stdout.split(b"\n")[0], ran.stderr)

@@ -1,21 +1,20 @@
 #!/usr/bin/env python3
 """Runs the built chandraw on the repository's scripts, on random ones and on hostile input.
 
-The pictures of docs/pictures are drawn anew from examples/NAME.chan and compared, and so is the
-terminal's form in docs/TOOLS.md. Each picture has to be XML that Python's parser accepts, with a
+The pictures of docs/pictures, for a browser and for a terminal, are made anew from
+examples/NAME.chan and compared. Each picture has to be XML that Python's parser accepts, with a
 row of less than 1 KB for each line that the built chanrun prints of the same script, and that line
-in it, and room for all of them; statuses and messages have to be chanrun's. A row more is there for
-each poll of settling that is pending. Behind each mark, a tab in SVG and a star for a terminal, has
-to stand a reply, in order. Columns and keys have to be there for what occurs, and for nothing else.
-The replies to `len` and `notice` have to agree with the messages and the waiting lists beside them.
-The rows of
-examples.py have to show, in both forms, what stands there, and a cell that is too small how many
-others there are. The terminal's form has to keep to 100 columns of ASCII. Where a request for
-memory is refused, the picture has to be whole still, or else a beginning of it, with the message
-that says so.
+in it, and room for all of them; statuses and messages have to be chanrun's. There is one row more
+for each poll of settling that is pending. After each mark, a tab in SVG and a star for a terminal,
+there has to be a reply, in order. Columns and keys have to be there for what occurs, and for
+nothing else. The replies to `len` and `notice` have to agree with the messages and the waiting
+lists in their rows. The rows of examples.py have to show, in both forms, what is listed there, and
+a cell that is too small how many others there are. The terminal's form has to keep to 100 columns
+of ASCII. If a request for memory is refused, the picture has to be whole still, or else a beginning
+of it, with the message that says so.
 
-The gate leaves the programs built; where one isn't, `rt run` builds it. The last line counts the
-cases, and the status is 0 where all passed.
+The gate leaves the programs built; if one isn't, `rt run` builds it. The last line counts the
+cases, and the status is 0 if all passed.
 
     tools/pictures/check.py                 compares
     tools/pictures/check.py --write         stores the pictures in place of comparing them
@@ -39,7 +38,7 @@ import examples  # noqa: E402
 from rows import LISTS, SVG, TELLS, svg_rows, svg_strokes, text_rows  # noqa: E402
 from states import states_of  # noqa: E402
 
-PICTURES = ("handed_on", "forced", "closes")
+PICTURES = ("handed_on.svg", "forced.svg", "forced.txt", "closes.svg")
 RANDOM = 300
 SEED = 7
 # to how many of them questions are added, and after how many names each line asks
@@ -225,22 +224,13 @@ def wrong_with(given, programs):
 
 
 def stored(name, programs, write):
-    """Whether a picture of the documentation is the one that is drawn."""
-    given = (TOP / "examples" / f"{name}.chan").read_bytes()
-    ran = run(programs["chandraw"], given)
-    path = TOP / "docs" / "pictures" / f"{name}.svg"
+    """Whether a picture of the documentation, for a browser or a terminal, is the one that is drawn."""
+    path = TOP / "docs" / "pictures" / name
+    given = (TOP / "examples" / f"{path.stem}.chan").read_bytes()
+    ran = run(programs["chandraw"], given, ["--text"] if path.suffix == ".txt" else [])
     if write:
         path.write_bytes(ran.stdout)
     return [] if ran.returncode == 0 and ran.stdout == path.read_bytes() else ["it isn't stored"]
-
-
-def documented(programs):
-    """Whether the documentation shows what a terminal gets."""
-    given = (TOP / "examples" / "forced.chan").read_bytes()
-    lines = run(programs["chandraw"], given, ["--text"]).stdout.decode().split("\n")
-    shown = "\n".join(f"    {line}".rstrip() for line in lines[:-1])
-    said = (TOP / "docs" / "TOOLS.md").read_text("utf-8")
-    return [] if shown in said else ["it isn't what docs/TOOLS.md shows"]
 
 
 def scripts():
@@ -271,6 +261,7 @@ def hostile():
     ]
     return {
         "10,000 lines": lines(*["try_send s0 1"] * count),
+        "100,000 lines": lines(*["len s0"] * 10 * count),
         "10,000 lines of operations": lines(*busy),
         "names up to the largest number": lines(
             *names, *waits, *copies, f"try_send s0 {LARGEST}", "settle"
@@ -443,7 +434,6 @@ def cases(programs, write):
     """Each case: its name, and what is wrong with it."""
     for name in PICTURES:
         yield f"picture {name}", stored(name, programs, write)
-    yield "terminal's form of forced", documented(programs)
     for name, given in (scripts() | hostile()).items():
         yield name, wrong_with(given, programs)
     for number in range(RANDOM):
