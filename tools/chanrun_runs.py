@@ -1,10 +1,10 @@
 #!/usr/bin/env python3
 """Runs the built chanrun on each case of tools/chanrun_runs.
 
-A case is a folder: args (one a line), stdin, stdout, stderr and status. The file stdout_to, where
+A case is a folder: args (one a line), stdin, stdout, stderr and status. The file stdout_to, if
 there is one, names a device that standard output goes to. Status and both streams are compared.
-The gate leaves the program built; where it isn't, `rt run` builds it. The last line counts the
-cases, and the status is 0 where all passed.
+The gate leaves the program built; if it isn't, `rt run` builds it. The last line counts the
+cases, and the status is 0 if all passed.
 """
 
 import pathlib

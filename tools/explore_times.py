@@ -3,7 +3,7 @@
 
 One row has one party with many lines, and so one order; the other has three parties with 34,650
 orders, each made on a channel of its own. A row's time is the best of some runs, without what a
-script of one line takes, divided by the steps that were made. The status is 0 where no row costs
+script of one line takes, divided by the steps that were made. The status is 0 if no row costs
 more than four times what the lines cost in chanrun.
 """
 

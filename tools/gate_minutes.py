@@ -1,5 +1,5 @@
 #!/usr/bin/env python3
-"""Where the minutes of the gate go: to be started beside `rt ci`, at the top of the repository.
+"""Where the minutes of the gate go: to be started together with `rt ci`, at the top of the repository.
 
     tools/gate_minutes.py
 

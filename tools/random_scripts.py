@@ -194,7 +194,7 @@ def spoilt(random, text):
         'more words': lines[place] + b' s0',
         'fewer words': last,
         'spaces': lines[place].replace(b' ', b'  ', 1),
-        'space behind': lines[place] + b' ',
+        'space after': lines[place] + b' ',
         'empty': b'',
         'return': lines[place] + b'\r',
         'command': words[0].upper() + b' s0',

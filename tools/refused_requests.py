@@ -13,17 +13,17 @@ Each row is made once with all memory, and must print what it is to print. Then 
 each request, and that one request is refused. chanrun may end as before, or with a beginning of its
 replies, status 1 and the line `out of memory`. test_memory must print the same replies as before;
 on standard error stands at most that the call which made this request was refused, and the program
-makes that call again by itself, once it has seen that nothing else changed. Where a recorder's
-`finish` is refused the row begins anew, behind the line `row again`. Anything else is a difference.
+makes that call again by itself, once it has seen that nothing else changed. If a recorder's
+`finish` is refused the row begins anew, after the line `row again`. Anything else is a difference.
 So is a request by a call of which test_memory says that it makes none. Of maps by threads it is
 left open which call makes a request, and how many there are.
 
 A line is printed for each row: how many of its requests were refused in turn, how many of them were
 answered as refused, how many changed nothing, and how many came to something else. Of the longest
-scripts the first and the last requests are refused. The status is 0 where nothing differed, every
+scripts the first and the last requests are refused. The status is 0 if nothing differed, every
 row asked for memory, made as many requests as are stored for it, and every call of test_memory that
-asked was refused once. What is stored is what the programs made: it is written anew where a row
-comes or goes, or where one is meant to make another number of requests.
+asked was refused once. What is stored is what the programs made: it is written anew if a row
+comes or goes, or if one is meant to make another number of requests.
 """
 
 import os
@@ -94,7 +94,7 @@ class Sweep:
 
 
 class Script:
-    """A script for chanrun, and what it writes and ends with where memory is there."""
+    """A script for chanrun, and what it writes and ends with if memory is there."""
 
     program = "program_chanrun"
     arguments = ()
@@ -134,7 +134,7 @@ class Script:
 
 
 class Calls:
-    """A row of test_memory: a line for each call, with its reply behind ` => `."""
+    """A row of test_memory: a line for each call, with its reply after ` => `."""
 
     program = "test_memory"
     ending = (0, b"")
@@ -158,11 +158,11 @@ class Calls:
             yield mark if colon else "", rest.rpartition(" => ")[0], before, behind
 
     def made(self, counts):
-        """How many requests it makes, behind the line that begins the row."""
+        """How many requests it makes, after the line that begins the row."""
         return counts[-1] - counts[0]
 
     def numbers(self, counts):
-        """The requests that are refused in turn: those behind the line that begins the row."""
+        """The requests that are refused in turn: those after the line that begins the row."""
         return list(range(counts[0] + 1, counts[-1] + 1))
 
     def faults(self, counts):
@@ -270,7 +270,7 @@ def long_rows():
 
 
 def run_rows():
-    """The rows in script form, step by step and, where they are steps alone, as one list."""
+    """The rows in script form, step by step and, if they are steps alone, as one list."""
     for name, lines in worked_rows():
         script, replies = parted(lines)
         output = ["row step by step", "new => a run", *lines[1:], "drop of the run => done"]
@@ -298,7 +298,7 @@ def stored_requests():
 
 
 def differences(stored, made):
-    """What is to say where the rows make other numbers of requests than are stored."""
+    """What is to say if the rows make other numbers of requests than are stored."""
     names = {**stored, **made}
     return [
         f"{name}: {made.get(name, 'no')} requests, and {stored.get(name, 'none')} stored"

@@ -1,9 +1,9 @@
 # Has cargo at hand for the Rust crate in rust/: to be sourced at the top of the repository.
 #
-# Where cargo's registry can't be reached it takes Debian's packaged crates in its place, and installs
+# If cargo's registry can't be reached it takes Debian's packaged crates in its place, and installs
 # those that are missing.
 
-# What the tests need from Debian, where the registry can't be reached.
+# What the tests need from Debian, if the registry can't be reached.
 packages='librust-async-executor-dev librust-futures-core-dev librust-futures-lite-dev
 librust-parking-lot-dev librust-slab-dev librust-tokio-dev'
 debian=/usr/share/cargo/registry

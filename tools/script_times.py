@@ -1,5 +1,5 @@
 #!/usr/bin/env python3
-"""How long the proved chanrun takes for scripts with many names, beside a cheap one of its size.
+"""How long the proved chanrun takes for scripts with many names, next to a cheap one of its size.
 
     tools/script_times.py [PROGRAM]
 
@@ -35,13 +35,13 @@ def weak_handles():
 
 
 def given_up():
-    """A sender is copied and given up, beside the operations of another."""
+    """A sender is copied and given up, next to the operations of another."""
     lines = [f"send o{op} s0 1" for op in range(BESIDE)]
     return lines + ["clone s0 s1", "drop s1"] * 25_000
 
 
 def streams():
-    """A stream is polled, beside the receives of another receiver."""
+    """A stream is polled, next to the receives of another receiver."""
     lines = [f"recv o{op} r0" for op in range(BESIDE)]
     return lines + ["clone r0 r1"] + ["next r1"] * 60_000
 

@@ -8,7 +8,7 @@
 //! or `try_recv`, if it seems to go on, and else the poll that waits. A thread looks for a while
 //! before it waits.
 //!
-//! The numbers of handles are kept beside the lock, so that a copy needs none: to the core there
+//! The numbers of handles are kept outside the lock, so that a copy needs none: to the core there
 //! is one sender as long as there is any, and one receiver likewise. The core is told when the last
 //! one goes, and decides what that means. It is asked for each upgrade, too.
 
@@ -36,7 +36,7 @@ pub(crate) struct Channel<T> {
     core: Lock<Core<T>>,
     /// The most messages that it may hold, which never changes.
     capacity: Option<NonZeroUsize>,
-    /// Twice the number of messages, and one more where the channel is closed.
+    /// Twice the number of messages, and one more if the channel is closed.
     seen: AtomicUsize,
     /// How many senders there are.
     senders: AtomicUsize,
@@ -299,7 +299,7 @@ impl<T> Channel<T> {
         add(&self.receivers);
     }
 
-    /// Counts one more sender where the channel is open, and answers whether it is.
+    /// Counts one more sender if the channel is open, and answers whether it is.
     pub(crate) fn upgrade_sender(&self) -> bool {
         self.step(|core, told| {
             if !is_raised(core.upgrade_sender()) {
@@ -316,7 +316,7 @@ impl<T> Channel<T> {
         })
     }
 
-    /// Counts one more receiver where the channel is open, and answers whether it is.
+    /// Counts one more receiver if the channel is open, and answers whether it is.
     pub(crate) fn upgrade_receiver(&self) -> bool {
         self.step(|core, told| {
             if !is_raised(core.upgrade_receiver()) {
@@ -370,7 +370,7 @@ impl<T> Channel<T> {
 }
 
 /// Looks whether a thread may go on, and lets others run in between. That is cheaper than to sleep
-/// where another thread is about to make it so.
+/// if another thread is about to make it so.
 #[inline]
 fn await_turn(may_go_on: impl Fn() -> bool) {
     for _look in 0..LOOKS {
@@ -381,7 +381,7 @@ fn await_turn(may_go_on: impl Fn() -> bool) {
     }
 }
 
-/// Counts one more handle, a copy of one that there is. The program ends where they are too many.
+/// Counts one more handle, a copy of one that there is. The program ends if they are too many.
 #[inline]
 fn add(count: &AtomicUsize) {
     if count.fetch_add(1, Ordering::SeqCst) > HANDLE_LIMIT {
@@ -389,7 +389,7 @@ fn add(count: &AtomicUsize) {
     }
 }
 
-/// Counts one more handle where there is one, and answers whether there is.
+/// Counts one more handle if there is one, and answers whether there is.
 fn add_to_some(count: &AtomicUsize) -> bool {
     let raise = |count: usize| (count > 0).then_some(count.wrapping_add(1));
     match count.fetch_update(Ordering::SeqCst, Ordering::SeqCst, raise) {

@@ -3,7 +3,7 @@
 //! The primitives here stand for those of `std` in this crate's own tests. One thread runs at a
 //! time. Before each operation on a primitive it lets the scheduler say who goes on: a thread that
 //! could go on and doesn't was preempted. A run follows a path of such choices, and the next run
-//! changes the last one that has another possibility left. Where nobody can go on before all are
+//! changes the last one that has another possibility left. If nobody can go on before all are
 //! done, a wake-up was lost or two wait for one another. Each operation is seen by all at once: what
 //! weaker orders of memory allow isn't tried.
 

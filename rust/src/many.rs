@@ -146,7 +146,7 @@ impl<T> Sender<T> {
     }
 }
 
-/// The error of a message that wasn't sent, and of those behind it.
+/// The error of a message that wasn't sent, and of those after it.
 #[cfg(not(target_family = "wasm"))]
 fn before<T>(SendError(first): SendError<T>, left: &mut VecDeque<T>) -> SendError<VecDeque<T>> {
     left.push_front(first);
@@ -154,7 +154,7 @@ fn before<T>(SendError(first): SendError<T>, left: &mut VecDeque<T>) -> SendErro
 }
 
 impl<T> Receiver<T> {
-    /// Takes up to `limit` messages, the oldest first, puts them behind those in `into`, and answers
+    /// Takes up to `limit` messages, the oldest first, puts them after those in `into`, and answers
     /// how many came.
     ///
     /// At most [`ROUND_LIMIT`] messages come out together, and others may come in between. The
@@ -185,7 +185,7 @@ impl<T> Receiver<T> {
         self.channel().try_recv_many(into, limit)
     }
 
-    /// Takes up to `limit` messages, the oldest first, puts them behind those in `into`, and waits
+    /// Takes up to `limit` messages, the oldest first, puts them after those in `into`, and waits
     /// while the channel is open and empty.
     ///
     /// The future answers how many came: at least one, but none if the channel is closed and empty,
@@ -209,7 +209,7 @@ impl<T> Receiver<T> {
         RecvMany { receiver: self, into, limit, wait: Wait::new(Group::Receives) }
     }
 
-    /// Takes up to `limit` messages, the oldest first, puts them behind those in `into`, and blocks
+    /// Takes up to `limit` messages, the oldest first, puts them after those in `into`, and blocks
     /// the thread while the channel is open and empty.
     ///
     /// It answers how many came: at least one, but none if the channel is closed and empty, or

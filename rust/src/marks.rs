@@ -70,7 +70,7 @@ impl Told {
     }
 }
 
-/// Wakes each of them, also where one before it panics. The first panic goes on once all are woken.
+/// Wakes each of them, also if one before it panics. The first panic goes on once all are woken.
 #[cold]
 fn wake_all(wakers: Vec<Waker>) {
     let wake = |waker: Waker| catch_unwind(AssertUnwindSafe(|| waker.wake())).err();

@@ -12,7 +12,7 @@ use std::pin::Pin;
 use std::sync::Arc;
 use std::task::{Context, Poll};
 
-/// The place of an operation in a waiting list. It is given up where it is dropped.
+/// The place of an operation in a waiting list. It is given up when it is dropped.
 pub(crate) struct Wait<T> {
     /// Whose list it is.
     group: Group,

@@ -1,9 +1,9 @@
 //! What the proved source stands on, over `std` and `slab`: written by hand, and trusted. Its tests
 //! say what the proofs rely on.
 //!
-//! Memory isn't refused here. Where there is none the program ends, as with every collection of
+//! Memory isn't refused here. If there is none the program ends, as with every collection of
 //! `std`, so that an answer which tells of a refusal can't be made. A slab that gets empty gives its
-//! memory back where that is more than [`KEPT`] bytes: no place is visited for that, and it takes as
+//! memory back if that is more than [`KEPT`] bytes: no place is visited for that, and it takes as
 //! much anew only after as many insertions.
 
 use std::mem::{size_of, ManuallyDrop};
@@ -44,13 +44,13 @@ fn kept<V>() -> usize {
     KEPT.checked_div(size_of::<V>()).map_or(usize::MAX, |count| count.max(1))
 }
 
-/// A collection, and what is kept beside it. It has all calls of the collection; those below are
+/// A collection, and what is kept with it. It has all calls of the collection; those below are
 /// made or answered otherwise.
 pub struct Over<C, K = Global>(C, K);
 pub type BTreeMap<K, V> = Over<std::collections::BTreeMap<K, V>>;
 pub type Vec<T> = Over<std::vec::Vec<T>>;
 pub type VecDeque<T, A> = Over<std::collections::VecDeque<T>, A>;
-/// A queue that never holds more than the number beside it, for which it has room from the start.
+/// A queue that never holds more than its number, for which it has room from the start.
 pub type HeapCircularBuffer<T> = VecDeque<T, usize>;
 
 impl<C, K> std::ops::Deref for Over<C, K> {

@@ -208,7 +208,7 @@ fn cancelled_receives_lose_no_message() {
     }
 }
 
-/// Takes messages until the channel is closed. Every other receive is cancelled where its first
+/// Takes messages until the channel is closed. Every other receive is cancelled if its first
 /// poll gives nothing.
 fn impatient(r: &Receiver<usize>, taken: &AtomicUsize) {
     loop {

@@ -1,4 +1,4 @@
-//! No wake-up is lost, and nobody is woken who wasn't told: random calls beside a judge.
+//! No wake-up is lost, and nobody is woken who wasn't told: random calls, and a judge.
 //!
 //! The judge keeps the four waiting lists by the rules alone: a new waiter goes last, untold;
 //! the longest waiting untold one is told first; a told one that can't go on goes last again.
@@ -108,7 +108,7 @@ impl World {
         (count > 0).then(|| self.receivers[self.draw.below(count)].clone())
     }
 
-    /// One drawn call. None where a handle for it is missing.
+    /// One random call. None if a handle for it is missing.
     fn call(&mut self) -> Option<()> {
         match self.draw.below(28) {
             0..=3 => self.try_send(),
@@ -197,7 +197,7 @@ impl World {
         Some(())
     }
 
-    /// Gives up a receiver by `give_up`. Where it is the last one, closed operations go on.
+    /// Gives up a receiver by `give_up`. If it is the last one, closed operations go on.
     fn give_up_receiver(&mut self, give_up: impl FnOnce()) {
         let watch = self.senders.first().cloned();
         let was_closed = watch.as_ref().map_or(false, |s| s.is_closed());
@@ -341,7 +341,7 @@ impl World {
         assert_eq!(self.log.take(), tells(&mut self.judge));
     }
 
-    /// Polls those who were told, in a drawn order, until nobody is. Then nobody waits in vain.
+    /// Polls those who were told, in a random order, until nobody is. Then nobody waits in vain.
     fn settle(&mut self) {
         loop {
             let told = self.told();

@@ -127,7 +127,7 @@ class Eraser:
         ups = ['super'] * len(self.source.module) or ['self']
         return f'pub({"in " * (len(ups) > 1)}{"::".join(ups)}) '
 
-    # The kinds of items: each takes what stands behind the item's first word.
+    # The kinds of items: each takes what stands after the item's first word.
 
     def ghost(self):
         if self.source.take_if('use'):

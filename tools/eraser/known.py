@@ -56,7 +56,7 @@ ITEM_WORDS = {
 }
 # Words that may stand before a `!` that begins no macro.
 BEFORE_NOT = {'break', 'if', 'in', 'match', 'return', 'while'}
-# What a path may begin with, beside the names of modules and crates.
+# What a path may begin with, besides the names of modules and crates.
 FIRST = {'super', 'u8', 'u64', 'u128', 'usize'}
 # Words of the prover: they may stand only where the parser looks for them.
 GHOST_WORDS = CLAUSES | {'assert', 'ghost', 'invariant', 'proof', 'tactic', 'using'}

@@ -11,7 +11,7 @@ TOKEN = re.compile(
       | (?P<sign>::|->|=>|\.\.=|\.\.|<=|>=|==|!=|&&|\|\||[-+*/%]=|[][(){}<>;:,.=!?&|+*/%@\#-])""",
     re.VERBOSE | re.ASCII,
 )
-# What a block that only the prover reads is gone through by: where a brace stands in it, it counts.
+# What a block that only the prover reads is gone through by: if a brace stands in it, it counts.
 GHOST_PART = re.compile(
     r'(?P<text>"(?:\\.|[^"\\\n])*")|(?P<comment>(?://|--)[^\n]*)|\'[{}"]\'|["{}]'
 )

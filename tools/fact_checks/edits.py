@@ -23,7 +23,7 @@ LEMMA = re.compile(r'error: `([^`]+)`')
 ROW = re.compile(r'^\| `([^`]+)` \| (.*?) \| (.*?) \|$')
 ENSURES, CUT = 'ensures', 'not printed'
 NOT_REFUSED = 'NOT REFUSED'
-# Where only a proof was refused that names what the edit took away.
+# If only a proof was refused that names what the edit took away.
 BY_NAME, NAME_ALONE = 'a name alone', 'change a value and keep the names): '
 REWRITE = 'write the table, by tools/facts --write LOG, from what rt ci or rt must-fail printed'
 

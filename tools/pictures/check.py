@@ -54,11 +54,11 @@ NARROW = 7
 TEXT = "{http://www.w3.org/2000/svg}text"
 LINES_AT = "44"
 REPLIES_AT = "236"
-# a text's class where it is a poll of settling, and where it names a lane
+# a text's class if it is a poll of settling, and if it names a lane
 POLLS, NAMES = "p", "h"
 # the lines that a key explains
 KEYS = set("wtvmqbce")
-# what stands behind a name in the waiting lists, by the reply to `notice`
+# what stands after a name in the waiting lists, by the reply to `notice`
 MARKS = {"absent": [], "untold": [""], "told": ["!"]}
 
 
@@ -253,7 +253,7 @@ def hostile():
     copies = [f"clone s0 s{LARGEST - number}" for number in range(300)]
     told = [f"closed o{number} s0\npoll o{number}" for number in range(40)]
     busy = [f"send o{number} s0 {LARGEST - number}\npoll o{number}" for number in range(count // 2)]
-    # a receive and sends wait beside a stream whose receiver the receive borrows
+    # a receive and sends wait next to a stream whose receiver the receive borrows
     borrowed = [
         "bounded 1", "next r0", "recv o0 r0", "poll o0", "try_send s0 1",
         *(f"send o{number} s0 {number}\npoll o{number}" for number in range(1, 9)),

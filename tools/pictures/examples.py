@@ -164,7 +164,7 @@ EXAMPLES = {
     "a stream polled by settling": (BORROWED_STREAM, BORROWED_STREAM_STROKES),
 }
 
-# How many names, messages and waits there are in the end where cells are too small for them.
+# How many names, messages and waits there are in the end if cells are too small for them.
 MANY = 40
 LANES = 24
 

@@ -37,7 +37,7 @@ module _ {T : Type 0} where
       rw reply (force_send_answer-hands_back closed full oldest message)
   force_send_hands_back closed full oldest message (Err error) reply = tt
 
-  -- a poll of a send hands its message back where the channel is closed
+  -- a poll of a send hands its message back if the channel is closed
   pub poll_send_hands_back : (closed full : Bool) (held : Option T) (message : T)
       (answer : Result (Unit {0}) (SendError T))
       → held ≡ Some message → Ready answer ≡ send_poll held closed full → IfErr answer (λ error. error.0 ≡ message)

@@ -49,7 +49,7 @@ pub record WithMark (WaitsBy Fact : Mark → Type 0) : Type 0 where
   pub holds : Fact mark
 
 module _ {T : Type 0} where
-  -- A step that is made while the lock is held: what it rings stands behind what was rung before.
+  -- A step that is made while the lock is held: what it rings stands after what was rung before.
   abbrev pub then : (Channel T Mark → Change T Mark) → Held T → Held T
   then step held = record held {
     channel = (step held.channel).channel;

@@ -92,7 +92,7 @@ MayGive (Some message) (Ok (Ok sent)) = ⊤
 MayGive (Some message) (Ok (Err error)) = error.0 ≡ message
 MayGive None (Ok answer) = ⊥
 
--- what may come from a receiver's stream: any items, and any answer behind them
+-- what may come from a receiver's stream: any items, and any answer after them
 abbrev pub AnyItems : {T : Type 0} → List (Result T OutOfMemory)
     → Option (Result T OutOfMemory) → Type 0
 AnyItems items last = ⊤

@@ -203,7 +203,7 @@ impl<T: Drop, R: Wait + Clone + Drop> Sender<T, R> {
 }
 
 impl<T: Drop, R: Wait + Clone + Drop> Receiver<T, R> {
-    /// Receives up to `limit` messages, and puts them behind those in `into`.
+    /// Receives up to `limit` messages, and puts them after those in `into`.
     ///
     /// The operation waits while the channel is empty, and gives how many came: at least one, but
     /// none if the channel is closed and empty, or the limit is 0. It doesn't wait for more than

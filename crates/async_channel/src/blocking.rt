@@ -19,13 +19,13 @@ use std::thread;
 impl<T: Drop, R: Wait + Clone + Drop> Sender<T, R> {
     /// Sends a message into the channel, and blocks its thread until it is there.
     ///
-    /// It waits where the channel is full. A closed channel is answered by an error, with the
+    /// It waits while the channel is full. A closed channel is answered by an error, with the
     /// message. The outer error, with the message, says that memory was refused; the call isn't
     /// waiting then.
     ///
     /// # Blocking
     ///
-    /// Where a task sends, [`Sender::send`] is the call: a blocked thread can't run other tasks,
+    /// In a task, [`Sender::send`] is the call: a blocked thread can't run other tasks,
     /// so that this one may wait for ever.
     ///
     /// # Examples
@@ -84,7 +84,7 @@ impl<T: Drop, R: Wait + Clone + Drop> Sender<T, R> {
     /// channel.
     ///
     /// A closed channel is answered by an error, and the outer error says that memory was refused;
-    /// what was not sent then stays in `from`. Where the channel has room for several messages they
+    /// what was not sent then stays in `from`. If the channel has room for several messages they
     /// go in together, and others may come in between, as [`Sender::try_send_many`] says.
     ///
     /// # Blocking
@@ -122,7 +122,7 @@ impl<T: Drop, R: Wait + Clone + Drop> Sender<T, R> {
         Ok(Ok(()))
     }
 
-    // Sends one message from the front, where there is one, and those that fit after it.
+    // Sends one message from the front, if there is one, and those that fit after it.
     fn send_some_blocking(
         &self,
         from: &mut VecDeque<T, Global>,
@@ -136,7 +136,7 @@ impl<T: Drop, R: Wait + Clone + Drop> Sender<T, R> {
         };
         match self.send_blocking(message) {
             Ok(Ok(())) => {
-                // where this is refused, the next message is answered so
+                // if this is refused, the next message is answered so
                 let _refused = self.try_send_many(from);
                 Ok(Ok(()))
             }
@@ -155,12 +155,12 @@ impl<T: Drop, R: Wait + Clone + Drop> Sender<T, R> {
 impl<T: Drop, R: Wait + Clone + Drop> Receiver<T, R> {
     /// Receives a message from the channel, and blocks its thread until there is one.
     ///
-    /// It waits where the channel is empty. A closed and empty channel is answered by an error.
+    /// It waits while the channel is empty. A closed and empty channel is answered by an error.
     /// The outer error says that memory was refused; the call isn't waiting then.
     ///
     /// # Blocking
     ///
-    /// Where a task receives, [`Receiver::recv`] is the call: a blocked thread can't run other
+    /// In a task, [`Receiver::recv`] is the call: a blocked thread can't run other
     /// tasks, so that this one may wait for ever.
     ///
     /// # Examples
@@ -184,13 +184,13 @@ impl<T: Drop, R: Wait + Clone + Drop> Receiver<T, R> {
         self.wait_to_recv()
     }
 
-    /// Receives up to `limit` messages, puts them behind those in `into`, and blocks its thread until
+    /// Receives up to `limit` messages, puts them after those in `into`, and blocks its thread until
     /// there is one.
     ///
     /// The answer is how many came. A closed and empty channel is answered by an error. The outer
     /// error says that memory was refused, of which there is enough in `into` before a message is
     /// taken; nothing has come then. Others may come in between, as [`Receiver::try_recv_many`]
-    /// says, also between the message that was waited for and those behind it. Where the limit is 0
+    /// says, also between the message that was waited for and those after it. If the limit is 0
     /// it answers 0 at once.
     ///
     /// # Blocking
@@ -230,7 +230,7 @@ impl<T: Drop, R: Wait + Clone + Drop> Receiver<T, R> {
         }
     }
 
-    // Waits until there is a message, or the channel is closed, and takes those behind it, too.
+    // Waits until there is a message, or the channel is closed, and takes those after it, too.
     #[tactic(auto, using(crate::proofs::Rounds::front_stays, crate::proofs::Rounds::front_stays_on))]
     fn wait_for_many(
         &self,

@@ -62,7 +62,7 @@ impl<T: Drop, R: Wait + Clone + Drop> Model for Sender<T, R> {
 /// Receivers can be copied and shared by threads. When all receivers of a channel are dropped, the
 /// channel is closed. [`Receiver::close`] closes it by hand.
 ///
-/// A receiver is a stream of its messages. An item is `Err` where memory was refused, and the
+/// A receiver is a stream of its messages. An item is `Err` if memory was refused, and the
 /// stream may be polled again.
 ///
 /// # Examples
@@ -352,7 +352,7 @@ impl<T: Drop, R: Wait + Clone + Drop> Sender<T, R> {
 
     /// One more sender of the channel.
     ///
-    /// It is refused where there are more than `usize::MAX / 2` of them, or memory was refused.
+    /// It is refused if there are more than `usize::MAX / 2` of them, or memory was refused.
     /// Then the channel is as it was.
     ///
     /// # Examples
@@ -559,7 +559,7 @@ impl<T: Drop, R: Wait + Clone + Drop> Receiver<T, R> {
 
     /// One more receiver of the channel, whose stream doesn't wait.
     ///
-    /// It is refused where there are more than `usize::MAX / 2` of them, or memory was refused.
+    /// It is refused if there are more than `usize::MAX / 2` of them, or memory was refused.
     /// Then the channel is as it was.
     ///
     /// # Examples

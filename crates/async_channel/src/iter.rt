@@ -7,7 +7,7 @@ use std::sync::{Forever, Wait};
 
 /// The messages that a channel has, oldest first: [`Receiver::try_iter`] makes it.
 ///
-/// It ends where the channel has none, and goes on where it has some later. Each message is
+/// It ends when the channel has none, and goes on if it has some later. Each message is
 /// received when it is asked for, so that others may come in between.
 ///
 /// # Examples

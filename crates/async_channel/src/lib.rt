@@ -13,7 +13,7 @@
 //!
 //! # Examples
 //!
-//! In all examples `rt` is the runtime that `main` gets and `maker` a [`StampMaker`]; where nothing
+//! In all examples `rt` is the runtime that `main` gets and `maker` a [`StampMaker`]; if nothing
 //! else is said, `s` and `r` are both sides of an unbounded channel, and `task` is a `MockTask` of
 //! `futures`, which polls.
 //!

@@ -1,7 +1,7 @@
 //! A channel while its lock is held.
 //!
 //! Whoever takes the lock gets a [`Locked`]: the channel, and the bell with which its steps tell
-//! others. Each call of it is one step of the channel. Where it is dropped, the lock is free
+//! others. Each call of it is one step of the channel. When it is dropped, the lock is free
 //! first, and then who was told first is woken.
 ghost use Rattle.std.specs.Prelude.{◌≡◌, ◌==◌, ◌&&◌, ◌+◌, ◌++◌, ◌<◌, ◌≤◌, drop, length, take, [], None, IfOk, IfErr, OnOk, OnErr, not};
 ghost use Rattle.std.specs.Vec.{vec_len, vec_capacity};

@@ -33,11 +33,11 @@ impl<T: Drop, R: Wait + Clone + Drop> Sender<T, R> {
     /// Attempts to send messages from the front of `from`, as many as fit. The rest stays there.
     ///
     /// The answer is how many were sent. A full or closed channel is answered by an error. The
-    /// outer error says that memory was refused for the first message; where it is refused for a
-    /// later one, that one stays in `from` with those behind it.
+    /// outer error says that memory was refused for the first message; if it is refused for a
+    /// later one, that one stays in `from` with those after it.
     ///
     /// It sends at most [`ROUND_LIMIT`] messages at a time, with nothing between them, and others
-    /// may come in between two such rounds. Where a later round finds the channel full or closed,
+    /// may come in between two such rounds. If a later round finds the channel full or closed,
     /// the answer is how many were sent before.
     ///
     /// # Examples
@@ -90,14 +90,14 @@ impl<T: Drop, R: Wait + Clone + Drop> Sender<T, R> {
 }
 
 impl<T: Drop, R: Wait + Clone + Drop> Receiver<T, R> {
-    /// Attempts to receive up to `limit` messages, and puts them behind those in `into`.
+    /// Attempts to receive up to `limit` messages, and puts them after those in `into`.
     ///
     /// The answer is how many came. A channel without a message is answered by an error, which says
     /// whether it is closed. The outer error says that there was no memory in `into`, which is
     /// asked for before a message is taken; nothing has changed then.
     ///
     /// It takes at most [`ROUND_LIMIT`] messages at a time, with nothing between them, and others
-    /// may come in between two such rounds. Where a later round finds no message, or no memory, the
+    /// may come in between two such rounds. If a later round finds no message, or no memory, the
     /// answer is how many came before.
     ///
     /// # Examples

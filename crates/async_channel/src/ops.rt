@@ -17,8 +17,8 @@ use std::sync::Wait;
 
 /// A future returned by [`Sender::send`].
 ///
-/// It gives `Ok(Ok(()))` once the message is in the channel, the message in a [`SendError`] where
-/// the channel is closed, and `Err` where memory was refused: it is then as it was, and may be
+/// It gives `Ok(Ok(()))` once the message is in the channel, the message in a [`SendError`] if
+/// the channel is closed, and `Err` if memory was refused: it is then as it was, and may be
 /// polled again. A finished one stays pending. Dropping it withdraws it, with its message.
 ///
 /// # Examples
@@ -43,7 +43,7 @@ pub struct Send<'a, T: Drop, R: Wait + Clone + Drop> {
 
 /// A future returned by [`Receiver::recv`].
 ///
-/// It gives a message, [`RecvError`] where the channel is closed and empty, and `Err` where
+/// It gives a message, [`RecvError`] if the channel is closed and empty, and `Err` if
 /// memory was refused: it is then as it was, and may be polled again. A finished one acts as a
 /// new one. Dropping it withdraws it.
 ///
@@ -68,7 +68,7 @@ pub struct Recv<'a, T: Drop, R: Wait + Clone + Drop> {
 
 /// A future returned by [`Sender::closed`].
 ///
-/// It completes once no receiver is left, and gives `Err` where memory was refused: it is then as
+/// It completes once no receiver is left, and gives `Err` if memory was refused: it is then as
 /// it was, and may be polled again. A finished one acts as a new one. Dropping it withdraws it.
 ///
 /// # Examples
@@ -132,7 +132,7 @@ impl<'a, T: Drop, R: Wait + Clone + Drop> Model for Closed<'a, T, R> {
 impl<T: Drop, R: Wait + Clone + Drop> Sender<T, R> {
     /// Sends a message into the channel.
     ///
-    /// The operation waits where the channel is full, and gives an error where it is closed. It
+    /// The operation waits while the channel is full, and gives an error if it is closed. It
     /// does nothing until it is polled.
     ///
     /// # Examples
@@ -182,7 +182,7 @@ impl<T: Drop, R: Wait + Clone + Drop> Sender<T, R> {
 impl<T: Drop, R: Wait + Clone + Drop> Receiver<T, R> {
     /// Receives a message from the channel.
     ///
-    /// The operation waits where the channel is empty, and gives an error where it is closed and
+    /// The operation waits while the channel is empty, and gives an error if it is closed and
     /// empty.
     ///
     /// # Examples

@@ -181,7 +181,7 @@ impl<T: Drop, R: Wait> Locked<'_, T, R> {
         }
     }
 
-    // Puts a message into room that there is, and up to so many more behind it. The answer is how
+    // Puts a message into room that there is, and up to so many more after it. The answer is how
     // many it put there.
     fn take_behind(&mut self, into: &mut Vec<T>, message: T, more: usize) -> usize
         requires room { vec_len into.old + 1 + taken_count more self.old.channel
@@ -287,7 +287,7 @@ fn take_front<T: Drop>(from: &mut VecDeque<T, Global>) -> T
     from.pop_front().unwrap()
 }
 
-// ## Marks, where a poll isn't ready
+// ## Marks, if a poll isn't ready
 impl<T: Drop, R: Wait> Locked<'_, T, R> {
     // Whether a send is ready. A finished one never is.
     #[inline(always)]

@@ -58,7 +58,7 @@ impl<T: Drop> Shared<T> {
         }
     }
 
-    // The lock, where somebody has it. Others get turns before this thread asks for it: whoever
+    // The lock, if somebody has it. Others get turns before this thread asks for it: whoever
     // has it then takes several steps, and its cache lines stay where they are.
     fn lock_in_turns<R: Wait>(&self, rt: &R) -> MutexGuard<'_, Core<T, Mark>> {
         for _ in 0..LOOKS {

@@ -12,10 +12,10 @@ use futures::Stream;
 use futures::task::{Context, Poll};
 use std::sync::Wait;
 
-/// The messages of a channel, as this receiver gets them. The stream ends where the channel is
+/// The messages of a channel, as this receiver gets them. The stream ends when the channel is
 /// closed and empty.
 impl<T: Drop, R: Wait + Clone + Drop> Stream for Receiver<T, R> {
-    /// A message, or `Err` where memory was refused: the stream is then as it was, and may be
+    /// A message, or `Err` if memory was refused: the stream is then as it was, and may be
     /// polled again.
     type Item = Result<T, OutOfMemory>;
 

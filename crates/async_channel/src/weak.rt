@@ -77,9 +77,9 @@ impl<T, R> Model for WeakReceiver<T, R> {
 }
 
 impl<T: Drop, R: Wait + Clone + Drop> WeakSender<T, R> {
-    /// One more sender of the channel, or `None` where it is closed.
+    /// One more sender of the channel, or `None` if it is closed.
     ///
-    /// It is refused where memory was refused or, on an open channel, there are more than
+    /// It is refused if memory was refused or, on an open channel, there are more than
     /// `usize::MAX / 2` senders. The channel is then as it was.
     ///
     /// # Examples
@@ -141,9 +141,9 @@ impl<T, R> fmt::Debug for WeakSender<T, R> {
 }
 
 impl<T: Drop, R: Wait + Clone + Drop> WeakReceiver<T, R> {
-    /// One more receiver of the channel, whose stream doesn't wait, or `None` where it is closed.
+    /// One more receiver of the channel, whose stream doesn't wait, or `None` if it is closed.
     ///
-    /// It is refused where memory was refused or, on an open channel, there are more than
+    /// It is refused if memory was refused or, on an open channel, there are more than
     /// `usize::MAX / 2` receivers. The channel is then as it was.
     ///
     /// # Examples

@@ -36,7 +36,7 @@ pub fn row<R: Clock + Print>(
     Ok(())
 }
 
-/// Both ends of a channel: bounded where there is a capacity, and else unbounded.
+/// Both ends of a channel: bounded if there is a capacity, and else unbounded.
 pub fn channel<R: Wait + Clone + Drop + AllocGlobal>(
     rt: &R,
     capacity: Option<usize>,

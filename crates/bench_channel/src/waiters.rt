@@ -13,7 +13,7 @@ const CALLS: usize = 1_000;
 const RUNS: usize = 20;
 
 // A list of waiters of which the first half is told and a little more, and the tickets of those in
-// its middle, so that a notice is handed on where one of them cancels.
+// its middle, so that a notice is handed on when one of them cancels.
 #[derive(Drop)]
 struct Crowd {
     list: WaitList<u64>,

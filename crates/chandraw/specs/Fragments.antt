@@ -56,7 +56,7 @@ abbrev pub reply_mark : Form → List ℕ
 reply_mark Svg = 9 ∷ codes ">"
 reply_mark Terminal = 42 ∷ codes " "
 
--- a reply, escaped, behind its mark and between fragments
+-- a reply, escaped, after its mark and between fragments
 abbrev pub row_bytes : Form → Row → List ℕ
 row_bytes form row =
     fragments_bytes form row.head.items

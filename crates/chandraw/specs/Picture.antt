@@ -21,7 +21,7 @@ pub record AreRows (form : Form) (text bytes : List ℕ) : Type 0 where
   pub replies : flat_map row_line rows ≡ text
   pub drawn : flat_map (row_bytes form) rows ≡ bytes
 
--- These bytes are a picture of this text: its rows, with fragments before and behind them. The byte
+-- These bytes are a picture of this text: its rows, with fragments before and after them. The byte
 -- that marks a reply stands once in each row, and nowhere else.
 pub record IsPicture (form : Form) (text bytes : List ℕ) : Type 0 where
   pub opening : List Fragment

@@ -3,7 +3,7 @@
 //! 1. The lines are read, up to the first faulty one, and done (`replay` of `chanrun`).
 //! 2. What stands before the first reply is written. Then each line is drawn: a row for each reply,
 //!    which are written before the next line.
-//! 3. What stands behind the last reply is written.
+//! 3. What stands after the last reply is written.
 //!
 //! The replies in the rows, each as a line, are the text of the script. What stands around them are
 //! fragments, whose texts are escaped.
@@ -148,7 +148,7 @@ fn draw_lines<W: Sink>(
     Ok(())
 }
 
-// Draws a channel that the first line makes, and the lines behind it.
+// Draws a channel that the first line makes, and the lines after it.
 fn draw_laid_out<W: Sink>(
     alloc: Global,
     form: Form,
@@ -167,7 +167,7 @@ fn draw_laid_out<W: Sink>(
     write_fragments(alloc, form, closing.as_slice(), writer)
 }
 
-// Draws a channel of this kind, and the lines behind the one that makes it.
+// Draws a channel of this kind, and the lines after the one that makes it.
 fn draw_answered<W: Sink>(
     alloc: Global,
     form: Form,

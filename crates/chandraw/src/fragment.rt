@@ -5,7 +5,7 @@ ghost use Rattle.chandraw.specs.Fragments.{escaped, escaped_byte, named_byte, fr
 use chandraw_layout::{Form, Fragment, mark_bytes};
 use std::alloc::{AllocError, Global};
 
-/// What is drawn for one reply: the fragments before it, the reply, and the fragments behind it.
+/// What is drawn for one reply: the fragments before it, the reply, and the fragments after it.
 #[derive(Drop)]
 pub struct Row {
     pub head: Vec<Fragment>,
@@ -13,7 +13,7 @@ pub struct Row {
     pub tail: Vec<Fragment>,
 }
 
-// Adds a byte, or another one in its place where it can't be printed.
+// Adds a byte, or another one in its place if it can't be printed.
 fn add_printed(page: &mut Vec<u8>, byte: u8) -> Result<(), AllocError>
     ensures { OnOk result (page.new.items ≡ page.old.items ++ printed byte) }
 {

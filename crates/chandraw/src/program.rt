@@ -13,7 +13,7 @@ use chanrun::standard::Program;
 use chanrun::tell::tell;
 use std::alloc::Global;
 
-/// What the arguments ask for; none where they are neither nothing nor `--text`.
+/// What the arguments ask for; none if they are neither nothing nor `--text`.
 ///
 /// # Examples
 ///
@@ -38,9 +38,9 @@ pub fn form_of(arguments: &[String]) -> Option<Form>
     }
 }
 
-/// The program over its devices. It answers the exit status: 0 where the whole script was drawn, 2
+/// The program over its devices. It answers the exit status: 0 if the whole script was drawn, 2
 /// for a faulty line or for other arguments than `--text`, 1 otherwise. A line that says why it
-/// isn't 0 goes to `errors`; a failure there changes nothing. There are no arguments where they
+/// isn't 0 goes to `errors`; a failure there changes nothing. There are no arguments if they
 /// couldn't be read for want of memory.
 ///
 /// # Examples

@@ -4,7 +4,7 @@ use crate::table::Table;
 use channel_model::{Notice, Who};
 use std::alloc::{AllocError, Global};
 
-// The name of who waits, with a mark where they were told.
+// The name of who waits, with a mark if they were told.
 fn who_text(alloc: Global, table: &Table, who: Who) -> Result<String, AllocError> {
     let mut text = name_text(alloc, name_of(who))?;
     if table.notice_of(who) == Notice::Told {
@@ -71,7 +71,7 @@ fn digits(number: usize) -> usize {
     }
 }
 
-// Adds a text behind what stands in a cell.
+// Adds a text after what stands in a cell.
 fn add_word(cell: &mut Vec<u8>, text: &str) -> Result<(), AllocError> {
     if !cell.is_empty() {
         cell.push(b' ')?;
@@ -79,7 +79,7 @@ fn add_word(cell: &mut Vec<u8>, text: &str) -> Result<(), AllocError> {
     cell.extend_from_slice(text.as_bytes())
 }
 
-// How wide a cell is with this text behind it, and with the number of those that are left then.
+// How wide a cell is with this text after it, and with the number of those that are left then.
 fn width_with(cell: &[u8], text: &str, left: usize) -> usize {
     let space = if cell.is_empty() { 0 } else { 1 };
     let tail = if left == 0 {
@@ -121,7 +121,7 @@ fn add_left(cell: &mut Vec<u8>, alloc: Global, left: usize) -> Result<(), AllocE
     add_word(cell, rest.as_str())
 }
 
-/// Texts in a row, to this width: where they don't fit, as many as do and how many are left.
+/// Texts in a row, to this width: if they don't fit, as many as do and how many are left.
 pub(crate) fn fitted(
     alloc: Global,
     texts: &[String],

@@ -1,4 +1,4 @@
-//! What a picture shows only where it occurs: columns, kinds of names, and kinds of lines.
+//! What a picture shows only if it occurs: columns, kinds of names, and kinds of lines.
 use crate::lane::Trace;
 use crate::name::NameKind;
 use channel_core::Group;
@@ -17,7 +17,7 @@ pub(crate) enum Item {
     End,
 }
 
-/// The columns behind the lanes, from left to right.
+/// The columns after the lanes, from left to right.
 pub(crate) const COLUMNS: [Item; 5] = [
     Item::Held,
     Item::List(Group::Sends),

@@ -1,7 +1,7 @@
 //! A picture that is being drawn: a row for each reply, in either form.
 //!
 //! The table makes each command in a row of its own, and each poll of settling in a further one. Of
-//! each row with a reply the form says what stands before and behind it. The row of a pending poll
+//! each row with a reply the form says what stands before and after it. The row of a pending poll
 //! has none, and stands before what comes next.
 ghost use Rattle.channel_model.specs.Capacity.{HasPositiveCapacity};
 
@@ -125,7 +125,7 @@ impl Layout {
         mem::replace(&mut self.polls, Fragments::new(self.alloc))
     }
 
-    /// Makes the row of these texts, and answers what stands before its reply, and what behind it.
+    /// Makes the row of these texts, and answers what stands before its reply, and what after it.
     pub fn around(
         &mut self,
         texts: RowTexts<'_>,
@@ -154,7 +154,7 @@ impl Layout {
         Ok(())
     }
 
-    /// What stands behind the last reply.
+    /// What stands after the last reply.
     pub fn closing(&mut self) -> Result<Vec<Fragment>, ScriptError> {
         self.table.end_all()?;
         let polls = self.take_polls();
@@ -165,7 +165,7 @@ impl Layout {
     }
 }
 
-/// What is drawn where the first line makes no channel: a picture without a row.
+/// What is drawn if the first line makes no channel: a picture without a row.
 ///
 /// # Examples
 ///

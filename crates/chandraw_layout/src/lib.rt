@@ -2,7 +2,7 @@
 //!
 //! A picture has a row for each reply, and one for each pending poll of settling. A [`Layout`]
 //! follows the lines of the script, and says what stands before the first row, around each reply,
-//! and behind the last row. All of it is fragments: marks, whose bytes are constants, numbers, and
+//! and after the last row. All of it is fragments: marks, whose bytes are constants, numbers, and
 //! texts that may be anything. How they become bytes is for `chandraw` to say, and the replies are
 //! its own.
 //!

@@ -60,7 +60,7 @@ pub enum Mark {
     MessageText,
     CellText,
     AtX,
-    // Between the beginning of a text and what it says, and behind that.
+    // Between the beginning of a text and what it says, and after that.
     TextStart,
     SqueezedName,
     SqueezedLine,

@@ -12,7 +12,7 @@ use chanrun::grammar::Command;
 use chanrun::replay::Answered;
 use std::alloc::Global;
 
-/// How many rows stand behind the first one, how many lanes there are, and what occurs.
+/// How many rows stand after the first one, how many lanes there are, and what occurs.
 #[derive(Drop)]
 pub(crate) struct Size {
     pub rows: u64,
@@ -35,7 +35,7 @@ impl Size {
         }
     }
 
-    // Notes the kinds of the names, where one begins.
+    // Notes the kinds of the names, when one begins.
     fn note_names(&mut self, table: &Table) -> Result<(), OutOfMemory> {
         if table.row_made.is_none() {
             return Ok(());

@@ -170,7 +170,7 @@ fn add_name(
     add_name_at(fragments, table.row, lane, text.as_str())
 }
 
-// Adds a cell behind the lanes, if there is something in it.
+// Adds a cell after the lanes, if there is something in it.
 fn add_cell(fragments: &mut Fragments, row: u64, x: u64, text: &[u8]) -> Result<(), AllocError> {
     if text.is_empty() {
         return Ok(());
@@ -298,7 +298,7 @@ pub(crate) fn add_poll(
     add_cells(fragments, alloc, table, size)
 }
 
-// What stands behind a reply.
+// What stands after a reply.
 fn tail(alloc: Global, table: &Table, size: &Size) -> Result<Vec<Fragment>, AllocError> {
     let mut fragments = Fragments::new(alloc);
     fragments.mark(Mark::TextEnd)?;
@@ -306,7 +306,7 @@ fn tail(alloc: Global, table: &Table, size: &Size) -> Result<Vec<Fragment>, Allo
     Ok(fragments.list)
 }
 
-/// What stands before a reply, behind the rows of these polls, and what behind it.
+/// What stands before a reply, after the rows of these polls, and what after it.
 pub(crate) fn row(
     polls: Fragments,
     alloc: Global,
@@ -319,7 +319,7 @@ pub(crate) fn row(
     Ok((head.list, tail(alloc, table, size)?))
 }
 
-/// What stands behind the last reply: the rows of these polls, and the lines of all that lasts.
+/// What stands after the last reply: the rows of these polls, and the lines of all that lasts.
 pub(crate) fn closing(polls: Fragments, table: &Table) -> Result<Vec<Fragment>, AllocError> {
     let mut fragments = polls;
     add_strokes(&mut fragments, table.row_strokes.as_slice())?;

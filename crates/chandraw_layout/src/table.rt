@@ -4,7 +4,7 @@
 //! The table makes the steps on a run of its own, so that it sees each poll of settling too. Who
 //! waits and was told it asks that run; what the run isn't asked it notes from the replies:
 //!
-//! 1. A name that is made takes the first free lane, and none where there are [`LANES`] names.
+//! 1. A name that is made takes the first free lane, and none if there are [`LANES`] names.
 //! 2. A waiting list changes by the polls, and by what is given up, of those who wait in it: who
 //!    waits anew comes last, and so does who was told and waits again.
 //! 3. A message that goes in is noted with its place, and one that is taken is a line from there.

@@ -40,7 +40,7 @@ fn add_spaces(text: &mut Vec<u8>, count: usize) -> Result<(), AllocError> {
     Ok(())
 }
 
-// Goes on from this column to the other one, below where the column is behind it.
+// Goes on from this column to the other one, one line below if that one is further left.
 fn add_gap(
     fragments: &mut Fragments,
     alloc: Global,
@@ -57,7 +57,7 @@ fn add_gap(
     fragments.text(gap.as_slice())
 }
 
-// Adds the number of a line, with a mark where it was refused.
+// Adds the number of a line, with a mark if it was refused.
 fn add_number(
     fragments: &mut Fragments,
     alloc: Global,
@@ -204,7 +204,7 @@ fn add_rest(text: &mut Vec<u8>, alloc: Global, table: &Table) -> Result<(), Allo
     text.extend_from_slice(rest.as_bytes())
 }
 
-// Adds the letters of all lanes, and how many names have none. It answers the column behind them.
+// Adds the letters of all lanes, and how many names have none. It answers the column after them.
 fn add_names(
     fragments: &mut Fragments,
     alloc: Global,
@@ -219,7 +219,7 @@ fn add_names(
     Ok(NAMES.saturating_add(names.len()))
 }
 
-// Adds the texts of a list, behind the letter of the list.
+// Adds the texts of a list, after the letter of the list.
 fn add_list(
     texts: &mut Vec<String>,
     alloc: Global,
@@ -256,7 +256,7 @@ fn waiting(alloc: Global, table: &Table, width: usize) -> Result<Vec<u8>, AllocE
     fitted(alloc, texts.as_slice(), total, width)
 }
 
-// Adds the cells of the messages held and of who waits behind this column, as far as one is needed.
+// Adds the cells of the messages held and of who waits after this column, as far as one is needed.
 fn add_held_and_waiting(
     fragments: &mut Fragments,
     alloc: Global,
@@ -333,7 +333,7 @@ pub(crate) fn add_poll(
     add_cells(fragments, alloc, table, size)
 }
 
-// What stands behind a reply.
+// What stands after a reply.
 fn tail(
     alloc: Global,
     table: &Table,
@@ -347,7 +347,7 @@ fn tail(
     Ok(fragments.list)
 }
 
-/// What stands before a reply, behind the rows of these polls, and what behind it.
+/// What stands before a reply, after the rows of these polls, and what after it.
 pub(crate) fn row(
     polls: Fragments,
     alloc: Global,
@@ -360,7 +360,7 @@ pub(crate) fn row(
     Ok((head.list, tail(alloc, table, size, texts)?))
 }
 
-/// What stands behind the last reply: the rows of these polls, and what the letters mean.
+/// What stands after the last reply: the rows of these polls, and what the letters mean.
 pub(crate) fn closing(polls: Fragments) -> Result<Vec<Fragment>, AllocError> {
     let mut fragments = polls;
     fragments.mark(Mark::Legend)?;

@@ -43,7 +43,7 @@ some_order kind lines (suc more) moment = opening (turns_from kind lines moment 
         let one = from next.1 in
         (next.0 ∷ one.0, behind_all (next.0 ∷ []) one.1 ++ begun_with (orders_of kind lines more) nexts, ap (λ os. behind_all (next.0 ∷ []) os ++ begun_with (orders_of kind lines more) nexts) one.2)
 
--- Where a party is to go on, an order is left.
+-- If a party is to go on, an order is left.
 pub one_left : (tree : Tree) (party : ℕ) (choices : List Choice) (orders : List (List Turn)) → IsNext tree party choices orders
     → 1 ≤ length orders
 one_left tree party choices orders is =

@@ -130,7 +130,7 @@ leads_deep tree (suc n) s (d ∷ cs) (x ∷ ts) m here left h = omega (arith, le
 
 -- ---- the search's steps
 
--- Where nobody can go on, the turns so far are an order.
+-- If nobody can go on, the turns so far are an order.
 pub ended : (tree : Tree) (spot : Spot) (turns : List Turn) → turns_from tree.kind tree.parties spot.moment 0 ≡ []
     → due_at tree turns spot ≡ turns ∷ spot.left
 ended tree spot turns none =
@@ -141,7 +141,7 @@ ended tree spot turns none =
     one zero = refl
     one (suc more) = ap (orders_by (orders_of tree.kind tree.parties more)) none
 
--- Where somebody can, the orders are those that begin with the turns that can be next.
+-- If somebody can, the orders are those that begin with the turns that can be next.
 pub opened : (tree : Tree) (spot : Spot) (turns : List Turn) (more : ℕ) (next : Turn × Moment) (nexts : List (Turn × Moment))
     → spot.more ≡ suc more → turns_from tree.kind tree.parties spot.moment 0 ≡ next ∷ nexts
     → due_at tree turns spot ≡ behind_all turns (begun tree more (next ∷ nexts)) ++ spot.left

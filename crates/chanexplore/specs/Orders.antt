@@ -71,7 +71,7 @@ open_line past place (Some act) = Some (place, act)
 abbrev pub lines_of : List (List Act) → (party : ℕ) → List Act
 lines_of parties party = unwrap_or (slice_get parties party) []
 
--- The line that a party can do now, and where it stands; none where it has no line left, or waits
+-- The line that a party can do now, and where it stands; none if it has no line left, or waits
 -- untold.
 abbrev pub line_at : List (List Act) → Moment → (party : ℕ) → Option (Place × Act)
 line_at parties moment party =
@@ -108,7 +108,7 @@ abbrev pub begun_with : (orders : Moment → List (List Turn)) → List (Turn ×
     → List (List Turn)
 begun_with orders nexts = flat_map (λ next. map (λ order. next.0 ∷ order) (orders next.1)) nexts
 
--- Where nobody can go on, the order is at its end.
+-- If nobody can go on, the order is at its end.
 abbrev pub orders_by : (orders : Moment → List (List Turn)) → List (Turn × Moment)
     → List (List Turn)
 orders_by orders [] = [] ∷ []

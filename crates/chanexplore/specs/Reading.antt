@@ -15,7 +15,7 @@ use Rattle.chanexplore.specs.declared.program.TheConstants.{MOST_ORDERS, USUAL_O
 
 -- ---- a party's line
 
--- the words behind `await`: the one name of who is awaited
+-- the words after `await`: the one name of who is awaited
 abbrev pub awaited_in : List (List ℕ) → Result Who Fault
 awaited_in (name ∷ []) = who_in (word_of name)
 awaited_in words = Err WrongWordCount

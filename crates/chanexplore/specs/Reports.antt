@@ -7,7 +7,7 @@ use Rattle.chanexplore.specs.Searches.{HasSearched}
 use Rattle.chanexplore.specs.declared.party.Turn.{Turn}
 use Rattle.chanexplore.specs.declared.search.Searched.{Searched}
 
--- behind the number of orders, whether there are more
+-- after the number of orders, whether there are more
 abbrev pub more_text : (whole : Bool) → List ℕ
 more_text true = []
 more_text false = codes ", and more: the limit is met"

@@ -19,7 +19,7 @@ pub record Stands (kind : Kind) (moment : Moment) (run : View ℕ) (places : Lis
   pub stands : StandsFor kind moment.past run
   pub alike : places ≡ moment.places
 
--- The first party from this number on that can go on, and those behind it, have the turns that can
+-- The first party from this number on that can go on, and those after it, have the turns that can
 -- be next.
 abbrev pub IsFirst : Kind → List (List Act) → Moment → (from : ℕ) → Option ℕ → Type 0
 IsFirst kind parties moment from None = turns_from kind parties moment from ≡ []
@@ -66,7 +66,7 @@ behind_all turns orders = map (λ order. turns ++ order) orders
 abbrev pub begun : Tree → (more : ℕ) → List (Turn × Moment) → List (List Turn)
 begun tree more nexts = begun_with (orders_of tree.kind tree.parties more) nexts
 
--- those that begin with a turn of a party behind this one
+-- those that begin with a turn of a party after this one
 abbrev pub begun_behind : Tree → (more : ℕ) → Moment → (party : ℕ) → List (List Turn)
 begun_behind tree more moment party =
     begun tree more (turns_from tree.kind tree.parties moment (party + 1))

@@ -54,7 +54,7 @@ pub struct Outcomes {
     // how many lines all parties have
     lines: usize,
     /// Each outcome by the last answer to each line, party by party, each with a line end; nothing
-    /// stands before the line end where a line wasn't reached.
+    /// stands before the line end if a line wasn't reached.
     pub tallies: BTreeMap<String, Tally>,
 }
 

@@ -66,7 +66,7 @@ pub enum Act {
     Make(Step<u64>),
     /// Whether somebody waits, and was told.
     Notice(Who),
-    /// A poll. Where it is pending the party goes on only once who waits was told, and polls again.
+    /// A poll. If it is pending the party goes on only once who waits was told, and polls again.
     Await(Who),
 }
 

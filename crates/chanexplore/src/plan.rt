@@ -87,7 +87,7 @@ fn split_words(alloc: Global, line: &[u8]) -> Result<Vec<&[u8]>, AllocError>
     line.split(|byte| *byte == b' ').collect(alloc)
 }
 
-// The words behind `await`: the one name of who is awaited.
+// The words after `await`: the one name of who is awaited.
 fn awaited_in(words: &[&[u8]]) -> Result<Who, Fault>
     ensures { result ≡ awaited_in (map (λ word. word.now) words.now) }
 {
@@ -232,7 +232,7 @@ impl Plan {
         }
     }
 
-    // Adds a line behind the first one.
+    // Adds a line after the first one.
     fn add(&mut self, alloc: Global, line: &[u8]) -> Result<Result<(), Fault>, AllocError> {
         if line.len() > LINE_LIMIT {
             return Ok(Err(Fault::LineTooLong));

@@ -19,7 +19,7 @@ use chanrun::standard::Program;
 use chanrun::tell::tell;
 use std::alloc::Global;
 
-/// How many orders are made where no argument says it.
+/// How many orders are made if no argument says it.
 ///
 /// # Examples
 ///
@@ -91,7 +91,7 @@ impl<W: Watch> Visitor for Watched<'_, W> {
     }
 }
 
-/// How many orders the arguments allow; none where they are neither nothing nor `--orders N`, N
+/// How many orders the arguments allow; none if they are neither nothing nor `--orders N`, N
 /// from 1 to [`MOST_ORDERS`].
 ///
 /// ```text
@@ -198,10 +198,10 @@ pub fn explore<R: Source, W: Sink, P: Watch>(
     explore_plan(alloc, limit, &plan, writer, watch)
 }
 
-/// The program over its devices. It answers the exit status: 0 where every order was made, 3 where
+/// The program over its devices. It answers the exit status: 0 if every order was made, 3 if
 /// the limit was met before, 2 for a faulty line or for other arguments than `--orders N`, 1
 /// otherwise. A line that says why it is 1 or 2 goes to `errors`; a failure there changes nothing.
-/// There are no arguments where they couldn't be read for want of memory.
+/// There are no arguments if they couldn't be read for want of memory.
 ///
 /// # Examples
 ///

@@ -169,7 +169,7 @@ impl Scene {
         None
     }
 
-    /// The first party behind this one that can go on.
+    /// The first party after this one that can go on.
     pub(crate) fn first_able_behind(&self, parties: &[Vec<Act>], party: usize) -> Option<usize>
         ensures { (kind : Kind) (moment : Moment)
             → Stands kind moment self.now.run self.now.places.items
@@ -182,7 +182,7 @@ impl Scene {
         }
     }
 
-    /// The party does its next line; none where it can't go on.
+    /// The party does its next line; none if it can't go on.
     pub(crate) fn go(
         &mut self,
         parties: &[Vec<Act>],

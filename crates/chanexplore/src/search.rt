@@ -78,7 +78,7 @@ pub struct Searched {
     pub whole: bool,
 }
 
-// One turn of the order that is made: who has it, and the next party behind it that could have it.
+// One turn of the order that is made: who has it, and the next party after it that could have it.
 #[derive(Clone, Copy)]
 struct Choice {
     party: usize,
@@ -167,7 +167,7 @@ fn complete(
     Err(OutOfMemory)
 }
 
-// Takes back the turns behind the last one that another party could have had, and that one too. It
+// Takes back the turns after the last one that another party could have had, and that one too. It
 // answers who is to have it next.
 fn take_back(choices: &mut Vec<Choice>) -> Option<usize>
     ensures { (tree : Tree) (spot : Spot) (order : List Turn)
@@ -202,7 +202,7 @@ fn go_on(
     complete(scene, parties, choices, turns)
 }
 
-// Makes an order, where no turn has been made: the first one, or the one that begins with these
+// Makes an order, if no turn has been made: the first one, or the one that begins with these
 // choices and then gives the turn to this party.
 fn make_order(
     scene: &mut Scene,
@@ -288,7 +288,7 @@ fn next_order<O: Opening>(
     Ok(turns)
 }
 
-/// Hands the visitor each order in turn, up to a limit; the first is made also where the limit is
+/// Hands the visitor each order in turn, up to a limit; the first is made also if the limit is
 /// 0. Memory grows with the length of one order, and with what the visitor keeps.
 ///
 /// # Examples

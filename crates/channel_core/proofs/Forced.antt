@@ -29,7 +29,7 @@ module _ {T : Type 0} where
       go false full = rw full refl
 
 module _ {W : Type 0} where
-  -- where somebody is left untold, another one was told
+  -- if somebody is left untold, another one was told
   pub told_one-untold : (told : List ℕ) (untold : List (ℕ × W))
       → let list : Waiting W = record { told = told; untold = untold } in
       0 < untold_count (told_one list) → (told_count (told_one list) ≡ told_count list + 1) × (0 < untold_count list)

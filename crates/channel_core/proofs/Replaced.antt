@@ -1,4 +1,4 @@
--- What comes back where a ticket's entry isn't in the list.
+-- What comes back if a ticket's entry isn't in the list.
 use Rattle.std.proofs.Common.{◌≡◌, ℕ, Bool, true, false, cond, Option, Some, None, is_some, refl, sym, ◌∙◌}
 use Rattle.identity.specs.Keys.{is_among}
 use Rattle.event_list.specs.Waiting.{Waiting, untold_keys, told_flag}

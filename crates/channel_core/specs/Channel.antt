@@ -214,9 +214,9 @@ module _ {T W : Type 0} where
       (channel' ≡ record channel { closeds = channel'.closeds })
       × Waits ticket channel.closeds payload ticket' channel'.closeds
 
-  -- ### Where memory may be wanted
+  -- ### When memory may be wanted
 
-  -- a send wants memory for its message, and where it begins to wait
+  -- a send wants memory for its message, and when it begins to wait
   abbrev pub SendWants : Option T → Option ℕ → Channel T W → Type 0
   SendWants None ticket channel = ⊥
   SendWants (Some message) ticket channel =
@@ -224,7 +224,7 @@ module _ {T W : Type 0} where
       ⊎ ((send_poll (Some message) channel.closed (is_channel_full channel) ≡ Pending)
       × (waits ticket channel.sends ≡ false))
 
-  -- a receive, a stream and a closed operation want it where they begin to wait
+  -- a receive, a stream and a closed operation want it when they begin to wait
   abbrev pub RecvWants : Option ℕ → Channel T W → Type 0
   RecvWants ticket channel = (recv_poll (oldest channel) channel.closed ≡ Pending)
       × (waits ticket channel.receives ≡ false)

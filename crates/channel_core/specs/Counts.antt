@@ -4,7 +4,7 @@ use Rattle.channel_model.specs.Tables.{handle_limit}
 use Rattle.channel_core.specs.declared.state.Upgrade.{Upgrade}
 use Rattle.channel_core.specs.declared.state.Upgrade.TheVariants.{Raised, Closed, TooMany}
 
--- A copy is counted where there is a handle, and no more of them than the limit.
+-- A copy is counted if there is a handle, and no more of them than the limit.
 abbrev pub may_add : (count : ℕ) → Bool
 may_add count = nat_lt 0 count && not (nat_lt handle_limit count)
 

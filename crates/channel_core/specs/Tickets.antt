@@ -10,12 +10,12 @@ module _ {W : Type 0} where
   waits None list = false
   waits (Some key) list = is_among key (keys list)
 
-  -- the payload of the ticket's entry, where it is untold
+  -- the payload of the ticket's entry, if it is untold
   abbrev pub payload_held : Option ℕ → Waiting W → Option W
   payload_held None list = None
   payload_held (Some key) list = payload_in key list.untold
 
-  -- what comes back of it where the entry waits again with a payload; without one nothing does
+  -- what comes back of it if the entry waits again with a payload; without one nothing does
   abbrev pub payload_replaced : Option W → Option ℕ → Waiting W → Option W
   payload_replaced None ticket list = None
   payload_replaced (Some payload) ticket list = payload_held ticket list
@@ -25,7 +25,7 @@ module _ {W : Type 0} where
   left None list = list
   left (Some key) list = without list key
 
-  -- the ticket's entry leaves; where it was told, one is told in its place
+  -- the ticket's entry leaves; if it was told, one is told in its place
   abbrev pub handed_on : Option ℕ → Waiting W → Waiting W
   handed_on None list = list
   handed_on (Some key) list = cancelled list key
@@ -41,7 +41,7 @@ module _ {W : Type 0} where
   waiting_again None list payload = list
   waiting_again (Some key) list payload = renewed list key payload
 
-  -- with the ticket's entry one told or one untold leaves, and nobody where it isn't in the list
+  -- with the ticket's entry one told or one untold leaves, and nobody if it isn't in the list
   abbrev pub LosesAtMostOne : Option ℕ → Waiting W → Type 0
   LosesAtMostOne None list = Unit {0}
   LosesAtMostOne (Some key) list = LosesOne list key

@@ -55,7 +55,7 @@ impl<T> Model for Queue<T> {
     ghost invariant = { λ queue. HasPlaces queue.store };
 }
 
-/// Takes the oldest message of a queue without a bound. Where it was the last one, more memory than
+/// Takes the oldest message of a queue without a bound. If it was the last one, more memory than
 /// is kept goes back. Nothing is moved for that, and there is as much again only once as many
 /// messages are held.
 #[inline(always)]

@@ -63,7 +63,7 @@ abbrev pub Whole : {T : Type 0} → Kind → Past T → Type 0
 Whole kind past = IsHalfway (capacity_of kind) (length (held_messages past)) (is_closed past)
     (length (live_names Receivers past)) (rosters past)
 
--- where all are told nobody is untold
+-- if all are told nobody is untold
 pub all_told-untold : (roster : Roster) → IsAllTold roster → HasUntold roster → ⊥
 all_told-untold roster all untold = omega arith
 

@@ -91,7 +91,7 @@ HasUntold-leave name roster sound untold = go (left name roster sound)
     go (nobody_left e f t n) = let same : length (leave name roster).names ≡ length roster.names =
         ap length n in omega arith
 
--- where nobody waits nobody leaves
+-- if nobody waits nobody leaves
 pub names-leave : (name : ℕ) (roster : Roster) → roster.names ≡ [] → (leave name roster).names ≡ []
 names-leave name roster none = rw none
 

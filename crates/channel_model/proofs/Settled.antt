@@ -1,4 +1,4 @@
--- Where nobody is told, nobody waits who could go on.
+-- If nobody is told, nobody waits who could go on.
 use Rattle.std.proofs.Common.{◌≡◌, ℕ, ◌-◌, ◌<◌, ◌≤◌, List, [], ◌∷◌, Bool, true, false, not, ◌||◌, ◌&&◌, refl, ap, length, arith}
 use Rattle.std.proofs.lemmas.Bool.{leb-true, leb-false}
 use Rattle.channel_model.specs.declared.step.Kind.{Kind}
@@ -51,7 +51,7 @@ nobody_live : {X : Type 0} (names : List X) → has_none names ≡ true → leng
 nobody_live [] e = refl
 nobody_live (first ∷ rest) e = cc
 
--- no closed operation waits where no receiver is live
+-- no closed operation waits if no receiver is live
 no_closed_waits : {T : Type 0} (kind : Kind) (past : Past T) → Whole kind past → IsQuiet (rosters past)
     → has_none (live_names Receivers past) ≡ true → (rosters past).closeds.names ≡ []
 no_closed_waits kind past covered quiet none =
@@ -160,7 +160,7 @@ or_not : (closed none : Bool) → none ≡ false → (closed || not none) ≡ tr
 or_not true none e = refl
 or_not false none e = ap not e
 
--- where a send waits and nobody is told, a message is held
+-- if a send waits and nobody is told, a message is held
 sends_wait : {T : Type 0} (kind : Kind) (past : Past T) → HasPositiveCapacity kind → IsIdle kind past
     → 0 < length (rosters past).sends.names → can_receive past ≡ true
 sends_wait {T} kind past some idle waits = go (is_closed past) refl (is_full kind past) refl

@@ -124,7 +124,7 @@ IsComplete-IsLegal kind past legal =
     (within_most (measure (rosters past)) (waiting_in (rosters past))
     (let few = told-waiting (rosters past) (rosters-AreSound past) in omega arith))
 
--- where nobody is told there is nobody to be polled
+-- if nobody is told there is nobody to be polled
 pub nobody_polled : {T : Type 0} (all : Rosters) → IsQuiet all → told_polls {T = T} all ≡ []
 nobody_polled all quiet = rw (quiet.receives, quiet.streams, quiet.sends, quiet.closeds) refl
 
@@ -171,7 +171,7 @@ polls_within-IsSettling {T} kind past ((step, reply) ∷ polls) each =
     ∙ (ap (λ (next : Option (Step T)). with_poll kind past polls next) each.1
     ∙ ap (λ (due : Reply T). (step, due) ∷ polls) (sym each.2))
 
--- where nobody is told, no more polls are made
+-- if nobody is told, no more polls are made
 polls_within-stay : {T : Type 0} (kind : Kind) (past polls : Past T) (n : ℕ) → polls_within n kind past ≡ polls
     → told_polls {T = T} (rosters (polls ++ past)) ≡ [] → (k m : ℕ) → m ≡ k + n → polls_within m kind past ≡ polls
 polls_within-stay kind past polls n made quiet zero m is = let same : m ≡ n = omega (arith, is) in rw same made

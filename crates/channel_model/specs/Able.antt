@@ -20,7 +20,7 @@ can_receive past = is_closed past || not (has_none (held_messages past))
 abbrev pub can_send : {T : Type 0} → Kind → Past T → Bool
 can_send kind past = is_closed past || not (is_full_in (view_of kind past))
 
--- An operation, or the stream of a receiver, waits and could go on. A closed operation could where
+-- An operation, or the stream of a receiver, waits and could go on. A closed operation could if
 -- no receiver is live.
 abbrev pub is_able : {T : Type 0} → Kind → Past T → Who → Bool
 is_able kind past (Op op) =

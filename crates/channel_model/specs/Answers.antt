@@ -17,11 +17,11 @@ abbrev pub refused_or : {T : Type 0} → Option Refusal → Step T → (due : Re
 refused_or None step due = due
 refused_or (Some refusal) step due = Refused refusal (message_in step)
 
--- The answer to a step after this past where no memory is wanted.
+-- The answer to a step after this past if no memory is wanted.
 abbrev pub answer_of : {T : Type 0} → Kind → Past T → Step T → Reply T
 answer_of kind past step = refused_or (refusal_of kind past step) step (due_reply kind past step)
 
--- The reply is that answer, or want of memory where it is possible.
+-- The reply is that answer, or want of memory if it is possible.
 abbrev pub IsAnswer : {T : Type 0} → Kind → Past T → Step T → Reply T → Type 0
 IsAnswer kind past step reply =
     (reply ≡ answer_of kind past step)
@@ -37,7 +37,7 @@ abbrev pub past_after : {T : Type 0} → Past T → Step T → Reply T → Past 
 past_after past step (Refused refusal message) = past
 past_after past step reply = (step, reply) ∷ past
 
--- the past after a step where no memory is wanted
+-- the past after a step if no memory is wanted
 abbrev pub past_made : {T : Type 0} → Kind → Past T → Step T → Past T
 past_made kind past step = past_after past step (answer_of kind past step)
 

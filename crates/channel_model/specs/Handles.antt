@@ -15,7 +15,7 @@ pub data Space : Type 0 where
   Senders Receivers WeakSenders WeakReceivers : Space
 
 -- What a step with this reply makes of the names that were live in a space before it: a copy is
--- live, a weak handle that was made of another, an upgrade where it was answered by a handle; and
+-- live, a weak handle that was made of another, an upgrade if it was answered by a handle; and
 -- who is given up is not.
 abbrev pub names_after : {T : Type 0} → Space → Step T → Reply T → List ℕ → List ℕ
 names_after Senders (CloneSender of new) reply names = new ∷ names

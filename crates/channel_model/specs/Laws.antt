@@ -54,7 +54,7 @@ pub record StaysClosed {T : Type 0} (past later : Past T) : Type 0 where
   pub accepted : accepted_messages (later ++ past) ≡ accepted_messages past
   pub left : held_messages past ≡ taken_since past later ++ held_messages (later ++ past)
 
--- Each way to receive gives the oldest message, and where none is left the error or the end: it is
+-- Each way to receive gives the oldest message, and if none is left the error or the end: it is
 -- never empty and never pending.
 pub record GivesWhatIsLeft {T : Type 0} (kind : Kind) (past : Past T) : Type 0 where
   pub at_once : (receiver : ℕ)
@@ -89,7 +89,7 @@ pub record ComesBack {T : Type 0} (past : Past T) (step : Step T) (reply : Reply
 
 -- ---- upgrades
 
--- the names, and this one among them where it was made
+-- the names, and this one among them if it was made
 abbrev pub with_made : (is_made : Bool) → ℕ → List ℕ → List ℕ
 with_made is_made name names = if is_made then name ∷ names else names
 

@@ -10,7 +10,7 @@ use Rattle.channel_model.specs.Capacity.{HasPositiveCapacity}
 use Rattle.channel_model.specs.Replies.{due_reply}
 use Rattle.channel_model.specs.Refusals.{refusal_of}
 
--- The step isn't refused; settling polls a stream also where a receive borrows its receiver.
+-- The step isn't refused; settling polls a stream also if a receive borrows its receiver.
 abbrev pub IsAllowed : {T : Type 0} → Step T → Option Refusal → Type 0
 IsAllowed (PollNext receiver) refusal = (refusal ≡ None) ⊎ (refusal ≡ Some Borrowed)
 IsAllowed step refusal = refusal ≡ None

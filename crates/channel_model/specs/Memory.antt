@@ -1,4 +1,4 @@
--- Where want of memory is possible.
+-- When want of memory is possible.
 use Rattle.std.specs.Prelude.{Bool, false, not, ◌&&◌, ◌||◌, is_none, is_some}
 use Rattle.channel_model.specs.declared.step.Kind.{Kind}
 use Rattle.channel_model.specs.declared.step.Step.{Step}
@@ -30,7 +30,7 @@ polls_newcomer view (Poll op) =
 polls_newcomer view (PollNext receiver) = not (is_among receiver view.rosters.streams.names)
 polls_newcomer view step = false
 
--- Where want of memory is possible: the step isn't refused, and makes a name, brings a message to
+-- When want of memory is possible: the step isn't refused, and makes a name, brings a message to
 -- an open unbounded channel, or begins to wait. A step that wants memory changes nothing.
 abbrev pub may_want_memory_in : {T : Type 0} → View T → Step T → Bool
 may_want_memory_in view step =

@@ -8,7 +8,7 @@ use Rattle.channel_model.specs.declared.step.Reply.TheVariants.{TrySent, Forced,
 use Rattle.channel_model.specs.Past.{Past}
 use Rattle.channel_model.specs.Operations.{Operations, live_operations, message_among}
 
--- The message that a step brings, and gets back where it is refused.
+-- The message that a step brings, and gets back if it is refused.
 abbrev pub message_in : {T : Type 0} → Step T → Option T
 message_in (TrySend sender message) = Some message
 message_in (ForceSend sender message) = Some message

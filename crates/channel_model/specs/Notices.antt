@@ -52,7 +52,7 @@ abbrev pub after_closing : (closed_before closed_now : Bool) → Rosters → Ros
 after_closing false true all = in_sends tell_all (in_receives tell_all (in_streams tell_all all))
 after_closing before now all = all
 
--- The step ended the last receiver: all closed operations are told, also where the channel was
+-- The step ended the last receiver: all closed operations are told, also if the channel was
 -- closed before.
 abbrev pub after_last_receiver : (none_before none_now : Bool) → Rosters → Rosters
 after_last_receiver false true all = in_closeds tell_all all

@@ -55,7 +55,7 @@ waiting_in all =
     length all.sends.names + length all.receives.names + length all.streams.names
     + length all.closeds.names
 
--- the most polls that settling may take where this many wait
+-- the most polls that settling may take if this many wait
 abbrev pub most_polls : ℕ → ℕ
 most_polls waiting = waiting * (waiting + 1) / 2
 
@@ -95,7 +95,7 @@ pub record Settles {T : Type 0} (kind : Kind) (past polls : Past T) (count : ℕ
   pub bounded : count ≤ most_polls (waiting_in (rosters past))
 
 -- In whatever order the told ones are polled: at most this many polls, each of which could be made,
--- and where nobody is told after them nobody waits who could go on.
+-- and if nobody is told after them nobody waits who could go on.
 pub record EndsWell {T : Type 0} (kind : Kind) (past polls : Past T) : Type 0 where
   pub legal : IsLegal kind (polls ++ past)
   pub bounded : length polls ≤ most_polls (waiting_in (rosters past))

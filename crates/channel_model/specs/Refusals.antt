@@ -31,7 +31,7 @@ is_handle view (Receiver name) = is_among name view.receivers
 abbrev pub made : (of : ℕ) (names : List ℕ) (new : ℕ) (others : List ℕ) → Bool × Option Bool
 made of names new others = (is_among of names, Some (is_among new others))
 
--- What a step finds live: whether the name by which it acts is, and, where it is to make a name,
+-- What a step finds live: whether the name by which it acts is, and, if it is to make a name,
 -- whether that one is.
 abbrev pub live_of : {T : Type 0} → View T → Step T → Bool × Option Bool
 live_of view (TrySend sender message) = (is_among sender view.senders, None)

@@ -15,7 +15,7 @@ use Rattle.channel_model.specs.Capacity.{full_at}
 use Rattle.channel_model.specs.Closing.{has_none}
 use Rattle.channel_model.specs.View.{View, view_of}
 
--- What a poll looks at decides the reply to it, by the kind of the operation. Where none has this
+-- What a poll looks at decides the reply to it, by the kind of the operation. If none has this
 -- name the step is refused, and isn't made.
 module _ {T : Type 0} (closed no_receiver full : Bool) (oldest : Option T) where
   abbrev pub poll_reply : Option (Operation T) → Reply T

@@ -39,7 +39,7 @@ wait name roster =
     else if is_among name roster.names then roster
     else arrive name roster
 
--- The one of this name was polled: it leaves where it is ready, and else it waits.
+-- The one of this name was polled: it leaves if it is ready, and else it waits.
 abbrev pub polled : {A : Type 0} → Poll A → ℕ → Roster → Roster
 polled (Ready answer) name roster = leave name roster
 polled Pending name roster = wait name roster

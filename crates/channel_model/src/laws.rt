@@ -2,7 +2,7 @@
 //!
 //! Each function here does nothing: its contract is a law over the definitions of what a past
 //! decides, proved once. A past is the list of steps that were made, each with its reply, the
-//! newest first; it can come about where each step was allowed and has the reply that was due. The
+//! newest first; it can come about if each step was allowed and has the reply that was due. The
 //! examples are runs of the crate `channel_run` in which a law can be seen.
 ghost use Rattle.std.specs.Prelude.{◌≡◌, ◌≤◌, ℕ, List, ◌∷◌, ◌++◌, Some, true, not, length};
 ghost use Rattle.channel_model.specs.declared.step.Kind.{Kind};
@@ -114,7 +114,7 @@ pub fn nobody_waits_in_vain<T>()
 {}
 
 /// In whatever order those who were told are polled, it ends after at most `w * (w + 1) / 2` polls
-/// where `w` wait. Where nobody is told any more, nobody waits who could go on.
+/// if `w` wait. If nobody is told any more, nobody waits who could go on.
 ///
 /// # Examples
 ///
@@ -152,8 +152,8 @@ pub fn can_be_settled<T>()
         → (polls : Past T) × Settles kind past polls (length polls) (finished_polls polls) }
 {}
 
-/// Where nobody is told, no send waits beside a waiting receive or stream, and on a closed channel
-/// no send, receive or stream waits.
+/// If nobody is told, no send waits together with a receive or stream, and on a closed channel no
+/// send, receive or stream waits.
 ///
 /// # Examples
 ///
@@ -169,7 +169,7 @@ pub fn settled_is_done<T>()
         → IsDone past }
 {}
 
-/// Closing by hand answers true exactly where the channel was open. After it the channel is closed.
+/// Closing by hand answers true exactly if the channel was open. After it the channel is closed.
 ///
 /// # Examples
 ///
@@ -202,7 +202,7 @@ pub fn closed_stays_closed<T>()
         → is_closed past ≡ true → StaysClosed past later }
 {}
 
-/// A closed channel gives the oldest message that is left, and where none is left the error or the
+/// A closed channel gives the oldest message that is left, and if none is left the error or the
 /// stream's end.
 ///
 /// # Examples
@@ -236,7 +236,7 @@ pub fn refused_message_comes_back<T>()
         → ComesBack past step reply message }
 {}
 
-/// An upgrade makes a handle exactly on an open channel, also where no strong handle of its kind is
+/// An upgrade makes a handle exactly on an open channel, also if no strong handle of its kind is
 /// left.
 ///
 /// # Examples

@@ -194,7 +194,7 @@ none_claimed n place =
           (omega (arith, length-replicate n false)))
     ]
 
--- where all places are claimed, each is claimed once
+-- if all places are claimed, each is claimed once
 pub all_once : (claimed : List Bool) (n place : ℕ) → length claimed ≡ n
     → All (λ flag. flag ≡ true) claimed → claims_on claimed place ≡ cond (nat_lt place n) 1 0
 all_once claimed n place long all =

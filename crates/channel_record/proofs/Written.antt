@@ -93,7 +93,7 @@ refused_end history clerks claimed lists long front counts bad written = bad (λ
     subst (λ (ls : List (List ℕ)). count_by (holds k) ls ≡ claims_on claimed k) front (counts k) in
     get_or_default claimed k d false below ∙ flag_up (get_or claimed k false) (sym told ∙ once))
 
--- Where all places are claimed, by lists that rise and entries at their places, the clerks wrote the history down.
+-- If all places are claimed, by lists that rise and entries at their places, the clerks wrote the history down.
 pub written_down : {T : Type 0} (history : List (Call T × Outcome T)) (clerks : List (ClerkView T))
     (claimed : List Bool) (lists : List (List ℕ)) → length claimed ≡ length history
     → lists ≡ map places_of clerks → Counts lists claimed

@@ -12,7 +12,7 @@ pub record IsFree (claimed : List Bool) (place : ℕ) : Type 0 where
   pub within : place < length claimed
   pub unclaimed : slice_index_or claimed place false ≡ false
 
--- The entry may claim its place, where the places of its clerk so far are below low.
+-- The entry may claim its place, if the places of its clerk so far are below low.
 pub record IsNext {T : Type 0} (history : List (Call T × Outcome T)) (claimed : List Bool) (low : ℕ)
     (entry : ℕ × Call T × Outcome T) : Type 0 where
   pub rises : low ≤ entry.0
@@ -27,11 +27,11 @@ pub record CanClaim {T : Type 0} (history : List (Call T × Outcome T)) (claimed
   pub rise : IsStrictlyIncreasing (map place_of entries)
   pub free : All (λ entry. IsFree claimed (place_of entry)) entries
 
--- 1 where the place is among these, and else 0
+-- 1 if the place is among these, and else 0
 abbrev pub held : ℕ → List ℕ → ℕ
 held place places = if holds place places then 1 else 0
 
--- 1 where the place is claimed, and else 0
+-- 1 if the place is claimed, and else 0
 abbrev pub claims_on : List Bool → ℕ → ℕ
 claims_on claimed place = if slice_index_or claimed place false then 1 else 0
 

@@ -90,7 +90,7 @@ pub record IsBookOf {T : Type 0} (asked : Kind) (clerks : List (ClerkView T))
   pub written : IsWrittenDown book.history clerks
   pub places : book.places ≡ map places_of clerks
 
--- what `Display` writes where there is no book
+-- what `Display` writes if there is no book
 abbrev pub finish_text : FinishError → List ℕ
 finish_text Stranger = codes "a clerk is of another recorder"
 finish_text Missing = codes "a clerk is missing"

@@ -15,7 +15,7 @@ use channel_core::{SendError, TryRecvError, TrySendError};
 pub enum Call<T> {
     /// Sends a message, if the channel is open and not full.
     TrySend(T),
-    /// Sends a message, and where the channel is full displaces the oldest one.
+    /// Sends a message, and if the channel is full displaces the oldest one.
     ForceSend(T),
     /// Takes the oldest message, if there is one.
     TryRecv,

@@ -11,8 +11,8 @@
 //!    each list is in the order of the history. Else there is a `Mismatch`.
 //!
 //! For the third each place of the history has a flag. The entries of one clerk after the other
-//! claim their places, and an entry is refused its place where the history has another call or
-//! outcome there, where the place isn't above that of the entry before, and where it is claimed
+//! claim their places, and an entry is refused its place if the history has another call or
+//! outcome there, if the place isn't above that of the entry before, and if it is claimed
 //! already. In the end every place has to be claimed. Rising places keep a clerk's calls in the
 //! order in which it made them, and the flags keep a call from being told twice or by nobody, in
 //! one look at each entry and each flag.
@@ -113,8 +113,8 @@ fn is_at<T: Exact>(history: &[(Call<T>, Outcome<T>)], entry: &(usize, Call<T>, O
     }
 }
 
-// Whether the entry may claim its place, as the next one of a clerk whose places below `low` are
-// behind it.
+// Whether the entry may claim its place, as the next one of a clerk whose places so far are below
+// `low`.
 fn is_next<T: Exact>(
     history: &[(Call<T>, Outcome<T>)],
     claimed: &[bool],
@@ -130,7 +130,7 @@ fn is_next<T: Exact>(
     !claimed[place] && is_at(history, entry)
 }
 
-// The places of one clerk's entries, which it claims. None where an entry is refused its place.
+// The places of one clerk's entries, which it claims. None if an entry is refused its place.
 fn claim<T: Exact + Copy>(
     alloc: Global,
     history: &[(Call<T>, Outcome<T>)],
@@ -164,7 +164,7 @@ fn are_claimed(claimed: &[bool]) -> bool
     claimed.iter().all(|flag| *flag)
 }
 
-// The places of each clerk's entries. None where the history isn't what the clerks wrote down.
+// The places of each clerk's entries. None if the history isn't what the clerks wrote down.
 fn shares<T: Exact + Copy>(
     alloc: Global,
     history: &[(Call<T>, Outcome<T>)],

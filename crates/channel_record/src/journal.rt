@@ -103,7 +103,7 @@ impl<T: Copy> Journal<T> {
 
     /// Makes a call and records it. The answer is its place in the history, and what came of it.
     ///
-    /// Room is taken first. Where memory is refused nothing was called and nothing recorded.
+    /// Room is taken first. If memory is refused nothing was called and nothing recorded.
     pub fn call(&mut self, call: Call<T>) -> Result<(usize, Outcome<T>), OutOfMemory>
         ensures place { IfOk result (λ made. made.0 ≡ length self.old.history) }
         ensures recorded { IfOk result (λ made.

@@ -95,7 +95,7 @@ impl<T: Copy + Exact> Recorder<T> {
         Recorder::of_kind(alloc, Kind::Unbounded, maker)
     }
 
-    // The stamp is drawn after everything that may be refused.
+    // The stamp is taken after everything that may be refused.
     fn of_kind(alloc: Global, kind: Kind, maker: &mut StampMaker) -> Result<Recorder<T>, MakeError>
         requires { HasPositiveCapacity kind }
         ensures spent { (result ≡ Err MakeError.NoStamps) ↔ (maker.old ≡ None) }
@@ -162,7 +162,7 @@ impl<T: Copy + Exact> Recorder<T> {
 
     /// Makes a call, and writes it down in the clerk's list with what came of it.
     ///
-    /// Where memory is refused nothing was called and nothing recorded.
+    /// If memory is refused nothing was called and nothing recorded.
     ///
     /// # Examples
     ///

@@ -88,11 +88,11 @@ pub record Changed {X : Type 0} (name : ℕ) (entries entries' : List (ℕ × X)
   pub elsewhere : (other : ℕ) → (name == other) ≡ false
       → entry_at entries' other ≡ entry_at entries other
 
--- the number under a name, 0 where none stands there
+-- the number under a name, 0 if none stands there
 abbrev pub number_at : List (ℕ × ℕ) → ℕ → ℕ
 number_at numbers name = unwrap_or (entry_at numbers name) 0
 
--- one where it is so, and none where it isn't
+-- one if it is so, and none if it isn't
 abbrev pub one_if : Bool → ℕ
 one_if b = if b then 1 else 0
 
@@ -110,7 +110,7 @@ ticket_at ticket entries name = option_and_then ticket (entry_at entries name)
 abbrev pub stream_ticket : Option ℕ → Option ℕ
 stream_ticket ticket = ticket
 
--- The name whose ticket has the key, or nothing where none has it.
+-- The name whose ticket has the key, or nothing if none has it.
 abbrev pub IsHolder : (ticket_of : ℕ → Option ℕ) → ℕ → Option ℕ → Type 0
 IsHolder ticket_of key found =
     MatchOption found ((name : ℕ) → ticket_of name ≢ Some key) (λ name. ticket_of name ≡ Some key)

@@ -77,7 +77,7 @@ after_step run step reply = record {
 
 -- ---- the whole step
 
--- the handle that asks something of the channel, where the step is a question
+-- the handle that asks something of the channel, if the step is a question
 abbrev pub asker : {T : Type 0} → Step T → Option Side
 asker (IsClosed side) = Some side
 asker (IsEmpty side) = Some side
@@ -102,7 +102,7 @@ pub record IsRefused {T : Type 0} (before : View T) (step : Step T) (refusal : R
   pub replied : reply ≡ Refused refusal (message_in step)
   pub unchanged : AreAlike after before
 
--- What a run does at a step, by what it shows: it refuses it, or it makes it or wants memory where
+-- What a run does at a step, by what it shows: it refuses it, or it makes it or wants memory if
 -- that is possible.
 abbrev pub StepsTo : {T : Type 0} → View T → Step T → Reply T → View T → Type 0
 StepsTo before step reply after =
@@ -111,8 +111,8 @@ StepsTo before step reply after =
     × IsRefused before step OutOfMemory reply after))
     (λ refusal. IsRefused before step refusal reply after)
 
--- What a run does at a poll, also where the refusal Borrowed guards the step: it makes it, or wants
--- memory where it begins to wait.
+-- What a run does at a poll, also if the refusal Borrowed guards the step: it makes it, or wants
+-- memory when it begins to wait.
 abbrev pub StepsAsAllowed : {T : Type 0} → View T → Step T → Reply T → View T → Type 0
 StepsAsAllowed before step reply after =
     IsMade before step reply after
@@ -132,7 +132,7 @@ roster_in Receives all = all.receives
 roster_in Streams all = all.streams
 roster_in Closeds all = all.closeds
 
--- Who is polled next, or nobody where nobody is told.
+-- Who is polled next, or nobody if nobody is told.
 abbrev pub IsNext : {T : Type 0} → View T → Option Who → Type 0
 IsNext {T} run next =
     MatchOption next (IsQuiet run.rosters)

@@ -9,7 +9,7 @@ use std::collections::BTreeMap;
 /// The names under which tickets stood, by group and key.
 ///
 /// It is a hint, and no clause speaks of it: it isn't kept up to date, and may lack names for which
-/// memory was refused. Whoever asks it looks the name up, and walks where it is wrong.
+/// memory was refused. Whoever asks it looks the name up, and walks if it is wrong.
 #[derive(Drop)]
 pub(crate) struct Holders {
     sends: BTreeMap<usize, u64>,
@@ -40,7 +40,7 @@ impl Holders {
         Some(*name?)
     }
 
-    /// Adds the names of all tickets, or of some, where memory is refused.
+    /// Adds the names of all tickets, or of some, if memory is refused.
     pub(crate) fn add_all<T>(
         &mut self,
         operations: &BTreeMap<u64, Operation<T>>,

@@ -17,7 +17,7 @@ pub(crate) fn has_key(ticket: &Option<Ticket>, key: usize) -> bool
     }
 }
 
-/// The name of the operation that waits in the group by a ticket of this key. It is looked up where
+/// The name of the operation that waits in the group by a ticket of this key. It is looked up if
 /// the guess is right, and else walked for.
 pub(crate) fn operation_with<T>(
     operations: &BTreeMap<u64, Operation<T>>,
@@ -53,7 +53,7 @@ fn waits_with<T>(
     }
 }
 
-/// The name of the receiver whose stream waits by a ticket of this key. It is looked up where the
+/// The name of the receiver whose stream waits by a ticket of this key. It is looked up if the
 /// guess is right, and else walked for.
 pub(crate) fn receiver_with(
     receivers: &BTreeMap<u64, Option<Ticket>>,

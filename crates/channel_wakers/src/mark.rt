@@ -13,7 +13,7 @@ use std::thread::Parker;
 
 /// Where the waker of an operation's task lies.
 ///
-/// The operation and its entry in a waiting list share it. A waker wakes where it is dropped, so
+/// The operation and its entry in a waiting list share it. A waker wakes when it is dropped, so
 /// that it can't lie in the entry itself: a mark that is replaced, or was not needed, is to wake
 /// nobody.
 ///
@@ -129,7 +129,7 @@ pub trait Waiter<C> {
     /// What holds of its context and of the mark by which it waits for a source.
     ghost waits_by: { C → ℕ → Mark → Type 0 };
 
-    /// How its context may change where a mark is made.
+    /// How its context may change when a mark is made.
     ghost keeps: { C → C → Type 0 };
 
     /// The mark of one poll that can't go on. It is refused if no waker could be made, or no
@@ -170,7 +170,7 @@ impl Marker {
         Marker { slot: None }
     }
 
-    // The slot, which is made where there is none yet.
+    // The slot, which is made if there is none yet.
     fn slot(&mut self, alloc: Global) -> Result<Arc<Slot>, OutOfMemory> {
         let slot = match self.slot.take() {
             Some(slot) => slot,

@@ -23,7 +23,7 @@ lines_whole_by : (x : ℕ) (xs : List ℕ) → AllByRecursion IsLine (x ∷ xs) 
 lines_whole_by x [] h = rw (h.0) refl
 lines_whole_by x (y ∷ ys) h = rw (h.0) (ap (onto_first x) (lines_whole_by y ys h.1))
 
--- where no line ends, what is there is a line
+-- if no line ends, what is there is a line
 pub lines_whole : (xs : List ℕ) → 0 < length xs → All (λ b. (b == 10) ≡ false) xs → lines_of xs ≡ xs ∷ []
 lines_whole [] some h = absurd (omega arith)
 lines_whole (x ∷ xs) some h = lines_whole_by x xs (recursion_from_All IsLine (x ∷ xs) h)
@@ -44,7 +44,7 @@ none_of_cond : (b : Bool) (n : ℕ) → cond b (Some n) None ≡ None → b ≡ 
 none_of_cond true n e = cc
 none_of_cond false n e = refl
 
--- where the byte isn't found, no byte is it
+-- if the byte isn't found, no byte is it
 pub cut_none : (byte : ℕ) (bs : List ℕ) → position (λ b. b == byte) bs ≡ None → All (λ b. (b == byte) ≡ false) bs
 cut_none byte bs e =
     let p = λ (b : ℕ). b == byte in

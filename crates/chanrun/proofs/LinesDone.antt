@@ -91,7 +91,7 @@ pub all_done : (kind : Kind) (run : View ℕ) (all : List Command) (a b : Option
 all_done kind run all a b old new is =
     (subst (λ (text : List ℕ). Appends a b text) (sym (append-nil is.done) ∙ is.text) is.written, is.well)
 
--- where no line was faulty so far, a write that failed or want of memory is the end of the script
+-- if no line was faulty so far, a write that failed or want of memory is the end of the script
 pub ended_before : (fault : Option (ℕ × Fault)) (e : ScriptError) (a b : Option (List ℕ)) (text : List ℕ) (old new : ℕ)
     → IsAnswered None text (Err e) a b old new → IsAnswered fault text (Err e) a b old new
 ended_before fault (FaultAt line what) a b text old new k = absurd (none_some (line, what) k.0)

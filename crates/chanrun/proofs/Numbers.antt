@@ -21,7 +21,7 @@ and_false : (b c : Bool) → c ≡ false → (b && c) ≡ false
 and_false true c h = h
 and_false false c h = refl
 
--- where a number is too large already, more digits don't help
+-- if a number is too large already, more digits don't help
 pub too_large : (n : ℕ) (ds : List ℕ) → 2 ^ 64 ≤ n → digits_from n ds ≡ None
 too_large n ds large =
     let ge = value_ge n ds in

@@ -29,7 +29,7 @@ use Rattle.chanrun.specs.declared.grammar.word.Word.TheVariants.{Number, Sender,
 
 -- ---- lines, words, numbers and names
 
--- Each line ends with the byte 10. What stands behind the last of these is a line too, where it has
+-- Each line ends with the byte 10. What stands after the last of these is a line too, if it has
 -- a byte.
 abbrev pub lines_of : List ℕ → List (List ℕ)
 lines_of [] = []
@@ -52,7 +52,7 @@ is_numeral [] = false
 is_numeral (b ∷ []) = is_digit b
 is_numeral (b ∷ c ∷ bs) = not (b == 48) && all_digits (b ∷ c ∷ bs)
 
--- the digits as a number, behind those that gave this one
+-- the digits as a number, after those that gave this one
 abbrev pub value_after : ℕ → List ℕ → ℕ
 value_after n [] = n
 value_after n (b ∷ bs) = value_after (n * 10 + (b - 48)) bs
@@ -63,7 +63,7 @@ number_of word =
     if is_numeral word && nat_lt (value_after 0 word) (2 ^ 64) then Some (value_after 0 word)
     else None
 
--- the number behind these letters, where a word begins with them
+-- the number after these letters, if a word begins with them
 abbrev pub name_of : (letters : List ℕ) → List ℕ → Option ℕ
 name_of letters word =
     if starts_with nat_eq word letters then number_of (drop (length letters) word) else None
@@ -176,7 +176,7 @@ drop_step word = Err BadName
 abbrev pub made : Result (Step ℕ) Fault → Result Command Fault
 made step = with_one Make step
 
--- A verb with the one word behind it. H below is a sender or a receiver.
+-- A verb with the one word after it. H below is a sender or a receiver.
 abbrev pub on_one : VerbOnOne → Word → Result Command Fault
 on_one verb1.TryRecv r = made (with_one TryRecv (receiver_in r))
 on_one verb1.Close h = made (with_one Close (side_in h))
@@ -193,7 +193,7 @@ on_one verb1.Poll o = made (with_one Poll (op_in o))
 on_one verb1.Next r = made (with_one PollNext (receiver_in r))
 on_one verb1.Notice who = with_one Notice (who_in who)
 
--- A verb with the two words behind it.
+-- A verb with the two words after it.
 abbrev pub on_two : VerbOnTwo → Word → Word → Result Command Fault
 on_two verb2.TrySend s m = made (with_two TrySend (sender_in s) (number_in m))
 on_two verb2.ForceSend s m = made (with_two ForceSend (sender_in s) (number_in m))
@@ -203,7 +203,7 @@ on_two verb2.Upgrade of new = made (upgrade_step of new)
 on_two verb2.Recv o r = made (with_two StartRecv (op_in o) (receiver_in r))
 on_two verb2.Closed o s = made (with_two StartClosed (op_in o) (sender_in s))
 
--- A verb with the words behind it: each verb has its number of words.
+-- A verb with the words after it: each verb has its number of words.
 abbrev pub command_with : Verb → List Word → Result Command Fault
 command_with verb.Settle [] = Ok Settle
 command_with (verb.One verb) (word ∷ []) = on_one verb word
@@ -214,7 +214,7 @@ command_with verb words = Err WrongWordCount
 
 -- ---- lines
 
--- the verbs with one word behind them
+-- the verbs with one word after them
 abbrev pub one_word_verb : List ℕ → Option VerbOnOne
 one_word_verb word =
     if bytes_eq word (codes "try_recv") then Some verb1.TryRecv
@@ -233,7 +233,7 @@ one_word_verb word =
     else if bytes_eq word (codes "notice") then Some verb1.Notice
     else None
 
--- the verbs with two words behind them
+-- the verbs with two words after them
 abbrev pub two_word_verb : List ℕ → Option VerbOnTwo
 two_word_verb word =
     if bytes_eq word (codes "try_send") then Some verb2.TrySend
@@ -268,7 +268,7 @@ abbrev pub within_limit : {A : Type 0} → List ℕ → (List (List ℕ) → Res
 within_limit line read =
     if nat_lt LINE_LIMIT (length line) then Err LineTooLong else read (words_of line)
 
--- The command that a line behind the first says, or its first fault.
+-- The command that a line after the first says, or its first fault.
 abbrev pub command_of : List ℕ → Result Command Fault
 command_of line = within_limit line command_in
 
@@ -292,7 +292,7 @@ abbrev pub unbounded_with : List Word → Result Kind Fault
 unbounded_with [] = Ok Unbounded
 unbounded_with words = Err WrongWordCount
 
--- `bounded` or `unbounded`, with the words behind it
+-- `bounded` or `unbounded`, with the words after it
 abbrev pub kind_with : List ℕ → List Word → Result Kind Fault
 kind_with kind words =
     if bytes_eq kind (codes "bounded") then bounded_with words

@@ -77,7 +77,7 @@ abbrev pub fault_before : ℕ → Result Command Fault → Option (ℕ × Fault)
 fault_before number (Ok command) others = others
 fault_before number (Err fault) others = Some (number, fault)
 
--- the number and the fault of the first faulty line, where the first of these lines has this number
+-- the number and the fault of the first faulty line, if the first of these lines has this number
 abbrev pub fault_from : ℕ → List (List ℕ) → Option (ℕ × Fault)
 fault_from number [] = None
 fault_from number (line ∷ lines) =
@@ -96,7 +96,7 @@ abbrev pub text_of_lines : List (List ℕ) → List ℕ
 text_of_lines [] = []
 text_of_lines (first ∷ lines) = text_by (kind_of first) lines
 
--- the number and the fault of the first faulty line; where there is no line the channel is missing
+-- the number and the fault of the first faulty line; if there is no line the channel is missing
 abbrev pub fault_of_lines : List (List ℕ) → Option (ℕ × Fault)
 fault_of_lines [] = Some (1, ChannelMissing)
 fault_of_lines (first ∷ lines) = fault_by (kind_of first) lines

@@ -16,7 +16,7 @@ IsUnread OutOfMemory left left' old new = (input : List ℕ) × Consumes left le
 IsUnread (FaultAt line fault) left left' old new = ⊥
 IsUnread Write left left' old new = ⊥
 
--- what answering leaves, where this text is due, and this fault: the writer's count of failures was
+-- what answering leaves, if this text is due, and this fault: the writer's count of failures was
 -- old, and is new
 abbrev pub IsAnswered : Option (ℕ × Fault) → List ℕ → Result Unit ScriptError
     → (written written' : Option (List ℕ)) (old new : ℕ) → Type 0

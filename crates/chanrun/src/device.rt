@@ -19,7 +19,7 @@ use std::marker::Model;
 /// assert_eq!(rt; buffer.as_slice(), b"len ".as_slice());
 /// ```
 pub trait Source {
-    /// The bytes that are left, where they are known.
+    /// The bytes that are left, if they are known.
     ghost left: { Self → Option (List ℕ) };
 
     /// How many reads failed. It stays at the greatest number of 64 bits.
@@ -49,7 +49,7 @@ pub trait Source {
 /// assert_eq!(rt; written.as_slice(), b"ok\n".as_slice());
 /// ```
 pub trait Sink {
-    /// The bytes that were written, where they are known.
+    /// The bytes that were written, if they are known.
     ghost written: { Self → Option (List ℕ) };
 
     /// How many writes failed. It stays at the greatest number of 64 bits.

@@ -3,7 +3,7 @@
 //!
 //! A line is cut at each single space (`line`). Its first word is a verb (`verb`), or the kind of
 //! the channel on the first line; each other word is a number, a name or neither (`word`). A verb
-//! says how many words stand behind it, and what is asked for in the place of each (`command`). The
+//! says how many words stand after it, and what is asked for in the place of each (`command`). The
 //! first thing that is wrong with a line is its fault (`fault`).
 
 mod command;

@@ -40,7 +40,7 @@ pub fn cut_lines(alloc: Global, input: &[u8]) -> Result<Result<Lines, Fault>, Al
     }))
 }
 
-// What lines behind the first one ask for, and the first faulty one.
+// What lines after the first one ask for, and the first faulty one.
 fn commands_in<'a>(
     alloc: Global,
     texts: &[&'a [u8]],

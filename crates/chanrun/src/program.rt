@@ -27,9 +27,9 @@ pub fn status_of(error: &ScriptError) -> u8
     }
 }
 
-/// The program over its devices. It answers the exit status: 0 where the whole script was done, 2
+/// The program over its devices. It answers the exit status: 0 if the whole script was done, 2
 /// for a faulty line or for arguments, 1 otherwise. A line that says why it isn't 0 goes to
-/// `errors`; a failure there changes nothing. There are no arguments where they couldn't be read
+/// `errors`; a failure there changes nothing. There are no arguments if they couldn't be read
 /// for want of memory.
 ///
 /// # Examples

@@ -33,7 +33,7 @@ use std::rt::Env;
 /// assert_eq!(rt; ended, Ok(3));
 /// ```
 pub trait Program {
-    /// Answers the exit status. There are no arguments where they couldn't be read.
+    /// Answers the exit status. There are no arguments if they couldn't be read.
     fn run<R: Source, W: Sink, E: Sink>(
         self,
         alloc: Global,
@@ -44,7 +44,7 @@ pub trait Program {
     ) -> u8;
 }
 
-/// The arguments that stand behind the program's own name, where they can be read.
+/// The arguments that stand after the program's own name, if they can be read.
 ///
 /// # Examples
 ///
@@ -61,7 +61,7 @@ pub fn arguments_of<R: Env + AllocGlobal>(rt: &R) -> Option<Vec<String>> {
 ///
 /// # Errors
 ///
-/// `OutOfMemory` where there is no memory for a buffer, and `Write` where what was written can't be
+/// `OutOfMemory` if there is no memory for a buffer, and `Write` if what was written can't be
 /// passed on. What was to be said on `errors` isn't said then.
 ///
 /// # Examples

@@ -17,7 +17,7 @@ use Rattle.event_list.proofs.KeptEntries.{mark_is, payload_is, told_entry, untol
 use Rattle.event_list.proofs.Writes.{linked_renewed, FirstUntold, first_untold, linked_told_one}
 
 module _ {W : Type 0} where
-  -- a fact of the entry that left, where one did
+  -- a fact of the entry that left, if one did
   pub there : (result : Option (EntryState W)) {told : Bool} {P : Type 0} → option_map is_told result ≡ Some told
       → OnSome result P → P
   there None is holds = absurd (cc)
@@ -135,7 +135,7 @@ module _ {W : Type 0} where
         ),
       )
 
-  -- somebody is told where a told key is in the list
+  -- somebody is told if a told key is in the list
   pub some_told : {slab : Slab (Entry W)} {ends : Ends} {len told : ℕ} {list : Waiting W} (key : ℕ)
       → Keeps slab ends len told list → told_flag list key ≡ Some true → 0 < told
   some_told {slab} {ends} {list = list} key keeps marked =
@@ -219,7 +219,7 @@ module _ {W : Type 0} where
   pub without_none : {list : Waiting W} (key : ℕ) → told_flag list key ≡ None → without list key ≡ list
   without_none {list} key h = let parts = absent_from_flag list key h in without_absent list key parts.0 parts.1
 
-  -- nor does it where it is to wait again
+  -- nor does it if it is to wait again
   pub renewed_none : {list : Waiting W} (key : ℕ) (payload : W) → told_flag list key ≡ None → renewed list key payload ≡ list
   renewed_none {list} key payload h = let parts = absent_from_flag list key h in
       renewed_absent list key payload parts.0 parts.1
@@ -266,7 +266,7 @@ module _ {W : Type 0} where
   some_pair : (one other : W × Option ℕ) → Some one ≡ Some other → (one.0 ≡ other.0) × (one.1 ≡ other.1)
   some_pair one other h = let same : one ≡ other = (cc) in (ap (λ p. p.0) same, ap (λ p. p.1) same)
 
-  -- so it is where the entries answer with this payload
+  -- so it is if the entries answer with this payload
   pub tells_first : {old new : Slab (Entry W)} {ends : Ends} {len told key : ℕ} {list : Waiting W} {payload : W}
       {behind : Option ℕ} {result : Option (W × Option ℕ)} → Keeps old ends len told list → ends.cursor ≡ Some key
       → result ≡ option_and_then payload_at (get old key) → result ≡ Some (payload, behind)

@@ -69,7 +69,7 @@ different-insert key (x ∷ front) back h d =
     )
 
 module _ {X : Type 0} (f : X → ℕ) where
-  -- nothing leaves a list where the key isn't
+  -- nothing leaves a list if the key isn't
   pub filter-absent : (key : ℕ) (xs : List X) → is_among key (map f xs) ≡ false → filter (λ x. not (f x == key)) xs ≡ xs
   filter-absent key [] h = refl
   filter-absent key (x ∷ xs) h =
@@ -98,7 +98,7 @@ module _ {X : Type 0} (f : X → ℕ) where
       ]
 
 module _ {W : Type 0} where
-  -- an entry keeps its payload where the key isn't
+  -- an entry keeps its payload if the key isn't
   pub repaid-absent : (key : ℕ) (payload : W) (xs : List (ℕ × W)) → is_among key (map (λ entry. entry.0) xs) ≡ false
       → map (λ entry. cond (entry.0 == key) (key, payload) entry) xs ≡ xs
   repaid-absent key payload [] h = refl

@@ -11,12 +11,12 @@ use Rattle.event_list.specs.declared.entries.EntryState.{EntryState}
 use Rattle.event_list.specs.declared.entries.EntryState.TheVariants.{Told, Untold}
 
 module _ {A : Type 0} where
-  -- the key of the first item, or this one where there is none
+  -- the key of the first item, or this one if there is none
   abbrev pub first_key : List (ℕ × A) → Option ℕ → Option ℕ
   first_key [] behind = behind
   first_key (item ∷ rest) behind = Some item.0
 
-  -- the key of the last item, or this one where there is none
+  -- the key of the last item, or this one if there is none
   abbrev pub last_key : Option ℕ → List (ℕ × A) → Option ℕ
   last_key before [] = before
   last_key before (item ∷ rest) = last_key (Some item.0) rest
@@ -62,7 +62,7 @@ module _ {W : Type 0} where
   walk slab zero = λ _. []
   walk slab (suc n) = λ start. step_from slab (walk slab n) start
 
-  -- a key and its payload, where it is untold, in front of the others
+  -- a key and its payload, if it is untold, in front of the others
   abbrev with_payload : ℕ → EntryState W → List (ℕ × W) → List (ℕ × W)
   with_payload key Told rest = rest
   with_payload key (Untold payload) rest = (key, payload) ∷ rest

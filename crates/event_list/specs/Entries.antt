@@ -41,12 +41,12 @@ module _ {W : Type 0} where
   abbrev pub with_notice : EntryState W → Entry W → Entry W
   with_notice notice entry = record entry { notice = notice }
 
-  -- the payload of a notice, where it is untold, beside a key
+  -- the payload of a notice, if it is untold, beside a key
   abbrev payload_beside : Option ℕ → EntryState W → Option (W × Option ℕ)
   payload_beside behind Told = None
   payload_beside behind (Untold payload) = Some (payload, behind)
 
-  -- the payload of an entry, where it is untold, and its neighbour behind
+  -- the payload of an entry, if it is untold, and its neighbour behind
   abbrev pub payload_at : Entry W → Option (W × Option ℕ)
   payload_at entry = payload_beside entry.behind entry.notice
 

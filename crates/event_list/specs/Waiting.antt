@@ -35,7 +35,7 @@ module _ {W : Type 0} where
   abbrev pub payloads : Waiting W → List W
   payloads list = map (λ entry. entry.1) list.untold
 
-  -- whether the key is told, or nothing where it isn't in the list
+  -- whether the key is told, or nothing if it isn't in the list
   abbrev pub told_flag : Waiting W → ℕ → Option Bool
   told_flag list key =
       if is_among key list.told then Some true
@@ -72,7 +72,7 @@ module _ {W : Type 0} where
     untold = filter (λ entry. not (entry.0 == key)) list.untold;
   }
 
-  -- With the key's entry one told or one untold leaves, and nobody where the key isn't in the list.
+  -- With the key's entry one told or one untold leaves, and nobody if the key isn't in the list.
   abbrev pub LosesOne : Waiting W → ℕ → Type 0
   LosesOne list key =
       (told_count (without list key) + (if is_among key list.told then 1 else 0) ≡ told_count list)
@@ -103,12 +103,12 @@ module _ {W : Type 0} where
   abbrev pub told_all : Waiting W → Waiting W
   told_all list = record { told = keys list; untold = [] }
 
-  -- the key's entry leaves; where it was told, one is told in its place
+  -- the key's entry leaves; if it was told, one is told in its place
   abbrev pub cancelled : Waiting W → ℕ → Waiting W
   cancelled list key =
       if is_among key list.told then told_one (without list key) else without list key
 
-  -- the payload that is rung with where the key's entry leaves: of the one told in its place
+  -- the payload that is rung with when the key's entry leaves: of the one told in its place
   abbrev pub rung_by_cancelling : Waiting W → ℕ → List W
   rung_by_cancelling list key =
       if is_among key list.told then take 1 (payloads (without list key)) else []

@@ -12,7 +12,7 @@ use std::alloc::Global;
 use std::marker::Model;
 use std::sync::ledger::Ledger;
 
-/// Whether an entry is told, and its payload where it isn't.
+/// Whether an entry is told, and its payload if it isn't.
 ///
 /// # Examples
 ///
@@ -145,7 +145,7 @@ impl<W: Drop> Entries<W> {
         self.slab.try_remove(key)
     }
 
-    /// Gives an entry another neighbour behind, where there is an entry.
+    /// Gives an entry another neighbour behind, if there is an entry.
     pub fn set_behind<L: Ledger>(
         &mut self,
         at: Option<usize>,
@@ -164,7 +164,7 @@ impl<W: Drop> Entries<W> {
         }
     }
 
-    /// Gives an entry another neighbour before, where there is an entry.
+    /// Gives an entry another neighbour before, if there is an entry.
     pub fn set_before<L: Ledger>(
         &mut self,
         at: Option<usize>,
@@ -201,7 +201,7 @@ impl<W: Drop> Entries<W> {
         std::mem::replace(&mut entry.notice, EntryState::Untold(payload)).into_payload()
     }
 
-    /// Tells an entry. The answer is its payload, where it was untold, and its neighbour
+    /// Tells an entry. The answer is its payload, if it was untold, and its neighbour
     /// behind.
     pub fn tell<L: Ledger>(
         &mut self,

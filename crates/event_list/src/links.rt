@@ -4,7 +4,7 @@
 //! `cursor` is the first behind them: to tell one is to tell the entry at the cursor and to move
 //! the cursor to its neighbour behind. An entry leaves by letting its neighbours name one another,
 //! and an end or the cursor that named it names its neighbour. Who waits again leaves and comes
-//! last where it was told, and stays where it is otherwise. So no call walks along the list.
+//! last if it was told, and stays where it is otherwise. So no call walks along the list.
 //!
 //! Each look-up is counted on the ledger that a call is handed. No other can be opened here, and no
 //! entry is reached without one: see `steps`.
@@ -184,7 +184,7 @@ impl<W: Drop> Links<W> {
         Some(entry)
     }
 
-    /// The entry leaves, and where it was told, one is told in its place. The answer is the payload
+    /// The entry leaves, and if it was told, one is told in its place. The answer is the payload
     /// of one that was untold. At most 12 look-ups.
     pub(crate) fn withdraw<B: Bell<W>, L: Ledger>(
         &mut self,
@@ -207,7 +207,7 @@ impl<W: Drop> Links<W> {
         entry.into_payload()
     }
 
-    /// Whether the ticket's entry is told, or nothing where it isn't in the list. One look-up.
+    /// Whether the ticket's entry is told, or nothing if it isn't in the list. One look-up.
     pub(crate) fn is_told<L: Ledger>(&self, t: &Ticket, lookups: &mut Lookups<L>) -> Option<bool>
         ensures value { result ≡ told_flag self.now t.now }
         ensures counted { lookups.new ≡ lookups.old + 1 }
@@ -215,7 +215,7 @@ impl<W: Drop> Links<W> {
         self.entries.is_told(t.key, lookups)
     }
 
-    /// The payload of the ticket's entry, where it is untold. One look-up.
+    /// The payload of the ticket's entry, if it is untold. One look-up.
     pub(crate) fn payload<L: Ledger>(&self, t: &Ticket, lookups: &mut Lookups<L>) -> Option<&W>
         ensures value { option_copied result ≡ payload_in t.now self.now.untold }
         ensures counted { lookups.new ≡ lookups.old + 1 }
@@ -247,7 +247,7 @@ impl<W: Drop> Links<W> {
         self.told
     }
 
-    /// The key of the first entry, where somebody is told.
+    /// The key of the first entry, if somebody is told.
     pub(crate) fn first_told(&self) -> Option<usize>
         ensures { result ≡ slice_get self.now.told 0 }
     {

@@ -57,7 +57,7 @@ pub struct NoRoom<W>(pub W);
 /// call looks up a fixed number of them, however many wait; `tell_all` looks up one for each that
 /// it tells. The counted calls say how many: they have the contracts of the calls of the plain
 /// names, which run them on a ledger of their own. Each counts on the ledger that it is handed, at
-/// most that number and at least one where it reaches an entry.
+/// most that number and at least one if it reaches an entry.
 ///
 /// A list takes memory with the first who waits, and keeps it for those who come later.
 ///
@@ -216,7 +216,7 @@ impl<W: Drop> WaitList<W> {
         self.tell_all_from::<B, Brand>(bell, Blank::new(1))
     }
 
-    /// The entry leaves. The answer is whether it was told, or nothing where it isn't in the list.
+    /// The entry leaves. The answer is whether it was told, or nothing if it isn't in the list.
     ///
     /// # Examples
     ///
@@ -237,7 +237,7 @@ impl<W: Drop> WaitList<W> {
         self.remove_from::<Brand>(t, Blank::new(1))
     }
 
-    /// The entry leaves, and where it was told, one is told in its place.
+    /// The entry leaves, and if it was told, one is told in its place.
     ///
     /// # Examples
     ///
@@ -259,7 +259,7 @@ impl<W: Drop> WaitList<W> {
         self.cancel_from::<B, Brand>(t, bell, Blank::new(1));
     }
 
-    /// `again`, which gives the payload that an untold entry had. Where the entry isn't in the list,
+    /// `again`, which gives the payload that an untold entry had. If the entry isn't in the list,
     /// `w` comes back.
     ///
     /// # Examples
@@ -389,7 +389,7 @@ impl<W: Drop> WaitList<W> {
         self.renew_by(t, w, &mut steps.lookups).is_ok()
     }
 
-    /// `tell_one`, which counts its look-ups: one where one is told, and else none.
+    /// `tell_one`, which counts its look-ups: one if one is told, and else none.
     pub fn tell_one_counted<B: Bell<W>, L: Ledger>(
         &mut self,
         bell: &mut B,
@@ -483,14 +483,14 @@ impl<W: Drop> WaitList<W> {
         self.is_told(t).is_some()
     }
 
-    /// Whether the ticket's entry is told, or nothing where it isn't in the list.
+    /// Whether the ticket's entry is told, or nothing if it isn't in the list.
     pub fn is_told(&self, t: &Ticket) -> Option<bool>
         ensures { result ≡ told_flag self.now t.now }
     {
         self.is_told_from::<Brand>(t, Blank::new(1))
     }
 
-    /// The payload of the ticket's entry, or nothing where it is told or isn't in the list.
+    /// The payload of the ticket's entry, or nothing if it is told or isn't in the list.
     ///
     /// # Examples
     ///
@@ -508,7 +508,7 @@ impl<W: Drop> WaitList<W> {
         self.payload_from::<Brand>(t, Blank::new(1))
     }
 
-    /// The key of the first entry, where somebody is told.
+    /// The key of the first entry, if somebody is told.
     pub fn first_told(&self) -> Option<usize>
         ensures { result ≡ slice_get self.now.told 0 }
     {
@@ -600,7 +600,7 @@ impl<W: Drop> WaitList<W> {
     }
 }
 
-/// The entries, for which memory is taken where there are none yet.
+/// The entries, for which memory is taken if there are none yet.
 fn made<W: Drop>(alloc: Global, links: Option<Box<Links<W>>>) -> Option<Box<Links<W>>>
     ensures kept { IfSome result (λ made. made.value ≡ kept_list links) }
     ensures refused { IfNone result (kept_list links ≡ nobody) }
@@ -611,8 +611,8 @@ fn made<W: Drop>(alloc: Global, links: Option<Box<Links<W>>>) -> Option<Box<Link
     }
 }
 
-// What the calls of the plain names run, on the ledger of a blank: the counted ones, where there are
-// any. They stand apart since a ledger gets its name where a call passes a blank on.
+// What the calls of the plain names run, on the ledger of a blank: the counted ones, if there are
+// any. They stand apart since a ledger gets its name when a call passes a blank on.
 impl<W: Drop> WaitList<W> {
     fn listen_from<L: Ledger>(&mut self, w: W, blank: Blank) -> Result<Ticket, NoRoom<W>>
         requires { Opens blank.name blank.parts L.name L.parts }

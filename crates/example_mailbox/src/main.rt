@@ -1,6 +1,6 @@
 //! An actor on a thread of its own, with a mailbox that keeps the newest messages.
 //!
-//! A sensor sends readings by a weak handle, which doesn't keep the mailbox open. Where the mailbox
+//! A sensor sends readings by a weak handle, which doesn't keep the mailbox open. When the mailbox
 //! is full the oldest reading makes room. The actor ends when it has seen enough, and the sensor
 //! learns it from the closed mailbox.
 #![tactic(auto)]

@@ -93,7 +93,7 @@ twice_at_fault : {A : Type 0} (inputs : List A) (before : List (PieceView A)) (p
 twice_at_fault inputs before piece place is one = inr
     (subst (λ (k : ℕ). count_at k before ≡ 1) (sym is) one)
 
--- where all pieces are sound, none is first at fault
+-- if all pieces are sound, none is first at fault
 no_first : {A : Type 0} (inputs : List A) (pieces before : List (PieceView A)) (piece : PieceView A)
     → AreSound inputs pieces → IsFirstFaulty inputs pieces before piece
     → IsAtFault inputs before piece → ⊥
@@ -180,7 +180,7 @@ no_fault inputs pieces OutOfMemory whole f = f
 no_fault inputs pieces NoStamps whole f = f
 no_fault inputs pieces NoThread whole f = f
 
--- so an answer that is right where it comes is also the one that comes
+-- so an answer that is right when it comes is also the one that comes
 
 pub comes_whole : {A X : Type 0} (inputs : List A) (pieces : List (PieceView A))
     (r : Result X MapError)

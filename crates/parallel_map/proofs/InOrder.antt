@@ -39,7 +39,7 @@ at_least_one k ns =
     let here = ap (λ b. cond b 1 0 + times k ns) (itself k) in
     omega (arith, first, here)
 
--- where the first is lower, the other list hasn't got it
+-- if the first is lower, the other list hasn't got it
 not_lower : (x y : ℕ) (xs ys : List ℕ) → x < y → Rise y ys → times x (y ∷ ys) ≡ times x (x ∷ xs) → ⊥
 not_lower x y xs ys less up same =
     let none = none_below x y (y ∷ ys) less (omega arith, up) in

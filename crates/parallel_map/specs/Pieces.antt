@@ -35,7 +35,7 @@ pub record IsFirstFaulty {A : Type 0} (inputs : List A) (pieces : List (PieceVie
   pub sound : AreSound inputs before
 
 -- what is wrong with pieces: the first that isn't of its input, or whose place has one before it;
--- and where all are sound, the least place without one
+-- and if all are sound, the least place without one
 abbrev pub IsFault : {A : Type 0} → List A → List (PieceView A) → MapError → Type 0
 IsFault inputs pieces (Stranger place) =
     (before : List (PieceView _)) × (piece : PieceView _) × IsFirstFaulty inputs pieces before piece

@@ -4,7 +4,7 @@ use Rattle.parallel_map.specs.Pieces.{PieceView, IsOfItsInput, count_at}
 use Rattle.parallel_map.specs.declared.error.MapError.{MapError}
 use Rattle.parallel_map.specs.declared.error.MapError.TheVariants.{OutOfMemory, NoStamps, NoThread, Stranger, Doubled, Missing}
 
--- a slot has the answer for its input where a piece came for its place, and else nothing
+-- a slot has the answer for its input if a piece came for its place, and else nothing
 pub record AreFilled {A B : Type 0} (answer : A → B) (inputs : List A) (pieces : List (PieceView A))
     (slots : List (Option B)) : Type 0 where
   pub long : length slots ≡ length inputs

@@ -118,7 +118,7 @@ fn gathered<'a, A: Exact, B: Drop, J: Job<A, B>>(
     answers_of::<A, B, J>(inputs, slots, answers)
 }
 
-/// The job's answers for all inputs, in their order, where each input has just one piece.
+/// The job's answers for all inputs, in their order, if each input has just one piece.
 ///
 /// Room is taken first, and may be refused. Then pieces are looked at one by one: the first that is
 /// of another input than the one at its place, or whose place had a piece before it, is refused

@@ -1,6 +1,6 @@
 //! Chunks are put together.
 //!
-//! They are sorted by their places, and their answers are moved behind one another. As they are
+//! They are sorted by their places, and their answers are appended in turn. As they are
 //! all chunks, each once, the answers stand at the places of their inputs.
 ghost use Rattle.std.specs.Prelude.{◌≡◌, IfOk, IsPermutation, List};
 ghost use Rattle.std.specs.List.Sorted.{IsNonDecreasingBy};

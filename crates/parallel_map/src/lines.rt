@@ -9,7 +9,7 @@ use identity::StampMaker;
 use ruled_channel_rules::{Channel, Hub, bounded, unbounded};
 use std::alloc::Global;
 
-/// A channel that holds at most `cap` messages, for which a stamp is drawn.
+/// A channel that holds at most `cap` messages, for which a stamp is taken.
 pub fn bounded_line<T: Drop>(
     alloc: Global,
     cap: usize,
@@ -31,7 +31,7 @@ pub fn bounded_line<T: Drop>(
     Ok(made)
 }
 
-/// A channel without a capacity, for which a stamp is drawn.
+/// A channel without a capacity, for which a stamp is taken.
 pub fn unbounded_line<T: Drop>(
     alloc: Global,
     maker: &mut StampMaker,

@@ -40,7 +40,7 @@ impl<'a, A, B, J: Job<A, B>> Model for Piece<'a, A, B, J> {
 }
 
 impl<'a, A, B, J: Job<A, B>> Piece<'a, A, B, J> {
-    /// Runs the job on an input, and keeps the answer beside the place.
+    /// Runs the job on an input, and keeps the answer with the place.
     pub fn make(job: &J, place: usize, input: &'a A) -> Self
         ensures { result ≡ record { place = place; input = input.now } }
     {

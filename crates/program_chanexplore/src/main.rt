@@ -16,7 +16,7 @@ struct Progress<'r> {
     rt: &'r HostRuntime,
     /// Whether standard error is a terminal.
     shown: bool,
-    /// When it was said last; none where there is no clock.
+    /// When it was said last; none if there is no clock.
     last: Option<Instant>,
 }
 

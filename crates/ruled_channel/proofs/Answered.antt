@@ -179,14 +179,14 @@ recv_pending [] false e = (refl, refl)
 recv_pending (x ∷ xs) closed e = absurd (true≢false (ap is_ready e))
 
 module _ {T W V : Type 0} (core found : Channel T W) (shows : core ≡ found) where
-  -- what is learned of a channel where a receive can't go on
+  -- what is learned of a channel if a receive can't go on
   pub learned_empty : (fact : V → List T → Bool → Type 0) (v v' : V) → v' ≡ v → recv_poll (oldest core) core.closed ≡ Pending
       → fact v' found.messages found.closed → fact v [] false
   learned_empty fact v v' q waits told = let is = recv_pending core.messages core.closed waits in
       subst (λ (z : V × (List T × Bool)). fact z.0 z.1.0 z.1.1) (λ i. (q i, (is.0 i, is.1 i)))
       (subst (λ (c : Channel T W). fact v' c.messages c.closed) (sym shows) told)
 
-  -- what is learned of one where a send can't go on
+  -- what is learned of one if a send can't go on
   pub learned_full : (fits : Option ℕ → Type 0) (fact : V → List T → Bool → Type 0) (v v' : V) (m : T) → v' ≡ v
       → send_poll (Some m) core.closed (is_channel_full core) ≡ Pending
       → fits found.capacity → fact v' found.messages found.closed
@@ -198,7 +198,7 @@ module _ {T W V : Type 0} (core found : Channel T W) (shows : core ≡ found) wh
         (subst (λ (c : Channel T W). fact v' c.messages c.closed) (sym shows) told),
   )
 
-  -- what is learned where a send wants memory
+  -- what is learned if a send wants memory
   pub wants : (fits : Option ℕ → Type 0) (fact : V → List T → Bool → Type 0) (v v' : V) (m : T) → v' ≡ v
       → GrowsWithMessages core ⊎ (send_poll (Some m) core.closed (is_channel_full core) ≡ Pending)
       → fits found.capacity → fact v' found.messages found.closed → WantsToSend fits (fact v)

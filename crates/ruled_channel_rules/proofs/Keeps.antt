@@ -87,7 +87,7 @@ module _ {T : Type 0} where
         append_assoc s.0 (f v) (f w ++ s.1) ∙ ap (λ (l : List (List T)). s.0 ++ l) (sym (append_assoc (f v) (f w) s.1)) ∙ ap (λ (l : List (List T)). s.0 ++ (l ++ s.1)) (sym eb) ∙ sym (s.3 both) in
         subst P (joined ∙ ap (flat_map f) (sym (set_other views pass other both spent apart))) t
 
-    -- where one pass has as many lists as there are, it has them all
+    -- if one pass has as many lists as there are, it has them all
     has_all : (views : List (Log T)) (pass : ℕ) (v : Log T) → get_elem? views pass ≡ some v → length (f v) ≡ length (flat_map f views) → flat_map f views ≡ f v
     has_all views pass v at e = let r = around views pass v at in r.2 ∙ only r.0 (f v) r.1 (e ∙ ap (λ (l : List (List T)). length l) r.2)
 

@@ -1,7 +1,7 @@
 //! A mutex under a caller's rule over the value that it guards and over what each pass knows.
 //!
 //! A [`Protocol`] states the rule, of the value and of the views of all passes. A [`Pass`] is what
-//! one thread has of the mutex: a view, and no bytes. Who takes the lock gets a [`Held`] beside it,
+//! one thread has of the mutex: a view, and no bytes. Who takes the lock gets a [`Held`],
 //! which can't be dropped: only [`RuledMutex::unlock_as`] ends it, and asks there for a step of the
 //! rule, from the value that was found to the one that is there then. So the rule holds each time
 //! the lock is taken, and what a thread was told of the others' steps stays in its view.

@@ -73,7 +73,7 @@ impl<T, V, P: Protocol<T, V>, A: Allocator> RuledMutex<T, V, P, A> {
     ghost use Rattle.ruled_mutex.specs.Passes.{IsPassOf, IsSamePass, Holds, IsIn, Owes, Learns, view, number, found, made};
 
     /// The mutex and its first pass, with the view that the rule begins with. The value comes back
-    /// where there is no memory.
+    /// if there is no memory.
     ///
     /// ```
     /// let Ok((mutex, mut pass)) = RuledMutex::<u64, (), Unruled>::new(rt.alloc(), 4) else {
@@ -212,7 +212,7 @@ impl<T, V, P: Protocol<T, V>, A: Allocator> RuledMutex<T, V, P, A> {
         }
     }
 
-    /// Takes the lock, and sleeps while another has it. It may wait for ever, as where the thread
+    /// Takes the lock, and sleeps while another has it. It may wait for ever, as when the thread
     /// that waits holds the lock itself by another pass.
     ///
     /// ```

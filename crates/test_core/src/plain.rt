@@ -6,7 +6,7 @@ use std::alloc::{AllocError, Global};
 #[derive(Drop)]
 struct Entry<W> {
     key: usize,
-    // Nothing where the entry is told.
+    // Nothing if the entry is told.
     payload: Option<W>,
 }
 

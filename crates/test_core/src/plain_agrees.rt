@@ -50,7 +50,7 @@ impl Pair {
         Ok(true)
     }
 
-    // The calls that name an entry, which is drawn too.
+    // The calls that name an entry, which is random too.
     fn call_named(&mut self, kind: u64, draw: u64, payload: u64) -> Result<bool, Fail> {
         let count = self.names.len();
         if count == 0 {

@@ -1,4 +1,4 @@
-//! Each public item by its path, as a user names it: this file isn't built where one is missing.
+//! Each public item by its path, as a user names it: this file isn't built if one is missing.
 use futures::Stream;
 use std::collections::VecDeque;
 use std::fmt;

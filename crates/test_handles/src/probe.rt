@@ -49,7 +49,7 @@ struct Probe<R: Wait + Clone + Drop> {
     receiver: Option<Receiver<u64, R>>,
 }
 
-/// A bounded channel where there is a capacity, and else an unbounded one.
+/// A bounded channel if there is a capacity, and else an unbounded one.
 pub fn channel<T: Drop, R: Wait + Clone + Drop>(
     rt: &R,
     alloc: Global,

@@ -105,7 +105,7 @@ fn closes<T: Drop, R: Wait + Clone + Drop>(receiver: &Receiver<T, R>) -> bool {
     false
 }
 
-/// Receives a message that another thread sends, and sees the end behind it.
+/// Receives a message that another thread sends, and sees the end after it.
 fn receive_seven<R: Wait + Clone + Drop + Abort>(rt: &R, r: &Receiver<u64, R>) {
     assert!(rt; holds(r, 1));
     assert_eq!(rt; r.try_recv(), Ok(7));

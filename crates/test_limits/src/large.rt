@@ -134,7 +134,7 @@ fn streams_that_wait(rt: HostRuntime) -> Result<(), Fail> {
 /// Weak handles of both sides.
 type WeakPair<R> = (WeakSender<u64, R>, WeakReceiver<u64, R>);
 
-/// Weak handles of both sides, copied from others where there are some.
+/// Weak handles of both sides, copied from others if there are some.
 fn weak_pair<R: Wait + Clone + Drop>(
     s: &Sender<u64, R>,
     r: &Receiver<u64, R>,

@@ -31,7 +31,7 @@ fn messages(rt: &impl Report, alloc: Global, count: usize) -> Result<VecDeque<u6
     made(rt, call, count, list)
 }
 
-/// Sends all that is there, where there is room for it.
+/// Sends all that is there, if there is room for it.
 fn try_send_many<R: Wait + Clone + Drop + Report>(
     rt: &R,
     s: &Sender<u64, R>,
@@ -134,7 +134,7 @@ pub fn calls<R: Wait + Clone + Drop + Report>(rt: &R, alloc: Global) -> Result<(
     Ok(())
 }
 
-/// Sends all that is there by a call that would block, where there is room for it.
+/// Sends all that is there by a call that would block, if there is room for it.
 fn send_many_blocking<R: Wait + Clone + Drop + Report>(
     rt: &R,
     s: &Sender<u64, R>,
@@ -182,7 +182,7 @@ pub fn blocking<R: Wait + Clone + Drop + Report>(rt: &R, alloc: Global) -> Resul
     end(rt, s, &r)
 }
 
-/// Polls a send of many, and says how many messages went in. Where it is refused memory those that
+/// Polls a send of many, and says how many messages went in. If it is refused memory those that
 /// went in are there, and it has the others.
 fn poll_send_many<R: Wait + Clone + Drop + Report>(
     rt: &R,

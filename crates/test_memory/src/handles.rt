@@ -247,7 +247,7 @@ pub fn messages_without_size<R: Wait + Clone + Drop + Report>(
     receive_without_size(rt, &r)
 }
 
-/// Asks for a stamp behind the largest one, by a channel and by itself.
+/// Asks for a stamp after the largest one, by a channel and by itself.
 fn no_stamp<R: Wait + Clone + Drop + Report>(
     rt: &R,
     alloc: Global,
@@ -418,7 +418,7 @@ fn upgrade<R: Wait + Clone + Drop + Report>(
     give_up(rt, "drop of both upgraded", (sender, other))
 }
 
-/// Upgrades where the channel is closed, and nobody else sees it.
+/// Upgrades if the channel is closed, and nobody else sees it.
 fn upgrade_closed_sender<R: Wait + Clone + Drop + Report>(
     rt: &R,
     ws: &WeakSender<u64, R>,

@@ -6,7 +6,7 @@ use std::alloc::Global;
 /// How many wait in the long row.
 const MANY: u64 = 1000;
 
-/// A new entry. Where it is refused, its payload comes back and the list is as it was.
+/// A new entry. If it is refused, its payload comes back and the list is as it was.
 fn listen(
     rt: &impl Report,
     list: &mut WaitList<u64>,

@@ -253,7 +253,7 @@ fn poll_until_sent<R: Wait + Clone + Drop + Report>(
     no_request(rt, "is_terminated", recv.is_terminated())
 }
 
-/// A receive until its message is sent, and once more where the channel is closed.
+/// A receive until its message is sent, and once more if the channel is closed.
 fn poll_until_closed<R: Wait + Clone + Drop + Report>(
     rt: &R,
     task: &MockTask,

@@ -118,7 +118,7 @@ fn make_calls<R: Wait + Report>(
     Ok(())
 }
 
-/// Two clerks of the recorder, behind their calls.
+/// Two clerks of the recorder, after their calls.
 fn clerks_behind<R: Wait + Report>(
     rt: &R,
     alloc: Global,

@@ -1,8 +1,8 @@
 //! How a row says what it did.
 //!
 //! A call of a row is a line of the output: whether the call may request memory, the call, and the
-//! reply to it. Where a call is refused memory, a line on standard error says so, and the call is
-//! made again; so the output is the same whatever request is refused. A row goes no further where a
+//! reply to it. If a call is refused memory, a line on standard error says so, and the call is
+//! made again; so the output is the same whatever request is refused. A row goes no further if a
 //! refused call changed what the row sees, or is refused twice.
 use std::{fmt, io};
 
@@ -91,7 +91,7 @@ pub fn refused<C: fmt::Display + Drop>(rt: &impl Report, call: C) -> Result<(), 
     Ok(())
 }
 
-/// Says that a call was refused memory. The row goes no further where that changed something.
+/// Says that a call was refused memory. The row goes no further if that changed something.
 pub fn refused_unchanged<C: fmt::Display + Drop>(
     rt: &impl Report,
     call: C,
@@ -105,7 +105,7 @@ pub fn refused_unchanged<C: fmt::Display + Drop>(
     }
 }
 
-/// What the call gives. Where it is refused, it is made again; what is seen must then be as it was
+/// What the call gives. If it is refused, it is made again; what is seen must then be as it was
 /// before the call, and the refusal the one that is named.
 macro_rules! once_more {
     ($rt:expr, $call:expr, $seen:expr, $refusal:expr, $make:expr) => {{

@@ -13,7 +13,7 @@ use futures::task::Poll;
 use std::alloc::Global;
 use std::fmt;
 
-/// A line behind the first: its words, what they ask for, and the same to be asked for again.
+/// A line after the first: its words, what they ask for, and the same to be asked for again.
 #[derive(Drop)]
 struct Line<'a> {
     words: &'a str,
@@ -21,7 +21,7 @@ struct Line<'a> {
     again: Command,
 }
 
-/// A script that was read: its channel, and the lines behind the first one.
+/// A script that was read: its channel, and the lines after the first one.
 #[derive(Drop)]
 struct Script<'a> {
     kind: Kind,
@@ -177,7 +177,7 @@ fn message_of(command: &Command) -> Option<u64> {
     }
 }
 
-/// What answers the command; or, where memory is refused, the message that comes back.
+/// What answers the command; or, if memory is refused, the message that comes back.
 fn answer_of(run: &mut Run<u64>, command: Command) -> Result<Answer, Option<u64>> {
     match command {
         Command::Make(step) => match run.step(step) {
@@ -217,7 +217,7 @@ fn say(rt: &impl Report, words: &str, may_grow: bool, answer: Answer) -> Result<
     }
 }
 
-/// What answers a line. Where memory is refused, its message comes back, nothing that is seen has
+/// What answers a line. If memory is refused, its message comes back, nothing that is seen has
 /// changed, and it is done again.
 fn answer_to(rt: &impl Report, run: &mut Run<u64>, line: Line<'_>) -> Result<Answer, Wrong> {
     let message = message_of(&line.command);
@@ -319,7 +319,7 @@ fn unrefused(replies: Vec<Reply<u64>>) -> Option<Vec<Reply<u64>>> {
     }
 }
 
-/// The replies to the steps, none of which was refused memory. Where the whole list is, the steps
+/// The replies to the steps, none of which was refused memory. If the whole list is, the steps
 /// come back.
 fn replies_to(
     alloc: Global,
@@ -334,7 +334,7 @@ fn replies_to(
     }
 }
 
-/// The replies to the steps. Where the whole list is refused, the same steps come back; where it or
+/// The replies to the steps. If the whole list is refused, the same steps come back; if it or
 /// one of them is refused, the list is made again.
 fn replies(
     rt: &impl Report,

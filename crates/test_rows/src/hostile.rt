@@ -18,7 +18,7 @@ fn at(line: u64, fault: Fault) -> Result<(), ScriptError> {
 }
 
 /// What is written for the script's first bytes, as many as this, and how they end. A line is done
-/// where all its bytes but its end are there.
+/// if all its bytes but its end are there.
 fn beginning(count: usize) -> (usize, Result<(), ScriptError>) {
     use Fault::*;
     match count {

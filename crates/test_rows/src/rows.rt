@@ -1,4 +1,4 @@
-//! Worked rows of a channel: the lines of a script, each with its reply behind ` => `. A reply of
+//! Worked rows of a channel: the lines of a script, each with its reply after ` => `. A reply of
 //! several lines goes on in lines that begin with `=> `.
 //!
 //! The rows stand here once, as text. `scripts` makes them as scripts, `steps` as steps on a run and
@@ -61,7 +61,7 @@ impl Row {
     }
 }
 
-/// The words of a line, and the reply behind them.
+/// The words of a line, and the reply after them.
 fn parts(line: &str) -> (&str, Option<&str>) {
     match line.split_once("=> ") {
         Some((words, reply)) => (words.trim_ascii_end(), Some(reply)),

@@ -55,7 +55,7 @@ fn step_by_step(rt: &impl Abort, alloc: Global, kind: Kind, commands: Vec<Comman
     make_all(rt, &mut run, commands, log);
 }
 
-/// The steps that the commands begin with, what is known of each, and the commands behind them.
+/// The steps that the commands begin with, what is known of each, and the commands after them.
 #[derive(Drop)]
 struct Beginning {
     steps: Vec<Step<u64>>,

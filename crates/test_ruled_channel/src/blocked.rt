@@ -47,7 +47,7 @@ impl Waiting {
     }
 }
 
-/// Whether a task that waits gets the message, where a thread waits behind it.
+/// Whether a task that waits gets the message, while a thread waits behind it.
 fn receives<R>(rt: &R, channel: &Channel, waiting: &Waiting, pass: &mut Pass, other: Pass) -> bool
 where
     R: Wait + RandomSource + AllocGlobal,
@@ -67,7 +67,7 @@ where
     matches!(task.poll(&mut receive), Poll::Ready((_, Ok(Ok(1)))))
 }
 
-/// Whether a task that waits gets the room, where a thread waits behind it.
+/// Whether a task that waits gets the room, while a thread waits behind it.
 fn sends<R>(rt: &R, channel: &Channel, waiting: &Waiting, pass: &mut Pass, other: Pass) -> bool
 where
     R: Wait + RandomSource + AllocGlobal,

@@ -52,7 +52,7 @@ impl Join<Added> for Tally {
 
 pub type Counter = RuledMutex<u64, Added, Tally>;
 
-/// Adds one, and answers the count; `None` where it could not grow.
+/// Adds one, and answers the count; `None` if it could not grow.
 pub fn add_one<R: Wait>(rt: &R, counter: &Counter, pass: &mut Pass<u64, Added>) -> Option<u64>
     requires { IsPassOf counter.now pass.old }
     ensures own { IsPassOf counter.now pass.new × IsSamePass pass.old pass.new }
@@ -74,7 +74,7 @@ pub fn add_one<R: Wait>(rt: &R, counter: &Counter, pass: &mut Pass<u64, Added>) 
     }
 }
 
-/// Adds one so many times, and gives the pass back where each could be added.
+/// Adds one so many times, and gives the pass back if each could be added.
 pub fn add_many<R: Wait>(
     rt: &R,
     counter: &Counter,

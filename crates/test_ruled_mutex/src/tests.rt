@@ -15,7 +15,7 @@ const EACH: u64 = 20_000;
 
 type Mutex = RuledMutex<u64, (), Unruled>;
 
-// Whether the lock could not be taken at once. It is given back where it could.
+// Whether the lock could not be taken at once. It is given back if it could.
 fn misses(mutex: &Mutex, pass: &mut Pass<u64, ()>) -> bool
     requires { IsPassOf mutex.now pass.old }
     ensures { IsPassOf mutex.now pass.new }

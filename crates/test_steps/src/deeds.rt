@@ -86,7 +86,7 @@ fn no_receiver_is_left<R: Wait + Clone + Drop>(s: &Sender<u64, R>) -> Option<boo
 }
 
 impl<R: Wait + Clone + Drop> Deed<R> {
-    /// What comes of it, where something has come.
+    /// What comes of it, if something has come.
     fn act(&mut self, alloc: Global, task: &MockTask) -> Option<bool> {
         match self {
             Deed::GiveUpSender(s) => {
@@ -207,7 +207,7 @@ fn do_each<R: Wait + Clone + Drop + RandomSource + AllocGlobal>(
     count
 }
 
-/// How many deeds of both threads go well, where those of a round are done at one time.
+/// How many deeds of both threads go well, if those of a round are done at one time.
 pub fn count_well<R>(rt: &R, meet: Meet) -> Result<u64, Fail>
 where
     R: Wait + Threads + Clone + Drop + RandomSource + AllocGlobal + Send + Sync,

@@ -6,7 +6,7 @@ use std::thread;
 pub const TURNS: u32 = 10_000_000;
 
 /// How long the threads of a test wait for one another, in moments of 64 looks. Behind that they
-/// wait no more: where others have the processors, a test isn't to take long.
+/// wait no more: if others have the processors, a test isn't to take long.
 const PATIENCE: u64 = 6_000;
 
 /// How many moments a turn takes that is given to others.

@@ -1,4 +1,4 @@
-//! Whom each call tells where threads are blocked: the longest waiting one ends with its answer,
+//! Whom each call tells when threads are blocked: the longest waiting one ends with its answer,
 //! and the other one waits on.
 use crate::scene::{Answer, Call, Ends};
 use crate::waiting::{are_waiting, channel, one_is_untold, waiting};

@@ -430,7 +430,7 @@ fn run_between<R: Wait + Clone + Drop + RandomSource + AllocGlobal + Abort>(
     make_rows(rt, ends, watched.as_mut_slice(), rows)
 }
 
-/// Makes the calls in order where those of the list wait. Those on a side that the list doesn't
+/// Makes the calls in order while those of the list wait. Those on a side that the list doesn't
 /// need are the last handles of that side.
 pub fn run<R: Wait + Clone + Drop + RandomSource + AllocGlobal + Abort>(
     rt: &R,

@@ -28,7 +28,7 @@ const AT_FULL: [Kind; 4] = [
     Kind::AwaitingClose,
 ];
 
-/// Makes the calls at an empty channel of each kind, where a sender lives beside the one that
+/// Makes the calls at an empty channel of each kind, while a sender lives beside the one that
 /// calls.
 fn at_empty<R: Wait + Clone + Drop + RandomSource + AllocGlobal + Abort>(
     rt: &R,
@@ -47,7 +47,7 @@ fn at_last_sender<R: Wait + Clone + Drop + RandomSource + AllocGlobal + Abort>(
     run(rt, None, &[], &AT_EMPTY[..4], rows)
 }
 
-/// Makes the calls at a channel that is full with the message 1, where one receiver lives.
+/// Makes the calls at a channel that is full with the message 1, while one receiver lives.
 fn at_full<R: Wait + Clone + Drop + RandomSource + AllocGlobal + Abort>(
     rt: &R,
     rows: &[Row<'_>],
@@ -123,7 +123,7 @@ fn a_close_tells_receives_and_streams(rt: HostRuntime) -> Result<(), Fail> {
     )
 }
 
-/// What comes where a message is taken from a full channel.
+/// What comes when a message is taken from a full channel.
 fn at_room<R: Wait + Clone + Drop + RandomSource + AllocGlobal + Abort>(
     rt: &R,
     first: Row<'_>,
@@ -152,7 +152,7 @@ fn a_taken_message_tells_one_send(rt: HostRuntime) -> Result<(), Fail> {
     at_room(&rt, (RecvBlocking, Got(Ok(1)), &[0]))
 }
 
-/// What the end of a full channel tells, where a receiver lives on.
+/// What the end of a full channel tells, while a receiver lives on.
 fn at_full_close<R: Wait + Clone + Drop + RandomSource + AllocGlobal + Abort>(
     rt: &R,
     close: Call,

@@ -10,7 +10,7 @@ use std::thread;
 /// How often a test looks before it gives up.
 pub const TURNS: u32 = 10_000_000;
 
-/// A bounded channel where there is a capacity, and else an unbounded one.
+/// A bounded channel if there is a capacity, and else an unbounded one.
 pub fn channel<T: Drop, R: Wait + Clone + Drop>(
     rt: &R,
     alloc: Global,

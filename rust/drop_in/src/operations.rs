@@ -123,7 +123,7 @@ pub fn texts() {
     println!("{}", ["Send", "Recv", "Closed"].iter().all(|name| written.contains(name)));
 }
 
-/// Where the rules differ from the original: `closed` waits for the last receiver's end, as its
+/// If the rules differ from the original: `closed` waits for the last receiver's end, as its
 /// documentation says, and a told stream that goes hands nothing on.
 pub fn by_rule() {
     let (s, r) = bounded::<u8>(1);

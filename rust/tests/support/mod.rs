@@ -1,4 +1,4 @@
-//! What the tests share: wakers that write down whom they woke, polls by hand, and drawn numbers.
+//! What the tests share: wakers that write down whom they woke, polls by hand, and random numbers.
 // Each test file uses a part.
 #![allow(dead_code)]
 

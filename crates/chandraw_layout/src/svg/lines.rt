@@ -37,7 +37,7 @@ fn path_of(trace: Trace) -> Mark {
     }
 }
 
-// where a line begins: below its name, where it is the name's own
+// where a line begins: below its name, if it is the name's own
 fn first_y(trace: Trace, row: u64) -> u64 {
     match trace {
         Trace::Life => text_y(row).saturating_add(4),
@@ -45,7 +45,7 @@ fn first_y(trace: Trace, row: u64) -> u64 {
     }
 }
 
-// where a line along a lane stands: beside the lane, where a message was displaced
+// where a line along a lane stands: beside the lane, if a message was displaced
 fn along_x(trace: Trace, lane: usize) -> u64 {
     match trace {
         Trace::Displaced => lane_x(lane).saturating_sub(6),
@@ -121,7 +121,7 @@ pub(crate) fn add_strokes(fragments: &mut Fragments, strokes: &[Stroke]) -> Resu
     Ok(())
 }
 
-// Adds an arrow along a row from a lane to these others, which lie one behind the other.
+// Adds an arrow along a row from a lane to these others, which lie one after another.
 fn add_arrow(fragments: &mut Fragments, from: Place, lanes: &[usize]) -> Result<(), AllocError> {
     if lanes.is_empty() {
         return Ok(());

@@ -12,7 +12,7 @@ const LANE: u64 = 26;
 
 const LEFT: u64 = 404;
 
-// how wide the cells behind the lanes are
+// how wide the cells after the lanes are
 const HELD: u64 = 130;
 
 const LIST: u64 = 92;
@@ -34,7 +34,7 @@ pub(crate) fn lane_x(lane: usize) -> u64 {
         .saturating_add(LEFT)
 }
 
-// Where the cells behind the lanes begin; beside all lanes stands a number for the rest.
+// Where the cells after the lanes begin; beside all lanes stands a number for the rest.
 fn cells_x(size: &Size) -> u64 {
     let lanes = if size.lanes >= LANES {
         LANES + 2

@@ -173,7 +173,7 @@ impl Table {
         }
     }
 
-    // Notes that the channel is closed: by hand, or where a side has no handle any more.
+    // Notes that the channel is closed: by hand, or if a side has no handle any more.
     pub fn note_closing(&mut self, act: Act, reply: &Reply<u64>) {
         let by_hand = matches!((act, reply), (Act::Close(_), Reply::Flag(true)));
         let ends = matches!((act, reply), (Act::End(_), Reply::Done));
@@ -190,7 +190,7 @@ impl Table {
     }
 }
 
-// Gives a name the first free lane, or none where there are no more lanes. It answers whether
+// Gives a name the first free lane, or none if there are no more lanes. It answers whether
 // there was room.
 fn add_lane(lanes: &mut Vec<Option<Lane>>, rest: &mut Vec<Lane>, lane: Lane) -> bool {
     if let Some(free) = lanes.iter().position(|lane| lane.is_none()) {

@@ -24,7 +24,7 @@ impl Table {
         }
     }
 
-    /// Polls who was told first, in a row of its own; none where nobody was told.
+    /// Polls who was told first, in a row of its own; none if nobody was told.
     pub fn poll_row(&mut self) -> Result<Option<Polled>, OutOfMemory> {
         let Some((who, reply)) = self.run.poll_first_told() else {
             return Ok(None);

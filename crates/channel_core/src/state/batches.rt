@@ -14,10 +14,10 @@ use std::alloc::Global;
 use std::collections::VecDeque;
 
 impl<T: Drop, W: Drop> Core<T, W> {
-    /// Takes up to `limit` messages, the oldest first, and puts them behind those in `into`. Each
+    /// Takes up to `limit` messages, the oldest first, and puts them after those in `into`. Each
     /// tells a send that there is a place, in turn.
     ///
-    /// The answer is how many came. Where no message is held nothing changes, and the error says
+    /// The answer is how many came. If no message is held nothing changes, and the error says
     /// whether the channel is closed. The outer error says that there was no memory in `into`,
     /// which is asked for before the first message is taken; nothing has changed then.
     ///
@@ -66,10 +66,10 @@ impl<T: Drop, W: Drop> Core<T, W> {
     /// Sends messages from the front of `from`, as many as fit, up to `limit`. Each tells a receive
     /// and all streams, in turn. The rest stays in `from`.
     ///
-    /// The answer is how many were sent. Where the channel is closed or full nothing changes, and
+    /// The answer is how many were sent. If the channel is closed or full nothing changes, and
     /// the error says which. The outer error says that memory was refused for the first message,
-    /// which an unbounded channel alone may be; nothing has changed then. Where it is refused for a
-    /// later one, that one stays in `from` with those behind it.
+    /// which an unbounded channel alone may be; nothing has changed then. If it is refused for a
+    /// later one, that one stays in `from` with those after it.
     ///
     /// # Examples
     ///

@@ -9,7 +9,7 @@ use channel_model::{NoMemory, SendError, TryRecvError, TrySendError};
 use event_list::Bell;
 
 impl<T: Drop, W: Drop> Core<T, W> {
-    /// Puts a message last, where the channel is open and not full.
+    /// Puts a message last, if the channel is open and not full.
     ///
     /// A full or closed channel hands the message back. The outer error, with the message, says
     /// that memory was refused, which an unbounded channel alone may be; nothing has changed then.
@@ -49,7 +49,7 @@ impl<T: Drop, W: Drop> Core<T, W> {
         }
     }
 
-    /// Puts a message last, where the channel is open. A full one gives its oldest message for it,
+    /// Puts a message last, if the channel is open. A full one gives its oldest message for it,
     /// which tells no send.
     ///
     /// A closed channel hands the message back. The outer error, with the message, says that memory
@@ -88,7 +88,7 @@ impl<T: Drop, W: Drop> Core<T, W> {
 
     /// Takes the oldest message, and tells a send that there is a place.
     ///
-    /// Where no message is held nothing changes, and the error says whether the channel is closed.
+    /// If no message is held nothing changes, and the error says whether the channel is closed.
     ///
     /// # Examples
     ///

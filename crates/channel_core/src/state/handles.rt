@@ -8,7 +8,7 @@ use crate::state::{Core, HANDLE_LIMIT, Upgrade, shut};
 use crate::waiting::leave;
 use event_list::{Bell, Ticket};
 
-// Counts one more copy of a handle, where there is one and there may be one more.
+// Counts one more copy of a handle, if there is one and there may be one more.
 fn add_handle(count: &mut usize) -> bool
     ensures reply { result ≡ may_add count.old }
     ensures after { count.new ≡ count_added result count.old }
@@ -74,7 +74,7 @@ impl<T: Drop, W: Drop> Core<T, W> {
         add_handle(&mut self.receivers)
     }
 
-    /// Counts one more sender, made of a weak one, where the channel is open.
+    /// Counts one more sender, made of a weak one, if the channel is open.
     ///
     /// # Examples
     ///
@@ -92,7 +92,7 @@ impl<T: Drop, W: Drop> Core<T, W> {
         upgrade_handle(self.closed, &mut self.senders)
     }
 
-    /// Counts one more receiver, made of a weak one, where the channel is open.
+    /// Counts one more receiver, made of a weak one, if the channel is open.
     ///
     /// # Examples
     ///

@@ -1,4 +1,4 @@
-//! The polls of those who may wait, and what they leave where one gives up.
+//! The polls of those who may wait, and what they leave when one gives up.
 ghost use Rattle.std.specs.Prelude.{◌≡◌, ◌==◌, Some, None, IfOk, OnErr, MatchOption};
 ghost use Rattle.event_list.specs.Waiting.{RingsEach};
 ghost use Rattle.channel_model.specs.Tables.{OnReady, OnWait, send_poll, recv_poll, next_poll, closed_poll};
@@ -16,7 +16,7 @@ impl<T: Drop, W: Drop> Core<T, W> {
     /// pending.
     ///
     /// A ready poll leaves neither message nor ticket. A pending one leaves the ticket of an
-    /// untold entry that holds `w`. Where memory was refused nothing has changed, the message
+    /// untold entry that holds `w`. If memory was refused nothing has changed, the message
     /// and the ticket neither.
     ///
     /// # Examples
@@ -61,8 +61,8 @@ impl<T: Drop, W: Drop> Core<T, W> {
 
     /// `poll_send`, which gives back each payload that isn't in the list after it.
     ///
-    /// `w` is the payload to wait with. It stays where it isn't needed. Without one the poll only
-    /// looks: where it can't go on it is pending, and nothing changes. `back` gets the payload that
+    /// `w` is the payload to wait with. It stays if it isn't needed. Without one the poll only
+    /// looks: if it can't go on it is pending, and nothing changes. `back` gets the payload that
     /// the send's entry held untold, once that has left its list or was replaced, and is none else.
     ///
     /// # Examples
@@ -142,7 +142,7 @@ impl<T: Drop, W: Drop> Core<T, W> {
     /// Polls a receive, by its ticket.
     ///
     /// A ready poll leaves no ticket. A pending one leaves the ticket of an untold entry that
-    /// holds `w`. Where memory was refused nothing has changed, the ticket neither.
+    /// holds `w`. If memory was refused nothing has changed, the ticket neither.
     ///
     /// # Examples
     ///
@@ -181,8 +181,8 @@ impl<T: Drop, W: Drop> Core<T, W> {
 
     /// `poll_recv`, which gives back each payload that isn't in the list after it.
     ///
-    /// `w` is the payload to wait with. It stays where it isn't needed. Without one the poll only
-    /// looks: where it can't go on it is pending, and nothing changes. `back` gets the payload that
+    /// `w` is the payload to wait with. It stays if it isn't needed. Without one the poll only
+    /// looks: if it can't go on it is pending, and nothing changes. `back` gets the payload that
     /// the receive's entry held untold, once that has left its list or was replaced, and is none
     /// else.
     ///
@@ -248,7 +248,7 @@ impl<T: Drop, W: Drop> Core<T, W> {
     /// Polls the stream of a receiver, by its ticket.
     ///
     /// A ready poll leaves no ticket. A pending one leaves the ticket of an untold entry that
-    /// holds `w`. Where memory was refused nothing has changed, the ticket neither.
+    /// holds `w`. If memory was refused nothing has changed, the ticket neither.
     ///
     /// # Examples
     ///
@@ -283,8 +283,8 @@ impl<T: Drop, W: Drop> Core<T, W> {
 
     /// `poll_next`, which gives back each payload that isn't in the list after it.
     ///
-    /// `w` is the payload to wait with. It stays where it isn't needed. Without one the poll only
-    /// looks: where it can't go on it is pending, and nothing changes. `back` gets the payload that
+    /// `w` is the payload to wait with. It stays if it isn't needed. Without one the poll only
+    /// looks: if it can't go on it is pending, and nothing changes. `back` gets the payload that
     /// the stream's entry held untold, once that has left its list or was replaced, and is none
     /// else.
     ///
@@ -344,10 +344,10 @@ impl<T: Drop, W: Drop> Core<T, W> {
         Ok(Poll::Pending)
     }
 
-    /// Polls a closed operation, by its ticket. It is ready exactly where no receiver is left.
+    /// Polls a closed operation, by its ticket. It is ready exactly if no receiver is left.
     ///
     /// A ready poll leaves no ticket. A pending one leaves the ticket of an untold entry that
-    /// holds `w`. Where memory was refused nothing has changed, the ticket neither.
+    /// holds `w`. If memory was refused nothing has changed, the ticket neither.
     ///
     /// # Examples
     ///
@@ -376,8 +376,8 @@ impl<T: Drop, W: Drop> Core<T, W> {
 
     /// `poll_closed`, which gives back each payload that isn't in the list after it.
     ///
-    /// `w` is the payload to wait with. It stays where it isn't needed. Without one the poll only
-    /// looks: where it can't go on it is pending, and nothing changes. `back` gets the payload that
+    /// `w` is the payload to wait with. It stays if it isn't needed. Without one the poll only
+    /// looks: if it can't go on it is pending, and nothing changes. `back` gets the payload that
     /// the operation's entry held untold, once that has left its list or was replaced, and is none
     /// else.
     ///

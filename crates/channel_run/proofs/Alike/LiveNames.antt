@@ -82,7 +82,7 @@ live_weak_receivers-AreDifferent kind ((step, reply) ∷ past) legal = live_weak
 abbrev pub names_of : {T : Type 0} → List (ℕ × Operation T) → List ℕ
 names_of operations = map (λ entry. entry.0) operations
 
--- a name has an operation exactly where it is among the names
+-- a name has an operation exactly if it is among the names
 pub is_some-look_up : {T : Type 0} (name : ℕ) (operations : List (ℕ × Operation T))
     → is_some (look_up name operations) ≡ is_among name (names_of operations)
 is_some-look_up name [] = refl

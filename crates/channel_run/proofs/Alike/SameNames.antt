@@ -116,7 +116,7 @@ pub AreSameNames-pushed : (names : List ℕ) (new : ℕ)
     → AreSameNames (names ++ new ∷ []) (new ∷ names)
 AreSameNames-pushed names new = AreSameNames-added names names new (AreSameNames-refl names)
 
--- a name is given up; where each stands once in one of the lists, as many are left
+-- a name is given up; if each stands once in one of the lists, as many are left
 pub AreSameNames-without : (names others : List ℕ) (name : ℕ) → AreDifferent others
     → AreSameNames names others
     → AreSameNames (without name names) (without name others)
@@ -205,7 +205,7 @@ has_none-same names others same = go names others same.count
     go (name ∷ names) [] e = absurd (omega arith)
     go (name ∷ names) (other ∷ others) e = refl
 
--- nobody is left where the length is 0
+-- nobody is left if the length is 0
 pub has_none-length : {X : Type 0} (items : List X) → has_none items ≡ (length items == 0)
 has_none-length [] = refl
 has_none-length (first ∷ rest) = sym (eqb-suc-zero (length rest))

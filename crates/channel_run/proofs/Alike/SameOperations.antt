@@ -124,7 +124,7 @@ pub record SomePasses {T : Type 0} (test : Operation T → Bool)
   pub found : look_up name operations ≡ Some operation
   pub passes : test operation ≡ true
 
--- where each name stands once, an entry that passes is the one of its name
+-- if each name stands once, an entry that passes is the one of its name
 SomePasses-any : {T : Type 0} (test : Operation T → Bool) (operations : List (ℕ × Operation T))
     → AreDifferent (names_of operations) → list_any (λ entry. test entry.1) operations ≡ true
     → SomePasses test operations
@@ -191,7 +191,7 @@ any-SomePasses {T} test (entry ∷ operations) one =
         or_right (test entry.1) (list_any (λ entry. test entry.1) operations)
         (rest (record { name = one.name; operation = one.operation; found = found; passes = one.passes }))
 
--- where each name stands once in both, a test that one passes in one list is passed in the other
+-- if each name stands once in both, a test that one passes in one list is passed in the other
 pub list_any-SameLookUps : {T : Type 0} (test : Operation T → Bool) (operations others : List (ℕ × Operation T))
     → AreDifferent (names_of operations) → AreDifferent (names_of others) → SameLookUps operations others
     → list_any (λ entry. test entry.1) operations ≡ list_any (λ entry. test entry.1) others

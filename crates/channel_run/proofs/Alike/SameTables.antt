@@ -1,4 +1,4 @@
--- Where two views show the same, in any order of names and operations, every table says the same of both. So a run,
+-- If two views show the same, in any order of names and operations, every table says the same of both. So a run,
 -- which is one view, answers what the past that stands for it decides, which is the other.
 use Rattle.std.proofs.Common.{◌≡◌, ℕ, List, Bool, false, not, ◌&&◌, cond, Some, None, Option, refl, ◌∙◌, ap}
 use Rattle.std.specs.List.{list_any}
@@ -159,7 +159,7 @@ module _ {T : Type 0} (view other : View T) (alike : AreAlike view other) where
       && not (is_finished_send operation)) (alike.operations.each op)
   polls_newcomer-reordered step = refl
 
-  -- ---- where each operation stands once
+  -- ---- if each operation stands once
 
   module _ (once : AreDifferent (names_of other.operations)) where
     -- a test of the operations, whichever it is
@@ -223,6 +223,6 @@ module _ {T : Type 0} (kind : Kind) (past : Past T) (run : View T) (step : Step 
   pub refusal_in-StandsFor : refusal_in run step ≡ refusal_of kind past step
   refusal_in-StandsFor = refusal_in-AreAlike run (view_of kind past) stands.shows once step
 
-  -- Where a step may want memory shows too.
+  -- When a step may want memory shows too.
   pub may_want_memory_in-StandsFor : may_want_memory_in run step ≡ may_want_memory kind past step
   may_want_memory_in-StandsFor = may_want_memory_in-AreAlike run (view_of kind past) stands.shows once step

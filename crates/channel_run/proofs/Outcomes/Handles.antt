@@ -49,7 +49,7 @@ closed-by_senders T true name senders receivers some = refl
 closed-by_senders T false name [] receivers some = refl
 closed-by_senders T false name (first ∷ rest) receivers some = sym (some refl)
 
--- And where a sender is there, whether a receiver is.
+-- And if a sender is there, whether a receiver is.
 closed-by_receivers : (T : Type 0) (before : Bool) (name : ℕ) (senders receivers : List ℕ)
     → (before ≡ false → has_none senders ≡ false)
     → (before || has_none receivers) ≡ closed_after {T = T} before (DropReceiver name) senders receivers
@@ -103,7 +103,7 @@ module _ {T : Type 0} (run : View T) (name : ℕ)
   abbrev no_receiver : Bool
   no_receiver = has_none (without name run.receivers)
 
-  -- whom that tells, where the channel is closed or not
+  -- whom that tells, if the channel is closed or not
   abbrev told_by_end : (none_before none_now closed : Bool) → Rosters
   told_by_end none_before none_now closed =
       after_last_receiver none_before none_now

@@ -85,7 +85,7 @@ module _ {T W : Type 0} (poll : OnePoll T W) where
         (ticket poll.was) (had ticket)
         list roster holds
 
-  -- the run fits together where its three lists do
+  -- the run fits together if its three lists do
   pub fits-lists : (sends receives closeds : Waiting W) (a b c : Roster)
       → HoldsAt send_ticket poll.operations sends a → HoldsAt recv_ticket poll.operations receives b
       → HoldsAt closed_ticket poll.operations closeds c

@@ -47,7 +47,7 @@ both_on_wait B C (Err error) one other = tt
 pub is_there : {X : Type 0} (found : Option X) (entry : X) → found ≡ Some entry → IsSome found
 is_there found entry e = rw e refl
 
--- The whole poll: what is done where it is ready, where it waits, and where memory is wanted.
+-- The whole poll: what is done if it is ready, if it waits, and if memory is wanted.
 module _ {T W A : Type 0} (Done : Reply T → Channel T W → Type 0) (wrap : Polled A → Reply T)
     (due : Polled A) (core ready : Channel T W) (Gone Held Wants : Type 0)
     (Waiting : Channel T W → Type 0)

@@ -1,4 +1,4 @@
--- After the poll of a told one no more wait than before, and one fewer where it was ready.
+-- After the poll of a told one no more wait than before, and one fewer if it was ready.
 use Rattle.std.proofs.Common.{◌≡◌, ℕ, ◌+◌, ◌≤◌, ◌⊎◌, inl, inr, Bool, true, false, cond, Some, None, Option, Result, refl, ◌∙◌, ap, arith}
 use Rattle.std.specs.Prelude.{if◌then◌else◌, MatchOption, slice_get}
 use Rattle.futures.specs.declared.task.Poll.{Poll as Answer}
@@ -99,7 +99,7 @@ module _ {T : Type 0} (run : View T) (sound : AreSound run.rosters) where
   polled-stream receiver Pending told = let on = wait-told receiver run.rosters.streams sound.streams told in
       let names = on.names in omega arith
 
--- No more wait after the poll than before, and one fewer where it was ready.
+-- No more wait after the poll than before, and one fewer if it was ready.
 abbrev pub Lowers : {T : Type 0} → View T → Reply T → View T → Type 0
 Lowers before reply after = waiting_in after.rosters + (if is_ready reply then 1 else 0) ≤ waiting_in before.rosters
 

@@ -1,4 +1,4 @@
--- The poll of the first told one makes the past longer by it; where nobody is told the polls have settled.
+-- The poll of the first told one makes the past longer by it; if nobody is told the polls have settled.
 use Rattle.std.proofs.Common.{◌≡◌, ◌∷◌, ◌++◌, None, Some, refl, sym, ◌∙◌, ap, subst, length}
 use Rattle.std.specs.Prelude.{slice_get}
 use Rattle.channel_model.specs.declared.step.Kind.{Kind}

@@ -1,4 +1,4 @@
--- Where a past stands for a run, the past longer by a step stands for what the run shows after it.
+-- If a past stands for a run, the past longer by a step stands for what the run shows after it.
 use Rattle.std.proofs.Common.{◌≡◌, ℕ, ◌<◌, inl, inr, List, [], ◌∷◌, Bool, true, false, not, ◌||◌, cond, Some, None, Ok, Option, refl, sym, ◌∙◌, ap, subst, length, drop, arith}
 use Rattle.std.specs.Prelude.{option_and_then}
 use Rattle.futures.specs.declared.task.Poll.TheVariants.{Ready, Pending}
@@ -108,7 +108,7 @@ operations_after-same operations others step reply once same = same
 
 -- ---- whether it is closed
 
--- where it was open, a receiver is there still
+-- if it was open, a receiver is there still
 receivers_stay : (before : Bool) (receivers : List ℕ) → (before ≡ false → 0 < length receivers)
     → before ≡ (((before || false) || false) || has_none receivers)
 receivers_stay true receivers some = refl

@@ -1,4 +1,4 @@
--- Where a step may want memory: it makes a name, puts a message in, or begins to wait.
+-- When a step may want memory: it makes a name, puts a message in, or begins to wait.
 use Rattle.std.proofs.Common.{◌≡◌, ℕ, Bool, true, false, not, ◌||◌, Some, None, Option, refl, ◌∙◌, ap}
 use Rattle.std.specs.Prelude.{is_some, is_none, ◌&&◌, option_and_then}
 use Rattle.channel_model.specs.declared.step.Refusal.{Refusal}

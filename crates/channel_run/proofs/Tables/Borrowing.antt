@@ -99,7 +99,7 @@ module _ {T : Type 0} (test : Operation T → Bool) where
       go false e later = count-cons entry (set_value (is_at (nat_cmp op)) entries now)
           ∙ ap (λ n. n + one_if (test (operation_shown entry.1))) (later e) ∙ sym (count-cons entry entries)
 
-  -- some operation passes where the number isn't 0
+  -- some operation passes if the number isn't 0
   pub list_any-count : (entries : List (ℕ × Started T))
       → list_any (λ operation. test (operation_shown operation)) (map (λ entry. entry.1) entries)
       ≡ nat_lt 0 (count_of test entries)

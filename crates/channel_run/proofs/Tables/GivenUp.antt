@@ -107,7 +107,7 @@ module _ {T W : Type 0} (kept : Kept T W) (receivers' : List (ℕ × Option ℕ)
       (λ none. false≢true (sym e ∙ eq-eqb kept.core.receivers 1
       (whole.count_receivers ∙ fewer ∙ ap suc (sym (length-map receivers' (λ entry. entry.0)) ∙ none))))
 
-  -- where an open core counts a sender, one has a name
+  -- if an open core counts a sender, one has a name
   has_sender : kept.core.closed ≡ false → has_none kept.senders ≡ false
   has_sender c = has_none-length kept.senders ∙ ne_eqb (length kept.senders) 0
       (λ none. absurd (by_count kept.core.senders (length kept.senders) (other c) whole.count_senders none))

@@ -40,7 +40,7 @@ by_name op name A here elsewhere = go (op == name) refl
     go true e = subst (λ n. A n) (eqb-true op name e) here
     go false e = elsewhere e
 
--- the tickets of a group stay, where the one's does
+-- the tickets of a group stay, if the one's does
 pub same_tickets : {X : Type 0} (ticket : X → Option ℕ) (name : ℕ) (entries entries' : List (ℕ × X)) (now : Option X)
     → Changed name entries entries' now
     → option_and_then ticket now ≡ ticket_at ticket entries name → (other : ℕ)

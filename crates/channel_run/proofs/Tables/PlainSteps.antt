@@ -155,7 +155,7 @@ module _ {T W : Type 0} where
             (fits-closed kept all fits)
             (made-close run side e)
 
-    -- where an open core counts a receiver, one has a name
+    -- if an open core counts a receiver, one has a name
     some_receiver : (kept.core.closed ≡ false → 0 < kept.core.receivers)
         → kept.core.closed ≡ false → has_none (keys_of kept.receivers) ≡ false
     some_receiver other c = has_none-length (keys_of kept.receivers)

@@ -89,7 +89,7 @@ module _ {X : Type 0} (ticket : X → Option ℕ) (key : ℕ) where
 
 -- ---- the first in a waiting list
 
--- The first who was told in this roster, or nothing where nobody is told.
+-- The first who was told in this roster, or nothing if nobody is told.
 pub record IsFirst (roster : Roster) (found : Option ℕ) : Type 0 where
   pub first : found ≡ slice_get (told_names roster) 0
   pub none : found ≡ None → roster.told ≡ 0

@@ -1,4 +1,4 @@
-//! What a line behind the first one asks for, by its verb and the words behind it.
+//! What a line after the first one asks for, by its verb and the words after it.
 ghost use Rattle.std.specs.Prelude.{◌≡◌};
 ghost use Rattle.channel_model.specs.declared.step.Step.{Step};
 ghost use Rattle.chanrun.specs.Grammar.{clone_step, downgrade_step, upgrade_step, drop_step};
@@ -153,7 +153,7 @@ fn send_step(op: Word, sender: Word, message: Word) -> Result<Step<u64>, Fault>
     })
 }
 
-// The command of a verb with these words behind it: each verb has its number of words.
+// The command of a verb with these words after it: each verb has its number of words.
 pub(super) fn command_with(verb: Verb, words: &[Word]) -> Result<Command, Fault>
     ensures { result ≡ command_with verb words.now }
 {

@@ -2,7 +2,7 @@
 use std::error::Error;
 use std::fmt;
 
-/// What is wrong with a line. Where several apply, the first of them is named.
+/// What is wrong with a line. If several apply, the first of them is named.
 ///
 /// # Examples
 ///

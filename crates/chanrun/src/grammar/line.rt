@@ -43,7 +43,7 @@ fn line_end(bytes: &[u8]) -> Option<usize>
     bytes.iter().position(|byte| *byte == b'\n')
 }
 
-/// The first line without its end, and what stands behind it.
+/// The first line without its end, and what stands after it.
 ///
 /// # Examples
 ///
@@ -90,7 +90,7 @@ pub fn lines_of(alloc: Global, bytes: &[u8]) -> Result<Vec<&[u8]>, AllocError>
     Ok(lines)
 }
 
-/// What a line behind the first one asks for, or its first fault.
+/// What a line after the first one asks for, or its first fault.
 ///
 /// # Examples
 ///

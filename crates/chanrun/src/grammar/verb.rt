@@ -2,7 +2,7 @@
 ghost use Rattle.std.specs.Prelude.{◌≡◌};
 ghost use Rattle.chanrun.specs.Grammar.{one_word_verb, two_word_verb, verb_of};
 
-/// The first word of a line behind the first one, by the number of words that stand behind it.
+/// The first word of a line after the first one, by the number of words that stand after it.
 #[derive(Clone, Copy, Debug, PartialEq, Eq)]
 pub enum Verb {
     Settle,
@@ -11,7 +11,7 @@ pub enum Verb {
     Send,
 }
 
-/// A verb with one word behind it.
+/// A verb with one word after it.
 #[derive(Clone, Copy, Debug, PartialEq, Eq)]
 pub enum VerbOnOne {
     TryRecv,
@@ -30,7 +30,7 @@ pub enum VerbOnOne {
     Notice,
 }
 
-/// A verb with two words behind it.
+/// A verb with two words after it.
 #[derive(Clone, Copy, Debug, PartialEq, Eq)]
 pub enum VerbOnTwo {
     TrySend,

@@ -1,4 +1,4 @@
-//! A word behind a command: a number, a name, or neither; and what each place of a command asks
+//! A word after a command: a number, a name, or neither; and what each place of a command asks
 //! for.
 ghost use Rattle.std.specs.Prelude.{◌≡◌, ℕ, ◌∷◌, List, MatchOption, IfOk};
 ghost use Rattle.channel_model.specs.Capacity.{HasPositiveCapacity};
@@ -23,7 +23,7 @@ use channel_model::{Kind, Side, Who};
 /// ```
 pub const CAPACITY_LIMIT: u64 = 1_000_000;
 
-/// A word behind a command. A name is a number behind the letters of its kind.
+/// A word after a command. A name is a number after the letters of its kind.
 #[derive(Clone, Copy, Debug, PartialEq, Eq)]
 pub enum Word {
     Number(u64),
@@ -47,7 +47,7 @@ fn digits_of(word: &[u8]) -> Option<u64>
     Some(number)
 }
 
-// The number behind which one more digit stands.
+// The number after which one more digit stands.
 fn with_digit(number: u64, byte: u8) -> Option<u64>
     ensures { MatchOption result
         ((others : List ℕ) → digits_from number (byte ∷ others) ≡ None)
@@ -71,7 +71,7 @@ fn number_of(word: &[u8]) -> Option<u64>
     }
 }
 
-// The number behind these letters, where the word begins with them.
+// The number after these letters, if the word begins with them.
 fn name_of(letters: &[u8], word: &[u8]) -> Option<u64>
     ensures { result ≡ name_of letters.now word.now }
 {

@@ -23,11 +23,11 @@ pub struct Lines<'a> {
     ghost positive: { HasPositiveCapacity kind },
     /// The line that makes it.
     pub first: &'a [u8],
-    /// The lines behind that one.
+    /// The lines after that one.
     pub others: Vec<&'a [u8]>,
 }
 
-/// A line of a script behind the first one.
+/// A line of a script after the first one.
 ///
 /// # Examples
 ///
@@ -68,7 +68,7 @@ pub struct Script<'a> {
     ghost positive: { HasPositiveCapacity kind },
     /// The line that makes it.
     pub first: &'a [u8],
-    /// The lines behind that one, to the first faulty one.
+    /// The lines after that one, to the first faulty one.
     pub lines: Vec<Line<'a>>,
     /// The number and the fault of that one, if there is one.
     pub fault: Option<(u64, Fault)>,

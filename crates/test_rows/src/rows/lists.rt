@@ -1,4 +1,4 @@
-//! Steps that may be made as one list, and what the run at its end shows: a list ends where a
+//! Steps that may be made as one list, and what the run at its end shows: a list ends when a
 //! notice is asked for.
 use crate::rows::Row;
 

@@ -3,7 +3,7 @@
 //!     cargo run --release [ROUNDS] [WORD..]     only works whose name has one of the words
 //!
 //! Each round runs every work on every peer in turn, so that all share the machine's bad moments.
-//! A ratio below 1 is faster than `async-channel`. Beside the ratio of the medians stands the one of
+//! A ratio below 1 is faster than `async-channel`. After the ratio of the medians stands the one of
 //! the least times, which other work on the machine disturbs less. Works of many threads count on a
 //! quiet machine.
 

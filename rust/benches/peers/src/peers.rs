@@ -40,7 +40,7 @@ pub trait Batches: Many {
         messages.for_each(|message| Self::send(tx, message));
     }
     /// Waits for a message and takes what else there is, `limit` in all. It answers how many came,
-    /// none where none will come.
+    /// none if none will come.
     fn recv_batch(rx: &mut Self::Rx, into: &mut Vec<u64>, limit: usize) -> usize;
 }
 
@@ -53,7 +53,7 @@ impl Batches for Here {
     }
 }
 
-/// A first message, and those behind it.
+/// A first message, and those after it.
 fn taken(
     first: Option<u64>,
     others: impl Iterator<Item = u64>,

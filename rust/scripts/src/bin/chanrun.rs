@@ -107,7 +107,7 @@ fn number(word: Word<'_>) -> Result<u64, Fault> {
         .ok_or(Fault::BadNumber)
 }
 
-/// The number of a name, behind the letters of its kind.
+/// The number of a name, after the letters of its kind.
 fn name(letters: &str, word: Word<'_>) -> Result<u64, Fault> {
     let digits = word.strip_prefix(letters.as_bytes()).ok_or(Fault::BadName)?;
     number(digits).map_err(|_| Fault::BadName)
@@ -170,7 +170,7 @@ fn give_up(word: Word<'_>) -> Result<Step<u64>, Fault> {
         .or_else(|_| op(word).map(Step::DropOp))
 }
 
-/// How many words stand behind a verb.
+/// How many words stand after a verb.
 fn words_behind(verb: &str) -> Option<usize> {
     match verb {
         "settle" => Some(0),
@@ -213,7 +213,7 @@ fn step(verb: &str, words: &[Word<'_>]) -> Result<Step<u64>, Fault> {
     })
 }
 
-/// The first word of a line, and the words behind it.
+/// The first word of a line, and the words after it.
 fn split(line: &[u8]) -> Result<(&str, Vec<Word<'_>>), Fault> {
     if line.len() > LINE_LIMIT {
         return Err(Fault::LineTooLong);
@@ -361,7 +361,7 @@ fn main() -> ExitCode {
     }
     let mut writer = io::BufWriter::new(io::stdout());
     let done = run_script(io::stdin(), &mut writer);
-    // Where the text can't be written, nothing is said of the script.
+    // If the text can't be written, nothing is said of the script.
     let done = writer.flush().map_err(|_| ScriptError::Write).and(done);
     match done {
         Ok(()) => ExitCode::SUCCESS,

@@ -10,12 +10,12 @@
 use std::time::Instant;
 use vamorilesh::run::{Global, Kind, Reply, Run, Side, Step};
 
-/// How many steps are timed together, where they are made beside the names.
+/// How many steps are timed together, if they are made next to the names.
 const STEPS: u64 = 1_000;
 /// How often each is timed: the best time counts.
 const ROUNDS: usize = 5;
 
-/// What one step takes beside this many names, in nanoseconds.
+/// What one step takes next to this many names, in nanoseconds.
 type Measure = fn(u64) -> f64;
 
 /// Makes a step that isn't refused.
@@ -27,7 +27,7 @@ fn new_run() -> Run<u64> {
     Run::new(Global, Kind::Unbounded).expect("a run takes no memory yet")
 }
 
-/// A run with this many senders beside its first.
+/// A run with this many senders besides its first.
 fn with_senders(names: u64) -> Run<u64> {
     let mut run = new_run();
     for new in 1..=names {
@@ -55,7 +55,7 @@ fn copy_senders(names: u64) -> f64 {
     taken
 }
 
-/// Senders are given up, beside the operations of another.
+/// Senders are given up, next to the operations of another.
 fn drop_senders(names: u64) -> f64 {
     let mut run = with_senders(STEPS);
     for op in 0..names {
@@ -68,7 +68,7 @@ fn drop_senders(names: u64) -> f64 {
     each(start, STEPS)
 }
 
-/// The stream of a receiver is polled, beside the receives of another.
+/// The stream of a receiver is polled, next to the receives of another.
 fn poll_stream(names: u64) -> f64 {
     let mut run = with_receives(names);
     make(&mut run, Step::CloneReceiver { of: 0, new: 1 });
@@ -79,7 +79,7 @@ fn poll_stream(names: u64) -> f64 {
     each(start, STEPS)
 }
 
-/// A message goes in and out, beside senders.
+/// A message goes in and out, next to senders.
 fn send_and_receive(names: u64) -> f64 {
     let mut run = with_senders(names);
     let start = Instant::now();

@@ -28,7 +28,7 @@ pub struct Queue<T> {
     store: Store<T>,
 }
 
-/// Takes the oldest message of a queue without a bound. Where it was the last one, more memory than
+/// Takes the oldest message of a queue without a bound. If it was the last one, more memory than
 /// is kept goes back. Nothing is moved for that, and there is as much again only once as many
 /// messages are held.
 #[inline(always)]

@@ -4,13 +4,13 @@
 //! Whoever can't go on leaves an entry in the waiting list of its kind. A step that makes room for
 //! others tells them so, and rings for each with the payload in its entry:
 //!
-//! - where a message was accepted, one receive and all streams;
-//! - where a message was received, one send;
-//! - where the channel was closed, all sends, receives and streams;
-//! - where the last receiver was given up, all closed operations.
+//! - if a message was accepted, one receive and all streams;
+//! - if a message was received, one send;
+//! - if the channel was closed, all sends, receives and streams;
+//! - if the last receiver was given up, all closed operations.
 //!
-//! Why it is enough to tell one: beside a receive that waits and was not told, at least as
-//! many receives are told as messages are held, and beside such a send as many sends as places are
+//! Why it is enough to tell one: if a receive waits and was not told, at least as many receives
+//! are told as messages are held; if such a send waits, as many sends are told as places are
 //! free. An accepted message tells one more. A message that anybody takes lowers the number that is
 //! owed. Who was told and polls takes what it was told of, or finds it taken by somebody else and
 //! goes last, untold. Who was told and is given up hands its notice to the next one. So the
@@ -18,7 +18,7 @@
 //! receiver that never polls its stream again would keep a notice to itself; so a stream that
 //! leaves has none to hand on.
 //!
-//! A poll looks first, and waits only where it can't go on: its own entry leaves before anybody is
+//! A poll looks first, and waits only if it can't go on: its own entry leaves before anybody is
 //! told, so that it never tells itself.
 
 use crate::proved::channel_core::queue::Queue;
@@ -74,7 +74,7 @@ pub struct Core<T, W> {
     lists: WaitLists<W>,
 }
 
-/// Half of what a `usize` can count. Where there are more handles of a kind, no further one is
+/// Half of what a `usize` can count. If there are more handles of a kind, no further one is
 /// made.
 pub const HANDLE_LIMIT: usize = usize::MAX / 2;
 
@@ -180,19 +180,19 @@ impl<T, W> Core<T, W> {
         self.lists.of(g).told()
     }
 
-    /// The key of the first one in the group, where somebody there is told.
+    /// The key of the first one in the group, if somebody there is told.
     #[inline]
     pub fn first_told(&self, g: Group) -> Option<usize> {
         self.lists.of(g).first_told()
     }
 
-    /// Whether the ticket's entry is told, or nothing where it isn't in the group's list.
+    /// Whether the ticket's entry is told, or nothing if it isn't in the group's list.
     #[inline]
     pub fn is_told(&self, g: Group, t: &Ticket) -> Option<bool> {
         self.lists.of(g).is_told(t)
     }
 
-    /// What a waiting operation left to be told by, or nothing where it is told or doesn't wait.
+    /// What a waiting operation left to be told by, or nothing if it is told or doesn't wait.
     #[inline]
     pub fn payload(&self, g: Group, t: &Ticket) -> Option<&W> {
         self.lists.of(g).payload(t)

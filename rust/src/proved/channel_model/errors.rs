@@ -1,5 +1,5 @@
 // Taken out of crates/channel_model/src/errors.rt by tools/erase. Change that file, not this one.
-//! What a call answers where it doesn't do what was asked.
+//! What a call answers if it doesn't do what was asked.
 //!
 //! Nothing has changed after any of these, and a message that was handed in comes back. No text and
 //! no `Debug` asks anything of the message's type.

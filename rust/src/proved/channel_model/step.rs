@@ -56,7 +56,7 @@ pub enum Notice {
     Told,
 }
 
-/// Why a step wasn't made. Where several apply, the first of them is answered.
+/// Why a step wasn't made. If several apply, the first of them is answered.
 #[derive(Clone, Copy, Debug, PartialEq, Eq)]
 pub enum Refusal {
     /// No handle or operation of this name is live.
@@ -79,7 +79,7 @@ pub enum Refusal {
 pub enum Step<T> {
     /// A sender sends a message, if the channel is open and not full.
     TrySend(u64, T),
-    /// A sender sends a message, and where the channel is full displaces the oldest one.
+    /// A sender sends a message, and if the channel is full displaces the oldest one.
     ForceSend(u64, T),
     /// A receiver takes the oldest message, if there is one.
     TryRecv(u64),
@@ -129,14 +129,14 @@ pub enum Step<T> {
     StartSend { op: u64, sender: u64, msg: T },
     /// A receive begins, which borrows the receiver. It is no poll.
     StartRecv { op: u64, receiver: u64 },
-    /// A closed operation begins, which borrows the sender, and is ready where no receiver is live.
+    /// A closed operation begins, which borrows the sender, and is ready if no receiver is live.
     /// It is no poll.
     StartClosed { op: u64, sender: u64 },
     /// An operation is polled: it is done, or it waits.
     Poll(u64),
     /// A receiver's stream is polled for its next message.
     PollNext(u64),
-    /// An operation is given up. Where it was a told send or receive, another one is told in its
+    /// An operation is given up. If it was a told send or receive, another one is told in its
     /// place.
     DropOp(u64),
 }

@@ -1,14 +1,14 @@
 // Taken out of crates/channel_run/src/run.rt by tools/erase. Change that file, not this one.
 //! A channel with named handles and operations, and lists of steps by any parties.
 //!
-//! A run is a core, and beside it what the core doesn't know: which names are live, which operation
+//! A run is a core, and what the core doesn't know: which names are live, which operation
 //! borrows which handle, and by which ticket it waits. [`Run::step`] finds the method of its step.
 //! Those methods stand by topic in the modules below: `messages`, `questions`, `handles` and
 //! `operations`; `batches` has many messages in one step, and `told` what settling needs. Each goes like this:
 //!
 //! 1. It refuses what it must, and the first that applies is the answer: a name that isn't live,
 //!    one that is taken, a handle that is borrowed, a handle too many. A message comes back.
-//! 2. It takes room for a name that it makes. Where memory is refused the core hasn't been touched,
+//! 2. It takes room for a name that it makes. If memory is refused the core hasn't been touched,
 //!    so that nothing has to be undone.
 //! 3. It makes the step on the core. Nobody sleeps here, so its bell does nothing.
 //! 4. It writes down what became of the names, the operation and its ticket.
@@ -58,7 +58,7 @@ pub struct Run<T> {
 impl<T> Run<T> {
     /// A run of a new channel.
     ///
-    /// A bounded channel's capacity has to be positive. Where memory is refused there is no run.
+    /// A bounded channel's capacity has to be positive. If memory is refused there is no run.
     #[inline]
     pub fn new(alloc: Global, kind: Kind) -> Result<Run<T>, OutOfMemory> {
         let core = match kind {

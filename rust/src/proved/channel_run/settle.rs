@@ -15,7 +15,7 @@ pub struct Settled<T> {
 }
 
 impl<T> Run<T> {
-    /// Makes one poll of settling, of who was told first, and answers whose it was. Where nobody
+    /// Makes one poll of settling, of who was told first, and answers whose it was. If nobody
     /// was told it does nothing.
     #[inline]
     pub fn poll_first_told(&mut self) -> Option<(Who, Reply<T>)> {
@@ -27,9 +27,9 @@ impl<T> Run<T> {
     /// Polls those who were told, one after the other, until nobody is told. Then nobody waits who
     /// could go on.
     ///
-    /// Each time it polls the first told receive; where none is told, the first told stream, then
-    /// send, then closed operation. A told stream is polled also where a live receive borrows its
-    /// receiver. Where `w` wait, it takes `w * (w + 1) / 2` polls at the most.
+    /// Each time it polls the first told receive; if none is told, the first told stream, then
+    /// send, then closed operation. A told stream is polled also if a live receive borrows its
+    /// receiver. If `w` wait, it takes `w * (w + 1) / 2` polls at the most.
     ///
     /// Memory has to be had before the first poll alone, for as many replies as there are waiting
     /// entries. A settling of several polls asks for more later on, which only speeds it up and may

@@ -15,7 +15,7 @@ pub(super) fn has_key(ticket: &Option<Ticket>, key: usize) -> bool {
     }
 }
 
-/// The name of the operation that waits in the group by a ticket of this key. It is looked up where
+/// The name of the operation that waits in the group by a ticket of this key. It is looked up if
 /// the guess is right, and else walked for.
 #[inline]
 pub(super) fn operation_with<T>(
@@ -49,7 +49,7 @@ fn waits_with<T>(
     }
 }
 
-/// The name of the receiver whose stream waits by a ticket of this key. It is looked up where the
+/// The name of the receiver whose stream waits by a ticket of this key. It is looked up if the
 /// guess is right, and else walked for.
 #[inline]
 pub(super) fn receiver_with(

@@ -6,7 +6,7 @@ use crate::shim::Slab;
 use crate::shim::Global;
 use crate::shim::Ledger;
 
-/// Whether an entry is told, and its payload where it isn't.
+/// Whether an entry is told, and its payload if it isn't.
 pub enum EntryState<W> {
     /// The bell was rung with the payload.
     Told,
@@ -90,7 +90,7 @@ impl<W> Entries<W> {
         self.slab.try_remove(key)
     }
 
-    /// Gives an entry another neighbour behind, where there is an entry.
+    /// Gives an entry another neighbour behind, if there is an entry.
     #[inline]
     pub fn set_behind<L: Ledger>(
         &mut self,
@@ -107,7 +107,7 @@ impl<W> Entries<W> {
         }
     }
 
-    /// Gives an entry another neighbour before, where there is an entry.
+    /// Gives an entry another neighbour before, if there is an entry.
     #[inline]
     pub fn set_before<L: Ledger>(
         &mut self,
@@ -137,7 +137,7 @@ impl<W> Entries<W> {
         std::mem::replace(&mut entry.notice, EntryState::Untold(payload)).into_payload()
     }
 
-    /// Tells an entry. The answer is its payload, where it was untold, and its neighbour
+    /// Tells an entry. The answer is its payload, if it was untold, and its neighbour
     /// behind.
     #[inline]
     pub fn tell<L: Ledger>(

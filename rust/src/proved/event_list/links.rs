@@ -5,7 +5,7 @@
 //! `cursor` is the first behind them: to tell one is to tell the entry at the cursor and to move
 //! the cursor to its neighbour behind. An entry leaves by letting its neighbours name one another,
 //! and an end or the cursor that named it names its neighbour. Who waits again leaves and comes
-//! last where it was told, and stays where it is otherwise. So no call walks along the list.
+//! last if it was told, and stays where it is otherwise. So no call walks along the list.
 //!
 //! Each look-up is counted on the ledger that a call is handed. No other can be opened here, and no
 //! entry is reached without one: see `steps`.
@@ -130,7 +130,7 @@ impl<W> Links<W> {
         Some(entry)
     }
 
-    /// The entry leaves, and where it was told, one is told in its place. The answer is the payload
+    /// The entry leaves, and if it was told, one is told in its place. The answer is the payload
     /// of one that was untold. At most 12 look-ups.
     #[inline]
     pub(super) fn withdraw<B: Bell<W>, L: Ledger>(
@@ -146,13 +146,13 @@ impl<W> Links<W> {
         entry.into_payload()
     }
 
-    /// Whether the ticket's entry is told, or nothing where it isn't in the list. One look-up.
+    /// Whether the ticket's entry is told, or nothing if it isn't in the list. One look-up.
     #[inline]
     pub(super) fn is_told<L: Ledger>(&self, t: &Ticket, lookups: &mut Lookups<L>) -> Option<bool> {
         self.entries.is_told(t.key, lookups)
     }
 
-    /// The payload of the ticket's entry, where it is untold. One look-up.
+    /// The payload of the ticket's entry, if it is untold. One look-up.
     #[inline]
     pub(super) fn payload<L: Ledger>(&self, t: &Ticket, lookups: &mut Lookups<L>) -> Option<&W> {
         self.entries.payload(t.key, lookups)
@@ -176,7 +176,7 @@ impl<W> Links<W> {
         self.told
     }
 
-    /// The key of the first entry, where somebody is told.
+    /// The key of the first entry, if somebody is told.
     #[inline]
     pub(super) fn first_told(&self) -> Option<usize> {
         if self.told == 0 {

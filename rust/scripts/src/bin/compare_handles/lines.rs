@@ -9,7 +9,7 @@ use vamorilesh::{TryRecvError, TrySendError, ROUND_LIMIT};
 
 /// One call, by the names of its handles and operations.
 ///
-/// A receive of many puts its messages behind those that are `before` in its list.
+/// A receive of many puts its messages after those that are `before` in its list.
 #[derive(Clone, Debug)]
 pub enum Line {
     /// A single step.

@@ -9,7 +9,7 @@ use vamorilesh::run::{Global, Kind, Notice, Reply, Run, Step, Who};
 use crate::batches::Batch;
 use crate::lines::{Answer, Line};
 
-/// A run, and beside it one that makes each batch in single steps, so that it shows in which order
+/// A run, and one that makes each batch in single steps, so that it shows in which order
 /// a batch tells.
 pub struct Runs {
     pub(crate) kind: Kind,

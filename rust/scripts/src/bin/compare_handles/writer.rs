@@ -282,7 +282,7 @@ impl Writer {
         }))
     }
 
-    /// Gives up a handle, the last one of a side only where the channel may be closed.
+    /// Gives up a handle, the last one of a side only if the channel may be closed.
     fn drop(&mut self, live: &Handles) -> Option<Line> {
         let is_kept = |count| count == 1 && !self.closes;
         let kept = [live.senders.len(), live.receivers.len()].map(is_kept);

@@ -5,7 +5,7 @@ use crate::proved::channel_core::state::{Core, HANDLE_LIMIT, Upgrade, shut};
 use crate::proved::channel_core::waiting::leave;
 use crate::proved::event_list::{Bell, Ticket};
 
-// Counts one more copy of a handle, where there is one and there may be one more.
+// Counts one more copy of a handle, if there is one and there may be one more.
 #[inline]
 fn add_handle(count: &mut usize) -> bool {
     if *count == 0 || *count > HANDLE_LIMIT {
@@ -43,13 +43,13 @@ impl<T, W> Core<T, W> {
         add_handle(&mut self.receivers)
     }
 
-    /// Counts one more sender, made of a weak one, where the channel is open.
+    /// Counts one more sender, made of a weak one, if the channel is open.
     #[inline]
     pub fn upgrade_sender(&mut self) -> Upgrade {
         upgrade_handle(self.closed, &mut self.senders)
     }
 
-    /// Counts one more receiver, made of a weak one, where the channel is open.
+    /// Counts one more receiver, made of a weak one, if the channel is open.
     #[inline]
     pub fn upgrade_receiver(&mut self) -> Upgrade {
         upgrade_handle(self.closed, &mut self.receivers)

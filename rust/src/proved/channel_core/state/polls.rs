@@ -1,5 +1,5 @@
 // Taken out of crates/channel_core/src/state/polls.rt by tools/erase. Change that file, not this one.
-//! The polls of those who may wait, and what they leave where one gives up.
+//! The polls of those who may wait, and what they leave when one gives up.
 
 use crate::proved::channel_core::state::Core;
 use crate::proved::channel_core::waiting::{hand_on, leave, wait};
@@ -12,7 +12,7 @@ impl<T, W> Core<T, W> {
     /// pending.
     ///
     /// A ready poll leaves neither message nor ticket. A pending one leaves the ticket of an
-    /// untold entry that holds `w`. Where memory was refused nothing has changed, the message
+    /// untold entry that holds `w`. If memory was refused nothing has changed, the message
     /// and the ticket neither.
     #[inline(always)]
     pub fn poll_send<B: Bell<W>>(
@@ -27,8 +27,8 @@ impl<T, W> Core<T, W> {
 
     /// `poll_send`, which gives back each payload that isn't in the list after it.
     ///
-    /// `w` is the payload to wait with. It stays where it isn't needed. Without one the poll only
-    /// looks: where it can't go on it is pending, and nothing changes. `back` gets the payload that
+    /// `w` is the payload to wait with. It stays if it isn't needed. Without one the poll only
+    /// looks: if it can't go on it is pending, and nothing changes. `back` gets the payload that
     /// the send's entry held untold, once that has left its list or was replaced, and is none else.
     #[inline(always)]
     pub fn poll_send_with<B: Bell<W>>(
@@ -68,7 +68,7 @@ impl<T, W> Core<T, W> {
     /// Polls a receive, by its ticket.
     ///
     /// A ready poll leaves no ticket. A pending one leaves the ticket of an untold entry that
-    /// holds `w`. Where memory was refused nothing has changed, the ticket neither.
+    /// holds `w`. If memory was refused nothing has changed, the ticket neither.
     #[inline(always)]
     pub fn poll_recv<B: Bell<W>>(
         &mut self,
@@ -81,8 +81,8 @@ impl<T, W> Core<T, W> {
 
     /// `poll_recv`, which gives back each payload that isn't in the list after it.
     ///
-    /// `w` is the payload to wait with. It stays where it isn't needed. Without one the poll only
-    /// looks: where it can't go on it is pending, and nothing changes. `back` gets the payload that
+    /// `w` is the payload to wait with. It stays if it isn't needed. Without one the poll only
+    /// looks: if it can't go on it is pending, and nothing changes. `back` gets the payload that
     /// the receive's entry held untold, once that has left its list or was replaced, and is none
     /// else.
     #[inline(always)]
@@ -110,7 +110,7 @@ impl<T, W> Core<T, W> {
     /// Polls the stream of a receiver, by its ticket.
     ///
     /// A ready poll leaves no ticket. A pending one leaves the ticket of an untold entry that
-    /// holds `w`. Where memory was refused nothing has changed, the ticket neither.
+    /// holds `w`. If memory was refused nothing has changed, the ticket neither.
     #[inline]
     pub fn poll_next<B: Bell<W>>(
         &mut self,
@@ -123,8 +123,8 @@ impl<T, W> Core<T, W> {
 
     /// `poll_next`, which gives back each payload that isn't in the list after it.
     ///
-    /// `w` is the payload to wait with. It stays where it isn't needed. Without one the poll only
-    /// looks: where it can't go on it is pending, and nothing changes. `back` gets the payload that
+    /// `w` is the payload to wait with. It stays if it isn't needed. Without one the poll only
+    /// looks: if it can't go on it is pending, and nothing changes. `back` gets the payload that
     /// the stream's entry held untold, once that has left its list or was replaced, and is none
     /// else.
     #[inline]
@@ -149,10 +149,10 @@ impl<T, W> Core<T, W> {
         Ok(Poll::Pending)
     }
 
-    /// Polls a closed operation, by its ticket. It is ready exactly where no receiver is left.
+    /// Polls a closed operation, by its ticket. It is ready exactly if no receiver is left.
     ///
     /// A ready poll leaves no ticket. A pending one leaves the ticket of an untold entry that
-    /// holds `w`. Where memory was refused nothing has changed, the ticket neither.
+    /// holds `w`. If memory was refused nothing has changed, the ticket neither.
     #[inline]
     pub fn poll_closed(&mut self, t: &mut Option<Ticket>, w: W) -> Result<Poll<()>, OutOfMemory> {
         self.poll_closed_with(t, &mut Some(w), &mut None)
@@ -160,8 +160,8 @@ impl<T, W> Core<T, W> {
 
     /// `poll_closed`, which gives back each payload that isn't in the list after it.
     ///
-    /// `w` is the payload to wait with. It stays where it isn't needed. Without one the poll only
-    /// looks: where it can't go on it is pending, and nothing changes. `back` gets the payload that
+    /// `w` is the payload to wait with. It stays if it isn't needed. Without one the poll only
+    /// looks: if it can't go on it is pending, and nothing changes. `back` gets the payload that
     /// the operation's entry held untold, once that has left its list or was replaced, and is none
     /// else.
     #[inline]
