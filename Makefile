@@ -19,7 +19,7 @@ help:
 	@echo 'make check  proves every crate, lowest first, over what earlier checks kept'
 	@echo 'make facts  writes the tables of crates and contracts from the sources'
 	@echo 'make bench  measures the waiting list, the handles, the parallel map, scripts, runs and orders'
-	@echo '.ci/run     the gate: make test from nothing, and wrong bodies that must be refused'
+	@echo '.ci/run     the gate: make test from nothing, and edits that the prover must refuse'
 
 run:
 	cd crates/trysend && rt run
