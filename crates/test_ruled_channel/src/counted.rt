@@ -17,10 +17,7 @@ fn the_last_sender_closes(rt: HostRuntime) -> Result<(), Fail> {
         Err(TryRecvError::Empty)
     );
     let mut receive = channel.recv_as::<Unruled, Unruled, _>(&rt, other);
-    let Poll::Pending = task.poll(&mut receive) else {
-        assert!(rt; false);
-        return Ok(());
-    };
+    assert!(rt; task.poll(&mut receive).is_pending());
     assert!(rt; channel.drop_sender_as::<Unruled, _>(&rt, p));
     assert!(rt; task.is_woken());
     assert!(rt;
@@ -41,10 +38,7 @@ fn the_last_receiver_closes(rt: HostRuntime) -> Result<(), Fail> {
     let p = &mut pass;
     assert!(rt; channel.add_receiver(&rt, p));
     let mut closed = channel.closed_as(&rt, other);
-    let Poll::Pending = task.poll(&mut closed) else {
-        assert!(rt; false);
-        return Ok(());
-    };
+    assert!(rt; task.poll(&mut closed).is_pending());
     assert!(rt; !channel.drop_receiver_as::<Unruled, _>(&rt, p));
     assert!(rt; !task.is_woken());
     assert!(rt; channel.drop_receiver_as::<Unruled, _>(&rt, p));
@@ -63,10 +57,7 @@ fn a_channel_closed_by_hand_has_its_receivers(rt: HostRuntime) -> Result<(), Fai
     let p = &mut pass;
     assert!(rt; channel.close_as::<Unruled, _>(&rt, p));
     let mut closed = channel.closed_as(&rt, other);
-    let Poll::Pending = task.poll(&mut closed) else {
-        assert!(rt; false);
-        return Ok(());
-    };
+    assert!(rt; task.poll(&mut closed).is_pending());
     assert!(rt; !channel.drop_receiver_as::<Unruled, _>(&rt, p));
     assert!(rt; task.is_woken());
     assert!(rt; matches!(task.poll(&mut closed), Poll::Ready((_, Ok(())))));
@@ -80,14 +71,8 @@ fn a_wait_given_up_leaves_the_others(rt: HostRuntime) -> Result<(), Fail> {
     let (task, next) = (MockTask::new(&rt)?, MockTask::new(&rt)?);
     let mut closed = channel.closed_as(&rt, other);
     let mut behind = channel.closed_as(&rt, last);
-    let Poll::Pending = task.poll(&mut closed) else {
-        assert!(rt; false);
-        return Ok(());
-    };
-    let Poll::Pending = next.poll(&mut behind) else {
-        assert!(rt; false);
-        return Ok(());
-    };
+    assert!(rt; task.poll(&mut closed).is_pending());
+    assert!(rt; next.poll(&mut behind).is_pending());
     assert!(rt; closed.into_pass().is_some());
     assert!(rt; !next.is_woken());
     assert!(rt; channel.drop_receiver_as::<Unruled, _>(&rt, &mut pass));
@@ -120,10 +105,7 @@ fn a_wait_given_up_is_woken_no_more(rt: HostRuntime) -> Result<(), Fail> {
         let (channel, mut pass, other, _) = channel_for_three(rt.alloc())?;
         let task = MockTask::new(&rt)?;
         let mut closed = channel.closed_as(&rt, other);
-        let Poll::Pending = task.poll(&mut closed) else {
-            assert!(rt; false);
-            return Ok(());
-        };
+        assert!(rt; task.poll(&mut closed).is_pending());
         if is_dropped {
             drop(closed);
         } else {
@@ -142,14 +124,8 @@ fn a_wait_polled_again_wakes_nobody(rt: HostRuntime) -> Result<(), Fail> {
     let (channel, _, other, _) = channel_for_three(rt.alloc())?;
     let task = MockTask::new(&rt)?;
     let mut closed = channel.closed_as(&rt, other);
-    let Poll::Pending = task.poll(&mut closed) else {
-        assert!(rt; false);
-        return Ok(());
-    };
-    let Poll::Pending = task.poll(&mut closed) else {
-        assert!(rt; false);
-        return Ok(());
-    };
+    assert!(rt; task.poll(&mut closed).is_pending());
+    assert!(rt; task.poll(&mut closed).is_pending());
     assert!(rt; !task.is_woken());
     Ok(())
 }

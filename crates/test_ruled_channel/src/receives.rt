@@ -25,10 +25,7 @@ fn a_receive_that_waits_is_woken_by_a_message(rt: HostRuntime) -> Result<(), Fai
     let (channel, mut pass, other, _) = channel_for_three(rt.alloc())?;
     let task = MockTask::new(&rt)?;
     let mut receive = channel.recv_as::<Unruled, Unruled, _>(&rt, other);
-    let Poll::Pending = task.poll(&mut receive) else {
-        assert!(rt; false);
-        return Ok(());
-    };
+    assert!(rt; task.poll(&mut receive).is_pending());
     assert!(rt; !task.is_woken());
     let sent = channel.try_send_as::<Unruled, Unruled, _>(&rt, &mut pass, 1);
     assert_eq!(rt; sent, Ok(Ok(())));
@@ -42,10 +39,7 @@ fn a_receive_that_waits_is_woken_by_the_close(rt: HostRuntime) -> Result<(), Fai
     let (channel, mut pass, other, _) = channel_for_three(rt.alloc())?;
     let task = MockTask::new(&rt)?;
     let mut receive = channel.recv_as::<Unruled, Unruled, _>(&rt, other);
-    let Poll::Pending = task.poll(&mut receive) else {
-        assert!(rt; false);
-        return Ok(());
-    };
+    assert!(rt; task.poll(&mut receive).is_pending());
     assert!(rt; channel.close_as::<Unruled, _>(&rt, &mut pass));
     assert!(rt; task.is_woken());
     assert!(rt;
@@ -72,17 +66,11 @@ fn a_receive_woken_in_vain_waits_again(rt: HostRuntime) -> Result<(), Fail> {
     let (channel, mut pass, other, _) = channel_for_three(rt.alloc())?;
     let task = MockTask::new(&rt)?;
     let mut receive = channel.recv_as::<Unruled, Unruled, _>(&rt, other);
-    let Poll::Pending = task.poll(&mut receive) else {
-        assert!(rt; false);
-        return Ok(());
-    };
+    assert!(rt; task.poll(&mut receive).is_pending());
     assert!(rt; !task.is_woken());
     assert!(rt; comes_and_goes(&rt, &channel, &mut pass, 1));
     assert!(rt; task.is_woken());
-    let Poll::Pending = task.poll(&mut receive) else {
-        assert!(rt; false);
-        return Ok(());
-    };
+    assert!(rt; task.poll(&mut receive).is_pending());
     assert!(rt; !task.is_woken());
     assert!(rt; comes_and_goes(&rt, &channel, &mut pass, 2));
     assert!(rt; task.is_woken());
@@ -109,14 +97,8 @@ fn what_a_receive_was_told_of_goes_to_the_next(rt: HostRuntime) -> Result<(), Fa
         let (task, next) = (MockTask::new(&rt)?, MockTask::new(&rt)?);
         let mut receive = channel.recv_as::<Unruled, Unruled, _>(&rt, other);
         let mut behind = channel.recv_as::<Unruled, Unruled, _>(&rt, last);
-        let Poll::Pending = task.poll(&mut receive) else {
-            assert!(rt; false);
-            return Ok(());
-        };
-        let Poll::Pending = next.poll(&mut behind) else {
-            assert!(rt; false);
-            return Ok(());
-        };
+        assert!(rt; task.poll(&mut receive).is_pending());
+        assert!(rt; next.poll(&mut behind).is_pending());
         let sent = channel.try_send_as::<Unruled, Unruled, _>(&rt, &mut pass, 1);
         assert_eq!(rt; sent, Ok(Ok(())));
         assert!(rt; task.is_woken() && !next.is_woken());
@@ -137,14 +119,8 @@ fn a_receive_given_up_untold_leaves_the_message_to_the_next(rt: HostRuntime) -> 
     let (task, next) = (MockTask::new(&rt)?, MockTask::new(&rt)?);
     let mut receive = channel.recv_as::<Unruled, Unruled, _>(&rt, other);
     let mut behind = channel.recv_as::<Unruled, Unruled, _>(&rt, last);
-    let Poll::Pending = task.poll(&mut receive) else {
-        assert!(rt; false);
-        return Ok(());
-    };
-    let Poll::Pending = next.poll(&mut behind) else {
-        assert!(rt; false);
-        return Ok(());
-    };
+    assert!(rt; task.poll(&mut receive).is_pending());
+    assert!(rt; next.poll(&mut behind).is_pending());
     drop(receive);
     assert!(rt; !next.is_woken());
     let sent = channel.try_send_as::<Unruled, Unruled, _>(&rt, &mut pass, 1);
@@ -168,18 +144,9 @@ fn a_receive_polled_again_keeps_its_place(rt: HostRuntime) -> Result<(), Fail> {
     let (task, next) = (MockTask::new(&rt)?, MockTask::new(&rt)?);
     let mut receive = channel.recv_as::<Unruled, Unruled, _>(&rt, other);
     let mut behind = channel.recv_as::<Unruled, Unruled, _>(&rt, last);
-    let Poll::Pending = task.poll(&mut receive) else {
-        assert!(rt; false);
-        return Ok(());
-    };
-    let Poll::Pending = next.poll(&mut behind) else {
-        assert!(rt; false);
-        return Ok(());
-    };
-    let Poll::Pending = task.poll(&mut receive) else {
-        assert!(rt; false);
-        return Ok(());
-    };
+    assert!(rt; task.poll(&mut receive).is_pending());
+    assert!(rt; next.poll(&mut behind).is_pending());
+    assert!(rt; task.poll(&mut receive).is_pending());
     assert!(rt; !task.is_woken());
     let sent = channel.try_send_as::<Unruled, Unruled, _>(&rt, &mut pass, 1);
     assert_eq!(rt; sent, Ok(Ok(())));
@@ -193,21 +160,12 @@ fn a_receive_that_takes_anothers_message_waits_no_more(rt: HostRuntime) -> Resul
     let (task, next) = (MockTask::new(&rt)?, MockTask::new(&rt)?);
     let mut receive = channel.recv_as::<Unruled, Unruled, _>(&rt, other);
     let mut behind = channel.recv_as::<Unruled, Unruled, _>(&rt, last);
-    let Poll::Pending = task.poll(&mut receive) else {
-        assert!(rt; false);
-        return Ok(());
-    };
-    let Poll::Pending = next.poll(&mut behind) else {
-        assert!(rt; false);
-        return Ok(());
-    };
+    assert!(rt; task.poll(&mut receive).is_pending());
+    assert!(rt; next.poll(&mut behind).is_pending());
     let sent = channel.try_send_as::<Unruled, Unruled, _>(&rt, &mut pass, 1);
     assert_eq!(rt; sent, Ok(Ok(())));
     assert!(rt; matches!(next.poll(&mut behind), Poll::Ready((_, Ok(Ok(1))))));
-    let Poll::Pending = task.poll(&mut receive) else {
-        assert!(rt; false);
-        return Ok(());
-    };
+    assert!(rt; task.poll(&mut receive).is_pending());
     let sent = channel.try_send_as::<Unruled, Unruled, _>(&rt, &mut pass, 2);
     assert_eq!(rt; sent, Ok(Ok(())));
     assert!(rt; task.is_woken());

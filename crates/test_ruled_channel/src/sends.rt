@@ -39,10 +39,7 @@ fn a_send_that_waits_is_woken_when_room_comes(rt: HostRuntime) -> Result<(), Fai
     let sent = channel.try_send_as::<Unruled, Unruled, _>(&rt, &mut pass, 1);
     assert_eq!(rt; sent, Ok(Ok(())));
     let mut send = channel.send_as::<Unruled, Unruled, _>(&rt, other, 2);
-    let Poll::Pending = task.poll(&mut send) else {
-        assert!(rt; false);
-        return Ok(());
-    };
+    assert!(rt; task.poll(&mut send).is_pending());
     assert!(rt; !task.is_woken());
     let got = channel.try_recv_as::<Unruled, Unruled, Unruled, _>(&rt, &mut pass);
     assert_eq!(rt; got, Ok(1));
@@ -60,10 +57,7 @@ fn a_send_that_waits_is_woken_by_the_close(rt: HostRuntime) -> Result<(), Fail> 
     let sent = channel.try_send_as::<Unruled, Unruled, _>(&rt, &mut pass, 1);
     assert_eq!(rt; sent, Ok(Ok(())));
     let mut send = channel.send_as::<Unruled, Unruled, _>(&rt, other, 2);
-    let Poll::Pending = task.poll(&mut send) else {
-        assert!(rt; false);
-        return Ok(());
-    };
+    assert!(rt; task.poll(&mut send).is_pending());
     assert!(rt; channel.close_as::<Unruled, _>(&rt, &mut pass));
     assert!(rt; task.is_woken());
     assert!(rt;
@@ -94,14 +88,8 @@ fn what_a_send_was_told_of_goes_to_the_next(rt: HostRuntime) -> Result<(), Fail>
         assert_eq!(rt; sent, Ok(Ok(())));
         let mut send = channel.send_as::<Unruled, Unruled, _>(&rt, other, 2);
         let mut behind = channel.send_as::<Unruled, Unruled, _>(&rt, last, 3);
-        let Poll::Pending = task.poll(&mut send) else {
-            assert!(rt; false);
-            return Ok(());
-        };
-        let Poll::Pending = next.poll(&mut behind) else {
-            assert!(rt; false);
-            return Ok(());
-        };
+        assert!(rt; task.poll(&mut send).is_pending());
+        assert!(rt; next.poll(&mut behind).is_pending());
         let got = channel.try_recv_as::<Unruled, Unruled, Unruled, _>(&rt, &mut pass);
         assert_eq!(rt; got, Ok(1));
         assert!(rt; task.is_woken() && !next.is_woken());
@@ -140,18 +128,9 @@ fn a_send_polled_again_keeps_its_place(rt: HostRuntime) -> Result<(), Fail> {
     assert_eq!(rt; sent, Ok(Ok(())));
     let mut send = channel.send_as::<Unruled, Unruled, _>(&rt, other, 2);
     let mut behind = channel.send_as::<Unruled, Unruled, _>(&rt, last, 3);
-    let Poll::Pending = task.poll(&mut send) else {
-        assert!(rt; false);
-        return Ok(());
-    };
-    let Poll::Pending = next.poll(&mut behind) else {
-        assert!(rt; false);
-        return Ok(());
-    };
-    let Poll::Pending = task.poll(&mut send) else {
-        assert!(rt; false);
-        return Ok(());
-    };
+    assert!(rt; task.poll(&mut send).is_pending());
+    assert!(rt; next.poll(&mut behind).is_pending());
+    assert!(rt; task.poll(&mut send).is_pending());
     assert!(rt; !task.is_woken());
     let got = channel.try_recv_as::<Unruled, Unruled, Unruled, _>(&rt, &mut pass);
     assert_eq!(rt; got, Ok(1));
@@ -167,21 +146,12 @@ fn a_send_that_takes_anothers_room_waits_no_more(rt: HostRuntime) -> Result<(), 
     assert_eq!(rt; sent, Ok(Ok(())));
     let mut send = channel.send_as::<Unruled, Unruled, _>(&rt, other, 2);
     let mut behind = channel.send_as::<Unruled, Unruled, _>(&rt, last, 3);
-    let Poll::Pending = task.poll(&mut send) else {
-        assert!(rt; false);
-        return Ok(());
-    };
-    let Poll::Pending = next.poll(&mut behind) else {
-        assert!(rt; false);
-        return Ok(());
-    };
+    assert!(rt; task.poll(&mut send).is_pending());
+    assert!(rt; next.poll(&mut behind).is_pending());
     let got = channel.try_recv_as::<Unruled, Unruled, Unruled, _>(&rt, &mut pass);
     assert_eq!(rt; got, Ok(1));
     assert!(rt; matches!(next.poll(&mut behind), Poll::Ready((_, Ok(Ok(()))))));
-    let Poll::Pending = task.poll(&mut send) else {
-        assert!(rt; false);
-        return Ok(());
-    };
+    assert!(rt; task.poll(&mut send).is_pending());
     let got = channel.try_recv_as::<Unruled, Unruled, Unruled, _>(&rt, &mut pass);
     assert_eq!(rt; got, Ok(3));
     assert!(rt; task.is_woken());
@@ -196,14 +166,8 @@ fn a_send_given_up_untold_leaves_the_room_to_the_next(rt: HostRuntime) -> Result
     assert_eq!(rt; sent, Ok(Ok(())));
     let mut send = channel.send_as::<Unruled, Unruled, _>(&rt, other, 2);
     let mut behind = channel.send_as::<Unruled, Unruled, _>(&rt, last, 3);
-    let Poll::Pending = task.poll(&mut send) else {
-        assert!(rt; false);
-        return Ok(());
-    };
-    let Poll::Pending = next.poll(&mut behind) else {
-        assert!(rt; false);
-        return Ok(());
-    };
+    assert!(rt; task.poll(&mut send).is_pending());
+    assert!(rt; next.poll(&mut behind).is_pending());
     drop(send);
     assert!(rt; !next.is_woken());
     let got = channel.try_recv_as::<Unruled, Unruled, Unruled, _>(&rt, &mut pass);

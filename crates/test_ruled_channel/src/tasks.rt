@@ -51,10 +51,7 @@ fn a_receive_that_waits_is_woken_by_a_send(rt: HostRuntime) -> Result<(), Fail> 
     let task = MockTask::new(&rt)?;
     let mut sender = hub.sender(&channel);
     let mut receive = hub.receiver(&channel).recv(&rt, &channel);
-    let Poll::Pending = task.poll(&mut receive) else {
-        assert!(rt; false);
-        return Ok(());
-    };
+    assert!(rt; task.poll(&mut receive).is_pending());
     assert!(rt; !task.is_woken());
     assert_eq!(rt; sender.send_blocking(&rt, &channel, 1), Ok(Ok(())));
     assert!(rt; task.is_woken());
@@ -72,14 +69,8 @@ fn a_send_that_is_given_up_gives_both_back(rt: HostRuntime) -> Result<(), Fail> 
     assert_eq!(rt; sender.send_blocking(&rt, &channel, 1), Ok(Ok(())));
     let mut send = sender.send(&rt, &channel, 2);
     let mut behind = hub.sender(&channel).send(&rt, &channel, 3);
-    let Poll::Pending = task.poll(&mut send) else {
-        assert!(rt; false);
-        return Ok(());
-    };
-    let Poll::Pending = other.poll(&mut behind) else {
-        assert!(rt; false);
-        return Ok(());
-    };
+    assert!(rt; task.poll(&mut send).is_pending());
+    assert!(rt; other.poll(&mut behind).is_pending());
     assert!(rt; matches!(send.give_up(), (_, 2)));
     assert!(rt; !other.is_woken());
     let mut receiver = hub.receiver(&channel);
@@ -112,15 +103,9 @@ fn whole_lists_wait_for_one_another(rt: HostRuntime) -> Result<(), Fail> {
     let sender = hub.sender(&channel);
     let mut send = sender.send_each_and_close(&rt, &channel, &[1, 2, 3]);
     let mut collect = hub.receiver(&channel).collect(&rt, rt.alloc(), &channel);
-    let Poll::Pending = task.poll(&mut send) else {
-        assert!(rt; false);
-        return Ok(());
-    };
+    assert!(rt; task.poll(&mut send).is_pending());
     assert!(rt; !task.is_woken());
-    let Poll::Pending = other.poll(&mut collect) else {
-        assert!(rt; false);
-        return Ok(());
-    };
+    assert!(rt; other.poll(&mut collect).is_pending());
     assert!(rt; task.is_woken() && !other.is_woken());
     assert!(rt; matches!(task.poll(&mut send), Poll::Ready((_, 3))));
     assert!(rt; other.is_woken());
@@ -141,14 +126,8 @@ fn whole_lists_that_are_given_up_keep_what_was_done(rt: HostRuntime) -> Result<(
     let sender = hub.sender(&channel);
     let mut send = sender.send_each(&rt, &channel, &[1, 2, 3]);
     let mut collect = hub.receiver(&channel).collect(&rt, rt.alloc(), &channel);
-    let Poll::Pending = task.poll(&mut send) else {
-        assert!(rt; false);
-        return Ok(());
-    };
-    let Poll::Pending = task.poll(&mut collect) else {
-        assert!(rt; false);
-        return Ok(());
-    };
+    assert!(rt; task.poll(&mut send).is_pending());
+    assert!(rt; task.poll(&mut collect).is_pending());
     let (_sender, sent) = send.give_up();
     let (_receiver, all) = collect.give_up();
     assert_eq!(rt; sent, 2);
