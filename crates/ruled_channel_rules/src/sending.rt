@@ -225,16 +225,7 @@ impl<T: Copy + Drop> Sender<T> {
             × (result.messages.now ≡ messages.now) }
         ensures open { result.closes ≡ false }
     {
-        let sender = Snapshot::of(&self);
-        SendEach {
-            rt,
-            channel,
-            messages,
-            sent: 0,
-            closes: false,
-            turn: Turn::Next(self),
-            sender,
-        }
+        self.each(rt, channel, messages, false)
     }
 
     /// As `send_each`, and closes the channel when it is done.
@@ -262,9 +253,34 @@ impl<T: Copy + Drop> Sender<T> {
             × (result.messages.now ≡ messages.now) }
         ensures closes { result.closes ≡ true }
     {
-        let mut each = self.send_each(rt, channel, messages);
-        each.closes = true;
-        each
+        self.each(rt, channel, messages, true)
+    }
+
+    // A send of these messages that closes the channel when it is done, or not.
+    fn each<'r, 'c, 'm, R: Wait>(
+        self,
+        rt: &'r R,
+        channel: &'c Channel<T>,
+        messages: &'m [T],
+        closes: bool,
+    ) -> SendEach<'r, 'c, 'm, T, R>
+        requires own { IsSenderOf channel.now self }
+        ensures may { MaySendEach result.channel.now result.sender.value result.messages.now
+            result.sent result.turn }
+        ensures of { (result.channel.now ≡ channel.now) × (result.sender.value ≡ self)
+            × (result.messages.now ≡ messages.now) }
+        ensures closes { result.closes ≡ closes }
+    {
+        let sender = Snapshot::of(&self);
+        SendEach {
+            rt,
+            channel,
+            messages,
+            sent: 0,
+            closes,
+            turn: Turn::Next(self),
+            sender,
+        }
     }
 }
 
