@@ -1,4 +1,4 @@
-//! A channel of which is proved that all that is sent arrives, in order and once.
+//! Handles of a channel whose contracts say what was received: what was sent, each message once.
 //!
 //! A [`Hub`] makes the senders and the receivers of a [`Channel`], and takes them back. A sender
 //! knows what it has sent, a receiver what it has received. Once all are back, and a receiver found
