@@ -120,10 +120,10 @@ class Eraser:
             return 'pub '
         start, within = self.source.at, self.source.take('crate', 'super').text
         self.source.take(')')
+        if self.path_of() in NAMED:
+            self.source.refuse(f'`pub({within})` in a file of another module', start)
         if within == 'super':
             return 'pub(super) '
-        if self.path_of() in NAMED:
-            self.source.refuse('`pub(crate)` in a file of another module', start)
         ups = ['super'] * len(self.source.module) or ['self']
         return f'pub({"in " * (len(ups) > 1)}{"::".join(ups)}) '
 
@@ -360,6 +360,8 @@ class Eraser:
         """A token, or a path, as it is in Rust."""
         if token.text in GHOST_WORDS | ITEM_WORDS or token.text in {'#', *CLOSING.values()}:
             self.source.refuse(f'`{token.text}` isn\'t known here', token.start)
+        if token.text == 'pub':
+            return self.visibility().rstrip()
         text = self.source.take().text
         if text == '::' and not re.search(r'[\w>]$', before or ''):
             self.source.refuse('a path that begins with `::`', token.start)
@@ -378,7 +380,10 @@ class Eraser:
             return text
         while self.source.take_if('::'):
             text += f'::{self.source.take_word()}'
-        return self.target(text, token.start)
+        target = self.target(text, token.start)
+        if target is None:
+            self.source.refuse(f'only the prover reads `{text}`', token.start)
+        return target
 
     def known_first(self, name, at):
         """Refuses a path that begins neither with a module of the file nor with what it imports."""

@@ -7,8 +7,8 @@ TOKEN = re.compile(
     r"""(?P<space>\s+|//[^\n]*)
       | (?P<literal>b?"(?:\\.|[^"\\\n])*"|b?'(?:\\.|[^'\\\n])'|[0-9]\w*)
       | (?P<lifetime>'[a-z_]\w*)
-      | (?P<word>[A-Za-z_]\w*)
-      | (?P<sign>::|->|=>|\.\.=|\.\.|<=|>=|==|!=|&&|\|\||[-+*/%]=|[][(){}<>;:,.=!?&|+*/%@\#-])""",
+      | (?P<word>[A-Za-z_]\w*\b(?!["']))
+      | (?!/\*)(?P<sign>::|->|=>|\.\.=|\.\.|<=|>=|==|!=|&&|\|\||[-+*/%]=|[][(){}<>;:,.=!?&|+*/%@\#-])""",
     re.VERBOSE | re.ASCII,
 )
 # What a block that only the prover reads is gone through by: if a brace stands in it, it counts.

@@ -9,13 +9,13 @@ use crate::shim::Global;
 /// Who waits for a channel, by what they wait for.
 pub(super) struct WaitLists<W> {
     // Sends, for a place or the close.
-    pub(crate) sends: WaitList<W>,
+    pub(super) sends: WaitList<W>,
     // Receives, for a message or the close.
-    pub(crate) receives: WaitList<W>,
+    pub(super) receives: WaitList<W>,
     // Streams, for a message or the close.
-    pub(crate) streams: WaitList<W>,
+    pub(super) streams: WaitList<W>,
     // Closed operations, for the end of the last receiver.
-    pub(crate) closeds: WaitList<W>,
+    pub(super) closeds: WaitList<W>,
 }
 
 impl<W> WaitLists<W> {

@@ -74,7 +74,7 @@ impl<T> Operation<T> {
 /// The live operations by name, and how many of them borrow each handle.
 pub(super) struct Operations<T> {
     // each with the ticket of its wait; a poll changes an operation, but never what it borrows
-    pub(crate) by_name: BTreeMap<u64, Operation<T>>,
+    pub(super) by_name: BTreeMap<u64, Operation<T>>,
     // how many borrow each sender, and each receiver
     by_sender: Tally,
     by_receiver: Tally,

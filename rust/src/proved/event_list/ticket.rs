@@ -6,7 +6,7 @@
 /// A ticket is neither `Copy` nor `Clone`, so an entry has one owner. To another list it means
 /// nothing, or whichever entry has the same key there.
 pub struct Ticket {
-    pub(crate) key: usize,
+    pub(super) key: usize,
 }
 
 impl Ticket {
