@@ -3,9 +3,11 @@
 mod support;
 
 use std::cell::Cell;
+use std::panic::{catch_unwind, AssertUnwindSafe};
 use std::rc::Rc;
+use std::task::Poll;
 
-use futures_core::stream::FusedStream;
+use futures_core::stream::{FusedStream, Stream};
 use futures_lite::future::block_on;
 use futures_lite::StreamExt;
 use vamorilesh::{bounded, unbounded, RecvError, SendError, TryRecvError, TrySendError};
@@ -64,6 +66,14 @@ fn every_handle_answers_the_questions_alike() {
 #[should_panic(expected = "capacity cannot be zero")]
 fn a_channel_without_room_panics() {
     bounded::<u8>(0);
+}
+
+#[test]
+fn a_channel_with_more_room_than_there_is_memory_panics() {
+    assert!(catch_unwind(|| bounded::<u64>(usize::MAX)).is_err());
+    assert!(catch_unwind(|| bounded::<u64>(usize::MAX / 8)).is_err());
+    let (s, r) = bounded(usize::MAX);
+    assert_eq!((s.try_send(()), s.capacity(), r.is_full()), (Ok(()), Some(usize::MAX), false));
 }
 
 #[test]
@@ -299,6 +309,39 @@ fn nothing_happens_before_the_first_poll() {
     assert_eq!((s.len(), r.is_closed()), (0, false));
     drop((recv, closed));
     assert_eq!((block_on(send), r.len()), (Ok(()), 1));
+}
+
+#[test]
+fn a_send_that_has_finished_is_not_polled_again() {
+    let (s, r) = bounded(1);
+    for answer in [Ok(()), Err(SendError(1))] {
+        let mut send = support::Task::new(s.send(1));
+        assert_eq!(send.poll(), Poll::Ready(answer));
+        assert!(catch_unwind(AssertUnwindSafe(|| send.poll().is_ready())).is_err());
+        assert_eq!((r.len(), r.close()), (1, answer.is_ok()));
+    }
+}
+
+#[test]
+fn a_receive_that_has_finished_may_begin_anew() {
+    let (s, r) = unbounded();
+    let mut receive = support::Task::new(r.recv());
+    for message in 0..3 {
+        assert!(receive.poll().is_pending());
+        assert_eq!((s.try_send(message), receive.woken()), (Ok(()), 1 + message));
+        assert_eq!(receive.poll(), Poll::Ready(Ok(message)));
+    }
+    drop(s);
+    assert_eq!([receive.poll(), receive.poll()], [Poll::Ready(Err(RecvError)); 2]);
+}
+
+#[test]
+fn a_stream_promises_no_message() {
+    let (s, r) = unbounded();
+    for message in 0..3 {
+        assert_eq!((r.size_hint(), s.try_send(message)), ((0, None), Ok(())));
+    }
+    assert_eq!((s.close(), r.size_hint()), (true, (0, None)));
 }
 
 #[test]

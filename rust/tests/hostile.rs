@@ -5,13 +5,14 @@ mod support;
 
 use std::cell::{Cell, RefCell};
 use std::future::Future;
-use std::panic::{catch_unwind, AssertUnwindSafe};
+use std::panic::{self, catch_unwind, AssertUnwindSafe};
 use std::pin::Pin;
 use std::ptr;
 use std::sync::atomic::{AtomicUsize, Ordering};
 use std::sync::Arc;
 use std::task::{Context, Poll, RawWaker, RawWakerVTable, Wake, Waker};
 use std::thread;
+use std::time::Duration;
 
 use futures_core::Stream;
 use futures_lite::StreamExt;
@@ -117,6 +118,43 @@ fn a_waker_that_panics_leaves_nobody_asleep() {
     assert_eq!((log.take(), s.is_closed()), (vec![1, 2, 4], true));
 }
 
+/// A waker that says its name in its panic when it is woken.
+struct Says(&'static str);
+
+impl Wake for Says {
+    fn wake(self: Arc<Self>) {
+        panic::panic_any(self.0);
+    }
+}
+
+#[test]
+fn the_first_panic_goes_on_and_every_waker_is_dropped() {
+    let (s, r) = unbounded::<u64>();
+    let tasks = [Arc::new(Says("first")), Arc::new(Says("second"))];
+    let mut receives = tasks.clone().map(|task| (Box::pin(r.recv()), Waker::from(task)));
+    for (receive, waker) in &mut receives {
+        assert!(support::poll_with(receive, waker).is_pending());
+    }
+    let panic = catch_unwind(AssertUnwindSafe(|| s.close())).unwrap_err();
+    assert_eq!(panic.downcast_ref(), Some(&"first"));
+    drop(receives);
+    assert_eq!(tasks.map(|task| Arc::strong_count(&task)), [1, 1]);
+}
+
+#[test]
+fn every_waker_is_dropped_once_it_was_woken() {
+    let (s, r) = unbounded::<u64>();
+    let tasks = [(); 3].map(|()| support::Count::new());
+    let mut receives = tasks.clone().map(|task| (Box::pin(r.recv()), Waker::from(task)));
+    for (receive, waker) in &mut receives {
+        assert!(support::poll_with(receive, waker).is_pending());
+    }
+    assert_eq!(s.try_send(1), Ok(()));
+    assert_eq!(tasks.clone().map(|task| Arc::strong_count(&task)), [3, 4, 4]);
+    s.close();
+    assert_eq!(tasks.map(|task| (task.woken(), Arc::strong_count(&task))), [(1, 2); 3]);
+}
+
 #[test]
 fn a_receiver_is_given_up_also_where_its_streams_waker_panics() {
     for others in [0, 1] {
@@ -147,6 +185,39 @@ impl Drop for Caller {
 thread_local! {
     /// A wait that is given up when its thread ends.
     static LAST: RefCell<Option<Pin<Box<dyn Future<Output = ()>>>>> = const { RefCell::new(None) };
+}
+
+/// What receives a message when it is dropped, and sends it on.
+struct Late(Receiver<u64>, Sender<u64>);
+
+impl Drop for Late {
+    fn drop(&mut self) {
+        let message = self.0.recv_blocking().unwrap();
+        assert_eq!(self.1.send_blocking(message), Ok(()));
+    }
+}
+
+thread_local! {
+    /// What a thread does at its very end.
+    static LATE: RefCell<Option<Late>> = const { RefCell::new(None) };
+}
+
+#[test]
+fn a_thread_that_ends_may_block() {
+    let ((s, r), (back_s, back_r)) = (unbounded(), unbounded());
+    let ends = thread::spawn(move || {
+        // What a thread asks for first it gives up last: after whatever blocking needs.
+        LATE.with(|late| late.replace(None));
+        assert_eq!(back_s.send_blocking(r.recv_blocking().unwrap()), Ok(()));
+        LATE.with(|late| late.replace(Some(Late(r, back_s))));
+    });
+    for message in 0..2 {
+        // So that the thread waits most likely; what it answers doesn't depend on it.
+        thread::sleep(Duration::from_millis(20));
+        assert_eq!(s.send_blocking(message), Ok(()));
+        assert_eq!(back_r.recv_blocking(), Ok(message));
+    }
+    ends.join().unwrap();
 }
 
 #[test]

@@ -395,6 +395,41 @@ fn a_round_of_a_send_of_many_ends_before_its_wakers_are_woken() {
     assert!(r.try_iter().eq((0..ROUND_LIMIT).chain([usize::MAX, ROUND_LIMIT, ROUND_LIMIT + 1])));
 }
 
+/// A waker that closes the channel when it is woken.
+struct Closes(Sender<usize>);
+
+impl Wake for Closes {
+    fn wake(self: Arc<Self>) {
+        self.0.close();
+    }
+}
+
+/// Calls with a channel that is closed by whom the first round wakes.
+fn closed_after_a_round(call: impl FnOnce(&Sender<usize>)) {
+    let (s, r) = unbounded();
+    let mut receive = Box::pin(r.recv());
+    assert!(poll_with(&mut receive, &Waker::from(Arc::new(Closes(s.clone())))).is_pending());
+    call(&s);
+    assert!(s.is_closed() && r.try_iter().eq(0..ROUND_LIMIT));
+}
+
+#[test]
+fn a_batch_that_is_cut_short_by_a_close_says_what_went_in() {
+    let (all, rest) = (numbers(ROUND_LIMIT + 2), VecDeque::from([ROUND_LIMIT, ROUND_LIMIT + 1]));
+    closed_after_a_round(|s| {
+        let mut from = all.clone();
+        assert_eq!((s.try_send_many(&mut from), &from), (Ok(ROUND_LIMIT), &rest));
+    });
+    closed_after_a_round(|s| {
+        let mut send = s.send_many(all.clone());
+        assert_eq!(block_on(&mut send), Err(SendError(rest.clone())));
+        assert_eq!(send.sent(), ROUND_LIMIT);
+    });
+    closed_after_a_round(|s| {
+        assert_eq!(s.send_many_blocking(all.clone()), Err(SendError(rest.clone())));
+    });
+}
+
 /// A waker that takes a message when it is woken.
 struct Takes(Receiver<usize>, AtomicUsize);
 
@@ -553,6 +588,53 @@ fn handles_and_lists_may_be_used_while_a_pending_operation_is_in_scope() {
     assert_eq!((into, r.try_recv()), (vec![1, 2], Ok(1)));
 }
 
+/// Messages of which the third one can't be made.
+fn fails_at_the_third(kept: &Arc<()>) -> impl Iterator<Item = Arc<()>> + '_ {
+    (0..9).map(|number| {
+        assert!(number < 2, "no message");
+        kept.clone()
+    })
+}
+
+#[test]
+fn a_list_of_messages_that_panics_sends_none() {
+    let (kept, (s, r)) = (Arc::new(()), unbounded());
+    for one_at_most in [false, true] {
+        let messages = || {
+            let hint = if one_at_most { Some(1) } else { None };
+            Hinted(fails_at_the_third(&kept), hint)
+        };
+        assert!(catch_unwind(AssertUnwindSafe(|| drop(s.send_many(messages())))).is_err());
+        assert!(catch_unwind(AssertUnwindSafe(|| s.send_many_blocking(messages()))).is_err());
+        assert_eq!((Arc::strong_count(&kept), r.len(), s.try_send(kept.clone())), (1, 0, Ok(())));
+        assert!(r.try_recv().is_ok());
+    }
+}
+
+/// Messages that say how many they are at the most.
+struct Hinted<I>(I, Option<usize>);
+
+impl<I: Iterator> Iterator for Hinted<I> {
+    type Item = I::Item;
+
+    fn next(&mut self) -> Option<I::Item> {
+        self.0.next()
+    }
+
+    fn size_hint(&self) -> (usize, Option<usize>) {
+        (0, self.1)
+    }
+}
+
+#[test]
+fn an_iterator_promises_no_message() {
+    let (s, r) = unbounded();
+    for count in [0, 1, 3] {
+        s.try_send_many(&mut numbers(count)).unwrap();
+        assert_eq!(r.try_iter().size_hint(), (0, None));
+    }
+}
+
 #[test]
 fn traits_and_texts() {
     fn can_all<T: Send + Sync + Unpin>(_: &T) {}
@@ -564,4 +646,6 @@ fn traits_and_texts() {
     can_all(&iter);
     let texts = format!("{send:?} {receive:?} {iter:?}");
     assert_eq!(texts, "SendMany { .. } RecvMany { .. } TryIter { .. }");
+    assert_eq!(format!("{send:#?} {receive:#?} {iter:#?}"), texts);
+    assert_eq!(format!("{send:>30?} {receive:>30?} {iter:>30?}"), texts);
 }

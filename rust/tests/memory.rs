@@ -67,6 +67,34 @@ fn an_idle_channel_takes_little() {
 }
 
 #[test]
+fn a_bounded_channel_takes_the_memory_of_its_messages_at_once() {
+    const MESSAGES: usize = 100_000;
+    let before = taken().0;
+    let (s, r) = bounded(MESSAGES);
+    let made = taken();
+    assert!(made.0 - before >= 8 * MESSAGES as isize);
+    (0..MESSAGES as u64).for_each(|message| s.try_send(message).unwrap());
+    assert!((0..MESSAGES as u64).all(|message| s.force_send(0) == Ok(Some(message))));
+    assert_eq!(taken(), made);
+    drop((s, r));
+    assert_eq!(taken().0, before);
+}
+
+#[test]
+fn a_channel_gives_all_its_memory_back() {
+    let before = taken().0;
+    for (s, r) in [bounded(2), unbounded()] {
+        let (ws, wr) = (s.downgrade().clone(), r.downgrade().clone());
+        drop((ws.upgrade().unwrap(), wr.upgrade().unwrap(), s.clone(), r.clone()));
+        (0..2).for_each(|message| s.try_send(Box::new(message)).unwrap());
+        assert!(s.close() && ws.upgrade().is_none() && wr.upgrade().is_none());
+        drop((s, r));
+        assert!(ws.upgrade().is_none() && wr.upgrade().is_none());
+    }
+    assert_eq!(taken().0, before);
+}
+
+#[test]
 fn a_drained_queue_keeps_a_few_kilobytes() {
     const MESSAGES: u64 = 1_000_000;
     let (s, r) = unbounded();

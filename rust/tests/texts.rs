@@ -33,7 +33,17 @@ fn errors() {
 fn texts_are_the_same_whatever_the_format_asks_for() {
     assert_eq!(format!("{:#?}", SendError(1)), "SendError(..)");
     assert_eq!(format!("{:>20?}", TrySendError::Full(1)), "Full(..)");
-    assert_eq!(format!("{:#?}", bounded::<Silent>(1).0), "Sender { .. }");
+    let (s, r) = bounded::<Silent>(1);
+    let (ws, wr) = (s.downgrade(), r.downgrade());
+    let handles = "Sender { .. } Receiver { .. } WeakSender { .. } WeakReceiver { .. }";
+    assert_eq!(format!("{s:#?} {r:#?} {ws:#?} {wr:#?}"), handles);
+    assert_eq!(format!("{s:>30?} {r:>30?} {ws:>30?} {wr:>30?}"), handles);
+    let operations = (s.send(Silent), r.recv(), s.closed());
+    let (send, recv, closed) = &operations;
+    let names = "Send { .. } Recv { .. } Closed { .. }";
+    assert_eq!(format!("{send:?} {recv:?} {closed:?}"), names);
+    assert_eq!(format!("{send:#?} {recv:#?} {closed:#?}"), names);
+    assert_eq!(format!("{send:>30?} {recv:>30?} {closed:>30?}"), names);
 }
 
 #[test]

@@ -334,3 +334,49 @@ fn force_send_keeps_the_newest() {
     assert_eq!((s.len(), displaced.into_inner()), (4, SIDE * EACH - 4));
     assert!((0..4).all(|_| r.try_recv().is_ok()));
 }
+
+/// Returns once the thread of this name sleeps and goes on doing so. It fails if the thread works for
+/// half a second.
+#[cfg(target_os = "linux")]
+fn await_sleep(thread: &std::path::Path) {
+    let sleeps = || {
+        let stat = std::fs::read_to_string(thread.join("stat")).unwrap();
+        // Behind its name, which is in brackets, stand its state and, later, its hundredths of a
+        // second.
+        let parts: Vec<_> = stat.rsplit(") ").next().unwrap().split(' ').collect();
+        let times = parts[11..13].iter().map(|time| time.parse::<u64>().unwrap());
+        assert!(times.sum::<u64>() < 50, "it doesn't sleep");
+        parts[0] == "S"
+    };
+    while !(0..50).all(|_| sleeps()) {
+        let_others_run();
+    }
+}
+
+#[cfg(target_os = "linux")]
+#[test]
+fn threads_that_wait_sleep() {
+    let full = || {
+        let (s, r) = bounded(1);
+        s.try_send(0).unwrap();
+        (s, r)
+    };
+    let waits: [fn(Sender<usize>, Receiver<usize>); 4] = [
+        |_, r| assert_eq!(r.recv_blocking(), Err(RecvError)),
+        |_, r| assert_eq!(r.recv_many_blocking(&mut Vec::new(), 2), 0),
+        |s, _| assert_eq!(s.send_blocking(1), Err(SendError(1))),
+        |s, _| assert_eq!(s.send_many_blocking([1, 2]), Err(SendError([1, 2].into()))),
+    ];
+    for (number, wait) in waits.into_iter().enumerate() {
+        let (s, r) = if number < 2 { bounded(1) } else { full() };
+        let (tell, told) = std::sync::mpsc::channel();
+        let (other, other_r) = (s.clone(), r.clone());
+        let waiting = thread::spawn(move || {
+            tell.send(std::fs::read_link("/proc/thread-self").unwrap()).unwrap();
+            wait(other, other_r);
+        });
+        await_sleep(&std::path::Path::new("/proc").join(told.recv().unwrap()));
+        s.close();
+        waiting.join().unwrap();
+    }
+}

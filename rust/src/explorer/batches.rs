@@ -2,11 +2,13 @@
 
 use super::tests::{checked, nothing, poll, THREE, TWO};
 use super::{explore, locks_held, Body};
-use crate::{bounded, unbounded, SendError, Sender, ROUND_LIMIT};
+use crate::blocking::block_on;
+use crate::{bounded, unbounded, Receiver, SendError, Sender, ROUND_LIMIT};
 use std::collections::{BTreeSet, VecDeque};
 use std::future::Future;
 use std::pin::Pin;
 use std::sync::mpsc;
+use std::task::Context;
 
 /// Keeps a handle to the end of a run, so that nothing is closed before.
 fn kept<H: Send + 'static>(handle: H) -> Body {
@@ -102,9 +104,11 @@ fn all_told(threads: impl Fn(mpsc::Sender<usize>) -> (Vec<Body>, Body)) -> BTree
     told.into_iter().collect()
 }
 
+/// A message that is in no batch.
+const OTHER: usize = usize::MAX;
+
 #[test]
 fn others_send_between_two_rounds_of_a_batch_alone() {
-    const OTHER: usize = usize::MAX;
     let found = all_told(|tell| {
         let (s, r) = unbounded();
         let other = s.clone();
@@ -133,6 +137,91 @@ fn others_receive_between_two_rounds_of_a_batch_alone() {
         (threads![receive, move || tell.send(other.try_recv().unwrap()).unwrap()], kept(s))
     });
     assert!(found.into_iter().eq([0, ROUND_LIMIT, ROUND_LIMIT + 1]));
+}
+
+#[test]
+fn no_message_comes_between_those_of_a_round() {
+    let sends: [fn(Sender<usize>); 3] = [
+        |s| assert_eq!(s.try_send_many(&mut (0..3).collect()), Ok(3)),
+        |s| assert_eq!(s.send_many_blocking(0..3), Ok(())),
+        |s| assert_eq!(block_on(s.send_many(0..3)), Ok(())),
+    ];
+    for send in sends {
+        let found = all_told(|tell| {
+            let (s, r) = unbounded();
+            let other = s.clone();
+            let after = move || {
+                let place = r.try_iter().position(|message| message == OTHER);
+                tell.send(place.unwrap()).unwrap();
+            };
+            let send_other = move || other.try_send(OTHER).unwrap();
+            (threads![move || send(s), send_other], Box::new(after))
+        });
+        assert!(found.into_iter().eq([0, 3]));
+    }
+}
+
+#[test]
+fn no_receive_comes_between_the_messages_of_a_round() {
+    let receives: [fn(Receiver<usize>); 3] = [
+        |r| assert!(r.try_recv_many(&mut Vec::new(), 3).is_ok()),
+        |r| assert!(r.recv_many_blocking(&mut Vec::new(), 3) > 0),
+        |r| assert!(block_on(r.recv_many(&mut Vec::new(), 3)) > 0),
+    ];
+    for receive in receives {
+        let found = all_told(|tell| {
+            let (s, r) = unbounded();
+            assert_eq!(s.try_send_many(&mut (0..3).collect()), Ok(3));
+            let other = r.clone();
+            let take = move || tell.send(other.try_recv().unwrap_or(3)).unwrap();
+            (threads![move || receive(r), take], kept(s))
+        });
+        assert!(found.into_iter().eq([0, 3]));
+    }
+}
+
+/// A batch that waits, and is given up after its next poll.
+type Waits = Pin<Box<dyn Future<Output = ()> + Send>>;
+
+fn poll_again(mut wait: Waits) {
+    let _ = wait.as_mut().poll(&mut Context::from_waker(&checked()));
+}
+
+#[test]
+fn no_message_comes_between_those_of_a_batch_that_waited() {
+    let found = all_told(|tell| {
+        let (s, r) = bounded(2);
+        assert_eq!(s.try_send_many(&mut [7, 7].into()), Ok(2));
+        let other = s.clone();
+        let mut wait: Waits = Box::pin(async move { s.send_many([0, 1]).await.unwrap() });
+        poll(&mut wait, &checked());
+        assert_eq!(r.try_recv_many(&mut Vec::new(), 2), Ok(2));
+        let after = move || {
+            let place = r.try_iter().position(|message| message == OTHER);
+            tell.send(place.unwrap_or(2)).unwrap();
+        };
+        let send_other = move || {
+            let _ = other.try_send(OTHER);
+        };
+        (threads![move || poll_again(wait), send_other], Box::new(after))
+    });
+    assert!(found.into_iter().eq([0, 2]));
+}
+
+#[test]
+fn no_receive_comes_between_the_messages_of_a_batch_that_waited() {
+    let found = all_told(|tell| {
+        let (s, r) = unbounded();
+        let other = r.clone();
+        let mut wait: Waits = Box::pin(async move {
+            r.recv_many(&mut Vec::new(), 2).await;
+        });
+        poll(&mut wait, &checked());
+        assert_eq!(s.try_send_many(&mut (0..2).collect()), Ok(2));
+        let take = move || tell.send(other.try_recv().unwrap_or(2)).unwrap();
+        (threads![move || poll_again(wait), take], kept(s))
+    });
+    assert!(found.into_iter().eq([0, 2]));
 }
 
 #[test]

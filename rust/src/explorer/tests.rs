@@ -4,7 +4,7 @@ use super::{explore, locks_held, Body};
 use crate::blocking::block_on;
 use crate::proved::channel_core::HANDLE_LIMIT;
 use crate::{bounded, unbounded, Receiver, RecvError, Sender, TryRecvError};
-use futures_core::FusedStream;
+use futures_core::{FusedStream, Stream};
 use std::future::{poll_fn, Future};
 use std::panic::{catch_unwind, AssertUnwindSafe};
 use std::pin::Pin;
@@ -305,6 +305,62 @@ fn wakers_are_woken_and_dropped_without_the_lock() {
             let _ = s.try_send(1);
         };
         (threads![send, wait], nothing())
+    });
+}
+
+/// Polls a future that waits with one waker after the other, and gives it up.
+fn wait_and_give_up<F: Future>(future: F) {
+    let mut future = Box::pin(future);
+    poll(&mut future, &checked());
+    poll(&mut future, &checked());
+}
+
+#[test]
+fn each_operation_gives_its_wakers_back_without_the_lock() {
+    let (s, r) = bounded(1);
+    wait_and_give_up(r.recv());
+    wait_and_give_up(r.recv_many(&mut Vec::new(), 2));
+    let mut stream = r.clone();
+    wait_and_give_up(poll_fn(|context| Pin::new(&mut stream).poll_next(context)));
+    drop(stream);
+    wait_and_give_up(s.closed());
+    s.try_send(1).unwrap();
+    wait_and_give_up(s.send(2));
+    wait_and_give_up(s.send_many([2, 3]));
+}
+
+#[test]
+fn no_copy_of_a_waker_is_left_after_its_wait() {
+    explore(TWO, || {
+        let (s, r) = unbounded();
+        let task = Arc::new(Checked);
+        let waker = Waker::from(task.clone());
+        let wait = move || {
+            let _ = Pin::new(&mut r.recv()).poll(&mut Context::from_waker(&waker));
+        };
+        let send = move || {
+            // The receiver may be gone by now.
+            let _ = s.try_send(1);
+        };
+        (threads![send, wait], Box::new(move || assert_eq!(Arc::strong_count(&task), 1)))
+    });
+}
+
+#[test]
+fn a_stream_beside_a_send_that_another_receive_takes() {
+    explore(THREE, || {
+        let (s, mut r) = unbounded();
+        let (other, end) = (r.clone(), s.clone());
+        let next = move || {
+            let next = poll_fn(|context| Pin::new(&mut r).poll_next(context));
+            assert!(block_on(next).is_some());
+        };
+        let take = move || {
+            if other.try_recv().is_ok() {
+                end.try_send(2).unwrap();
+            }
+        };
+        (threads![move || s.try_send(1).unwrap(), take, next], nothing())
     });
 }
 
