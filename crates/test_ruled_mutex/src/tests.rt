@@ -5,11 +5,13 @@ ghost use Rattle.ruled_mutex.specs.Passes.{IsPassOf};
 use crate::tally::{Counter, add_apart, add_in_pair, count};
 use ruled_mutex::{Pass, RuledMutex, Unruled};
 use std::alloc::AllocError;
+use std::rt::Clock;
 use std::sync::Wait;
 use std::sync::atomic::{AtomicU64, Ordering};
 use std::test::*;
 use std::thread::{Threads, join};
-use std::{mem, thread};
+use std::time::{CpuClock, Duration};
+use std::{io, mem, thread};
 
 const EACH: u64 = 20_000;
 
@@ -147,5 +149,47 @@ fn whoever_sleeps_is_woken(rt: HostRuntime) -> Result<(), Fail> {
         mutex.with_as::<Unruled, _, _, _>(&rt, &mut pass, |value| *value),
         2 * ROUNDS
     );
+    Ok(())
+}
+
+// How many milliseconds a thread waits for the lock.
+const HELD: u64 = 200;
+
+// More milliseconds of processor time than it needs to look for a while and to go to sleep.
+const LITTLE: u64 = 10;
+
+// Holds the lock for so long.
+fn hold<R: Wait + Clock>(rt: &R, mutex: &Mutex, is_held: &AtomicU64) {
+    let mut pass = mutex.pass();
+    let held = mutex.lock(rt, &mut pass);
+    is_held.fetch_add(1, Ordering::SeqCst);
+    thread::sleep(rt, Duration::from_millis(HELD));
+    mutex.unlock_as::<Unruled>(&mut pass, held);
+}
+
+// Waits for the lock, and answers how much processor time that took.
+fn wait<R>(rt: &R, mutex: &Mutex, is_held: &AtomicU64) -> io::Result<Duration>
+where
+    R: Wait + CpuClock,
+{
+    let mut pass = mutex.pass();
+    while_below(rt, is_held, 1);
+    let before = rt.thread_cpu_time()?;
+    mutex.with_as::<Unruled, _, _, _>(rt, &mut pass, |_| ());
+    Ok(rt.thread_cpu_time()?.saturating_sub(before))
+}
+
+#[test]
+fn whoever_waits_sleeps(rt: HostRuntime) -> Result<(), Fail> {
+    let Ok((mutex, _)) = Mutex::new(rt.alloc(), 0) else {
+        return Err(AllocError.into());
+    };
+    let is_held = AtomicU64::new(0);
+    let ((), used) = join(
+        &rt,
+        || hold(&rt, &mutex, &is_held),
+        || wait(&rt, &mutex, &is_held),
+    );
+    assert!(rt; used? < Duration::from_millis(LITTLE));
     Ok(())
 }
