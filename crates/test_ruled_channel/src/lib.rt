@@ -13,6 +13,8 @@ mod rules;
 #[cfg(test)]
 mod sends;
 #[cfg(test)]
+mod sleeps;
+#[cfg(test)]
 mod tasks;
 #[cfg(test)]
 mod tests;

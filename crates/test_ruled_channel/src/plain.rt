@@ -432,3 +432,62 @@ pub fn converse<R: Threads + Wait + Sync>(
     );
     back
 }
+
+/// More than 16 bits can count.
+pub const MANY: u32 = 100_000;
+
+/// Counts so many senders and receivers more, and answers whether each was counted.
+pub fn count_more<R: Wait>(rt: &R, channel: &Channel, pass: &mut Pass) -> bool
+    requires { IsPassOf channel.now pass.old }
+    ensures { IsPassOf channel.now pass.new }
+{
+    for _ in 0..MANY {
+        if !channel.add_sender(rt, pass) || !channel.add_receiver(rt, pass) {
+            return false;
+        }
+    }
+    true
+}
+
+/// Gives up so many senders and receivers, and answers whether one of them was the last one.
+pub fn has_last<R: Wait>(rt: &R, channel: &Channel, pass: &mut Pass) -> bool
+    requires { IsPassOf channel.now pass.old }
+    ensures { IsPassOf channel.now pass.new }
+{
+    for _ in 0..MANY {
+        if channel.drop_sender_as::<Unruled, _>(rt, pass)
+            || channel.drop_receiver_as::<Unruled, _>(rt, pass)
+        {
+            return true;
+        }
+    }
+    false
+}
+
+/// Tries to send the numbers from 1, so many, and answers whether all went in.
+pub fn try_send_many<R: Wait>(rt: &R, channel: &Channel, pass: &mut Pass) -> bool
+    requires { IsPassOf channel.now pass.old }
+    ensures { IsPassOf channel.now pass.new }
+{
+    for number in 1..=MANY {
+        let sent = channel.try_send_as::<Unruled, Unruled, _>(rt, pass, number);
+        if sent != Ok(Ok(())) {
+            return false;
+        }
+    }
+    true
+}
+
+/// Forces the numbers from 1 in, so many, and answers whether all went in beside what was there.
+pub fn force_many<R: Wait>(rt: &R, channel: &Channel, pass: &mut Pass) -> bool
+    requires { IsPassOf channel.now pass.old }
+    ensures { IsPassOf channel.now pass.new }
+{
+    for number in 1..=MANY {
+        let forced = channel.force_send_as::<Unruled, Unruled, _>(rt, pass, number);
+        if forced != Ok(Ok(None)) {
+            return false;
+        }
+    }
+    true
+}

@@ -185,3 +185,53 @@ fn a_ready_receive_leaves_no_waker(rt: HostRuntime) -> Result<(), Fail> {
     assert!(rt; !task.is_woken());
     Ok(())
 }
+
+#[test]
+fn a_receive_polled_again_and_given_up_leaves_the_message(rt: HostRuntime) -> Result<(), Fail> {
+    for is_dropped in [false, true] {
+        let (channel, mut pass, other, last) = channel_for_three(rt.alloc())?;
+        let (task, next) = (MockTask::new(&rt)?, MockTask::new(&rt)?);
+        let mut receive = channel.recv_as::<Unruled, Unruled, _>(&rt, other);
+        let mut behind = channel.recv_as::<Unruled, Unruled, _>(&rt, last);
+        assert!(rt; task.poll(&mut receive).is_pending());
+        assert!(rt; task.poll(&mut receive).is_pending());
+        assert!(rt; next.poll(&mut behind).is_pending());
+        if is_dropped {
+            drop(receive);
+        } else {
+            assert!(rt; receive.into_pass().is_some());
+        }
+        let sent = channel.try_send_as::<Unruled, Unruled, _>(&rt, &mut pass, 1);
+        assert_eq!(rt; sent, Ok(Ok(())));
+        assert!(rt; next.is_woken());
+    }
+    Ok(())
+}
+
+#[test]
+fn a_receive_that_takes_its_message_wakes_nobody(rt: HostRuntime) -> Result<(), Fail> {
+    let (channel, mut pass, other, last) = channel_for_three(rt.alloc())?;
+    let (task, next) = (MockTask::new(&rt)?, MockTask::new(&rt)?);
+    let mut receive = channel.recv_as::<Unruled, Unruled, _>(&rt, other);
+    let mut behind = channel.recv_as::<Unruled, Unruled, _>(&rt, last);
+    assert!(rt; task.poll(&mut receive).is_pending());
+    assert!(rt; next.poll(&mut behind).is_pending());
+    let sent = channel.try_send_as::<Unruled, Unruled, _>(&rt, &mut pass, 1);
+    assert_eq!(rt; sent, Ok(Ok(())));
+    assert!(rt; matches!(task.poll(&mut receive), Poll::Ready((_, Ok(Ok(1))))));
+    assert!(rt; !next.is_woken());
+    Ok(())
+}
+
+#[test]
+fn a_close_wakes_each_receive(rt: HostRuntime) -> Result<(), Fail> {
+    let (channel, mut pass, other, last) = channel_for_three(rt.alloc())?;
+    let (task, next) = (MockTask::new(&rt)?, MockTask::new(&rt)?);
+    let mut receive = channel.recv_as::<Unruled, Unruled, _>(&rt, other);
+    let mut behind = channel.recv_as::<Unruled, Unruled, _>(&rt, last);
+    assert!(rt; task.poll(&mut receive).is_pending());
+    assert!(rt; next.poll(&mut behind).is_pending());
+    assert!(rt; channel.close_as::<Unruled, _>(&rt, &mut pass));
+    assert!(rt; task.is_woken() && next.is_woken());
+    Ok(())
+}

@@ -187,3 +187,59 @@ fn a_ready_send_leaves_no_waker(rt: HostRuntime) -> Result<(), Fail> {
     assert!(rt; !task.is_woken());
     Ok(())
 }
+
+#[test]
+fn a_send_polled_again_and_given_up_leaves_the_room(rt: HostRuntime) -> Result<(), Fail> {
+    for is_dropped in [false, true] {
+        let (channel, mut pass, other, last) = channel_for_three(rt.alloc())?;
+        let (task, next) = (MockTask::new(&rt)?, MockTask::new(&rt)?);
+        let sent = channel.try_send_as::<Unruled, Unruled, _>(&rt, &mut pass, 1);
+        assert_eq!(rt; sent, Ok(Ok(())));
+        let mut send = channel.send_as::<Unruled, Unruled, _>(&rt, other, 2);
+        let mut behind = channel.send_as::<Unruled, Unruled, _>(&rt, last, 3);
+        assert!(rt; task.poll(&mut send).is_pending());
+        assert!(rt; task.poll(&mut send).is_pending());
+        assert!(rt; next.poll(&mut behind).is_pending());
+        if is_dropped {
+            drop(send);
+        } else {
+            assert!(rt; send.into_parts().is_some());
+        }
+        let got = channel.try_recv_as::<Unruled, Unruled, Unruled, _>(&rt, &mut pass);
+        assert_eq!(rt; got, Ok(1));
+        assert!(rt; next.is_woken());
+    }
+    Ok(())
+}
+
+#[test]
+fn a_send_that_takes_its_room_wakes_nobody(rt: HostRuntime) -> Result<(), Fail> {
+    let (channel, mut pass, other, last) = channel_for_three(rt.alloc())?;
+    let (task, next) = (MockTask::new(&rt)?, MockTask::new(&rt)?);
+    let sent = channel.try_send_as::<Unruled, Unruled, _>(&rt, &mut pass, 1);
+    assert_eq!(rt; sent, Ok(Ok(())));
+    let mut send = channel.send_as::<Unruled, Unruled, _>(&rt, other, 2);
+    let mut behind = channel.send_as::<Unruled, Unruled, _>(&rt, last, 3);
+    assert!(rt; task.poll(&mut send).is_pending());
+    assert!(rt; next.poll(&mut behind).is_pending());
+    let got = channel.try_recv_as::<Unruled, Unruled, Unruled, _>(&rt, &mut pass);
+    assert_eq!(rt; got, Ok(1));
+    assert!(rt; matches!(task.poll(&mut send), Poll::Ready((_, Ok(Ok(()))))));
+    assert!(rt; !next.is_woken());
+    Ok(())
+}
+
+#[test]
+fn a_close_wakes_each_send(rt: HostRuntime) -> Result<(), Fail> {
+    let (channel, mut pass, other, last) = channel_for_three(rt.alloc())?;
+    let (task, next) = (MockTask::new(&rt)?, MockTask::new(&rt)?);
+    let sent = channel.try_send_as::<Unruled, Unruled, _>(&rt, &mut pass, 1);
+    assert_eq!(rt; sent, Ok(Ok(())));
+    let mut send = channel.send_as::<Unruled, Unruled, _>(&rt, other, 2);
+    let mut behind = channel.send_as::<Unruled, Unruled, _>(&rt, last, 3);
+    assert!(rt; task.poll(&mut send).is_pending());
+    assert!(rt; next.poll(&mut behind).is_pending());
+    assert!(rt; channel.close_as::<Unruled, _>(&rt, &mut pass));
+    assert!(rt; task.is_woken() && next.is_woken());
+    Ok(())
+}

@@ -1,5 +1,7 @@
 //! What each call answers under the rule that asks nothing, and that whoever sleeps is woken.
-use crate::plain::{Halves, close_a_full_one, converse, relay, two_and_two};
+use crate::plain::{
+    Halves, close_a_full_one, converse, force_many, relay, try_send_many, two_and_two,
+};
 use ruled_channel::{
     RecvError, SendError, TryRecvError, TrySendError, Unruled, bounded_with, unbounded_with,
 };
@@ -189,5 +191,32 @@ fn forced_sends_and_plain_ones_wake_a_receiver(rt: HostRuntime) -> Result<(), Fa
         converse(&rt, &questions, &answers, asks, replies, 1000),
         1000
     );
+    Ok(())
+}
+
+#[test]
+fn two_hundred_thousand_messages_fit(rt: HostRuntime) -> Result<(), Fail> {
+    let Ok((channel, mut pass)) = bounded_with::<u32, (), Unruled>(rt.alloc(), 200_000) else {
+        return Err(AllocError.into());
+    };
+    let p = &mut pass;
+    assert_eq!(rt; channel.capacity(), Some(200_000));
+    assert!(rt; try_send_many(&rt, &channel, p));
+    assert!(rt; force_many(&rt, &channel, p));
+    let refused = channel.try_send_as::<Unruled, Unruled, _>(&rt, p, 7);
+    assert_eq!(rt; refused, Ok(Err(TrySendError::Full(7))));
+    let forced = channel.force_send_as::<Unruled, Unruled, _>(&rt, p, 7);
+    assert_eq!(rt; forced, Ok(Ok(Some(1))));
+    Ok(())
+}
+
+#[test]
+fn two_hundred_thousand_messages_need_no_bound(rt: HostRuntime) -> Result<(), Fail> {
+    let Ok((channel, mut pass)) = unbounded_with::<u32, (), Unruled>(rt.alloc()) else {
+        return Err(AllocError.into());
+    };
+    let p = &mut pass;
+    assert!(rt; force_many(&rt, &channel, p));
+    assert!(rt; try_send_many(&rt, &channel, p));
     Ok(())
 }
