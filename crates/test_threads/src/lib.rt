@@ -2,6 +2,10 @@
 #![tactic(auto)]
 
 #[cfg(test)]
+mod books;
+#[cfg(test)]
+mod gates;
+#[cfg(test)]
 mod maps;
 #[cfg(test)]
 mod names;

@@ -101,6 +101,15 @@ fn no_stamp_for_a_map(rt: HostRuntime) -> Result<(), Fail> {
 }
 
 #[test]
+fn two_stamps_are_enough_for_a_map(rt: HostRuntime) -> Result<(), Fail> {
+    let mut maker = StampMaker::starting_at(u64::MAX - 1);
+    let answers = map_all(&rt, rt.alloc(), &Square, &Open, &[5, 6], 1, 1, &mut maker)?;
+    assert_eq!(rt; answers.as_slice(), [25, 36].as_slice());
+    assert!(rt; maker.draw().is_none());
+    Ok(())
+}
+
+#[test]
 fn no_inputs_ask_for_nothing(rt: HostRuntime) -> Result<(), Fail> {
     let mut maker = StampMaker::starting_at(u64::MAX);
     let inputs: [u64; 0] = [];
@@ -266,7 +275,7 @@ fn a_chunk_has_8192_inputs_at_most(rt: HostRuntime) -> Result<(), Fail> {
 #[test]
 fn places_that_no_memory_has(rt: HostRuntime) -> Result<(), Fail> {
     let most = usize::MAX;
-    let mut maker = StampMaker::new();
+    let mut maker = StampMaker::starting_at(u64::MAX);
     let got = map_all(
         &rt,
         rt.alloc(),
@@ -278,6 +287,7 @@ fn places_that_no_memory_has(rt: HostRuntime) -> Result<(), Fail> {
         &mut maker,
     );
     assert!(rt; matches!(&got, Err(MapError::OutOfMemory)));
+    assert!(rt; maker.draw().is_some());
     Ok(())
 }
 

@@ -93,6 +93,30 @@ fn the_first_fault_is_named(rt: HostRuntime) -> Result<(), Fail> {
 }
 
 #[test]
+fn few_pieces_are_gathered(rt: HostRuntime) -> Result<(), Fail> {
+    let (a, most) = (rt.alloc(), usize::MAX);
+    gathers(&rt, a, &[5], &[(0, 5)], Ok(&[25]))?;
+    gathers(&rt, a, &[5, 6], &[(0, 5), (1, 6)], Ok(&[25, 36]))?;
+    gathers(&rt, a, &[5], &[], Err(MapError::Missing(0)))?;
+    gathers(
+        &rt,
+        a,
+        &[5, 6, 7],
+        &[(0, 5), (1, 6)],
+        Err(MapError::Missing(2)),
+    )?;
+    gathers(&rt, a, &[5], &[(0, 5), (0, 5)], Err(MapError::Doubled(0)))?;
+    gathers(
+        &rt,
+        a,
+        &[5],
+        &[(0, 5), (most, 5)],
+        Err(MapError::Stranger(most)),
+    )?;
+    Ok(())
+}
+
+#[test]
 fn a_piece_shows_what_it_is_of(rt: HostRuntime) {
     let piece = Piece::make(&Square, 4, &6);
     assert_eq!(rt; (piece.place(), *piece.input()), (4, 6));

@@ -38,7 +38,7 @@ fn answer<T: Copy + Exact>(
 }
 
 /// So many clerks of the recorder.
-fn clerks_of<T: Copy + Exact>(
+pub fn clerks_of<T: Copy + Exact>(
     rt: &impl Wait,
     alloc: Global,
     recorder: &Recorder<T>,
@@ -52,7 +52,7 @@ fn clerks_of<T: Copy + Exact>(
 }
 
 /// Makes each call by the clerk of that number, and looks at what comes of it.
-fn make<R: Wait + Abort>(
+pub fn make<R: Wait + Abort>(
     rt: &R,
     recorder: &Recorder<u64>,
     clerks: &mut [Clerk<u64>],

@@ -47,6 +47,15 @@ fn a_hundred_thousand_pieces(rt: HostRuntime) -> Result<(), Fail> {
     Ok(())
 }
 
+#[test]
+fn a_hundred_thousand_places_at_once(rt: HostRuntime) -> Result<(), Fail> {
+    let (a, inputs) = (rt.alloc(), [5, 6, 7]);
+    let mut maker = StampMaker::new();
+    let answers = map_all(&rt, a, &Square, &Open, &inputs, 2, 100_000, &mut maker)?;
+    are_squares(&rt, &inputs, answers.as_slice());
+    Ok(())
+}
+
 /// Waits until so many workers are there, or it has looked that often.
 #[derive(Drop)]
 struct All {
