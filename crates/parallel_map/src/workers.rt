@@ -7,7 +7,7 @@
 //! joins every worker that was started, whatever was refused meanwhile. Both channels are under the
 //! rule that what is received is what is sent. So once all ends are back the caller has the chunks
 //! of all answers, each once.
-ghost use Rattle.std.specs.Prelude.{◌≡◌, ◌+◌, ◌^◌, ◌<◌, ◌⊎◌, [], All, length, take, drop, map, vec_len, IsTrue, IfOk, IfErr, OnErr, Err, IsPermutation};
+ghost use Rattle.std.specs.Prelude.{◌≡◌, ◌+◌, ◌^◌, ◌<◌, ◌⊎◌, [], All, length, take, drop, map, vec_len, true, false, IsTrue, IfOk, IfErr, OnErr, Err, IsPermutation};
 ghost use Rattle.ruled_channel_rules.specs.Handles.{IsSenderOf, IsReceiverOf, sent_by, got_by, has_ended, sender_closed, receiver_closed, known};
 ghost use Rattle.ruled_channel_rules.specs.Whole.{hub_log, together, sender_log, receiver_log};
 ghost use Rattle.parallel_map.specs.Chunks.{chunk_at, AreStartsOf, AreAllChunksOf};
@@ -87,7 +87,8 @@ fn answer<A, B: Drop, J: Job<A, B>, G: Gate>(
     Chunk::make(task.alloc, task.job, task.gate, from, part)
 }
 
-// Works at chunks until no more places come. It answers false if memory was refused.
+// Works at chunks until no more places come. It answers false if memory was refused: then the
+// channel of places is closed, so that nobody waits to send the next one.
 fn work<A, B, J, G, R>(rt: &R, task: &Task<'_, A, B, J, G>, mut ends: Ends<B>) -> Worked<B>
 where
     B: Drop,
@@ -99,6 +100,7 @@ where
     ensures own { AreEndsOf task.now.places task.now.chunks result.0.places result.0.chunks }
     ensures done { IsTrue result.1 → AreDone (map J.answer task.now.inputs.now) task.now.size
         result.0.places result.0.chunks }
+    ensures gave_up { result.1 ≡ false → receiver_closed result.0.places ≡ true }
 {
     for _ in rt.forever() {
         match ends.places.recv_blocking(rt, &task.places) {
@@ -253,6 +255,7 @@ fn feed<A, B: Drop, J, G, R: Wait>(
     ensures own { IsSenderOf task.now.places feeder.new }
     ensures all { IsTrue result
         → AreStartsOf task.now.inputs.now task.now.size (sent_by feeder.new) }
+    ensures closed { sender_closed feeder.new ≡ true }
 {
     if !are_started {
         feeder.close(rt, &task.places);
