@@ -109,6 +109,19 @@ fn what_is_there_one_by_one(rt: HostRuntime) -> Result<(), Fail> {
     Ok(())
 }
 
+#[test]
+fn what_comes_later_one_by_one(rt: HostRuntime) -> Result<(), Fail> {
+    let (s, r) = channel(&rt, rt.alloc(), None)?;
+    let mut messages = r.try_iter();
+    for message in 0..3usize {
+        assert_eq!(rt; messages.next(), None);
+        assert_eq!(rt; s.try_send(message), Ok(Ok(())));
+        assert_eq!(rt; messages.next(), Some(message));
+    }
+    assert!(rt; !r.is_closed());
+    Ok(())
+}
+
 /// Sends the numbers from the first up to the last by a call that blocks, and looks at the answer
 /// and at how many are left.
 fn send_blocking<R: Wait + Clone + Drop + Abort>(
@@ -155,6 +168,7 @@ fn blocking_batches(rt: HostRuntime) -> Result<(), Fail> {
     receive_blocking(&rt, alloc, &r, 2, 0, Ok(2));
     assert!(rt; s.close());
     send_blocking(&rt, alloc, &s, [3, 5], (Err(SendError(())), 2))?;
+    send_blocking(&rt, alloc, &s, [5, 5], (Ok(()), 0))?;
     receive_blocking(&rt, alloc, &r, 2, 2, Ok(1));
     receive_blocking(&rt, alloc, &r, 2, 0, Err(RecvError));
     receive_blocking(&rt, alloc, &r, 0, 0, Ok(0));

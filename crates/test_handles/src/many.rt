@@ -179,6 +179,81 @@ fn a_send_of_many_at_a_closed_channel(rt: HostRuntime) -> Result<(), Fail> {
 }
 
 #[test]
+fn a_task_that_takes_a_receive_of_many_over_is_woken(rt: HostRuntime) -> Result<(), Fail> {
+    let (first, second) = (MockTask::new(&rt)?, MockTask::new(&rt)?);
+    let (s, r) = channel(&rt, rt.alloc(), None).expect(&rt, "a channel");
+    let mut into = Vec::new(rt.alloc());
+    let mut recv = r.recv_many(&mut into, 5);
+    assert!(rt; is_pending(&first, &mut recv));
+    assert!(rt; is_pending(&second, &mut recv));
+    assert!(rt; !second.is_woken());
+    send(&rt, rt.alloc(), &s, 1)?;
+    assert!(rt; second.is_woken());
+    Ok(())
+}
+
+#[test]
+fn a_task_that_takes_a_send_of_many_over_is_woken(rt: HostRuntime) -> Result<(), Fail> {
+    let (first, second) = (MockTask::new(&rt)?, MockTask::new(&rt)?);
+    let (s, r) = channel(&rt, rt.alloc(), Some(1)).expect(&rt, "a channel");
+    let mut send = s.send_many(numbers(rt.alloc(), 2)?);
+    assert!(rt; is_pending(&first, &mut send));
+    assert!(rt; is_pending(&second, &mut send));
+    assert!(rt; !second.is_woken());
+    assert_eq!(rt; r.try_recv(), Ok(0));
+    assert!(rt; second.is_woken());
+    Ok(())
+}
+
+#[test]
+fn operations_that_are_not_polled_change_nothing(rt: HostRuntime) -> Result<(), Fail> {
+    let alloc = rt.alloc();
+    let (s, r) = channel(&rt, alloc, Some(3)).expect(&rt, "a channel");
+    send(&rt, alloc, &s, 1)?;
+    let mut into = Vec::new(alloc);
+    drop((s.send(5), s.send_many(numbers(alloc, 2)?), s.closed()));
+    drop((r.recv(), r.recv_many(&mut into, 1)));
+    assert_eq!(rt; s.send(5).into_msg(), Some(5));
+    assert_eq!(rt; s.send_many(numbers(alloc, 2)?).into_unsent().len(), 2);
+    assert!(rt; into.is_empty() && !s.is_closed());
+    assert_eq!(rt; (s.len(), r.try_recv()), (1, Ok(0)));
+    Ok(())
+}
+
+#[test]
+fn operations_that_have_nothing_to_do_change_nothing(rt: HostRuntime) -> Result<(), Fail> {
+    let (task, alloc) = (MockTask::new(&rt)?, rt.alloc());
+    let (s, r) = channel(&rt, alloc, Some(3)).expect(&rt, "a channel");
+    let mut into = Vec::new(alloc);
+    let mut none = s.send_many(numbers(alloc, 0)?);
+    for _ in 0..2 {
+        assert!(rt; matches!(&ready(&task, &mut none), Some(Ok(Ok(())))));
+        assert_eq!(rt; ready(&task, &mut r.recv_many(&mut into, 0)), Some(Ok(0)));
+    }
+    drop(none);
+    assert!(rt; into.is_empty() && !s.is_closed() && s.is_empty());
+    Ok(())
+}
+
+#[test]
+fn operations_that_are_done_leave_the_channel_open(rt: HostRuntime) -> Result<(), Fail> {
+    let (task, alloc) = (MockTask::new(&rt)?, rt.alloc());
+    let (s, r) = channel(&rt, alloc, Some(3)).expect(&rt, "a channel");
+    let mut into = Vec::new(alloc);
+    assert!(rt; matches!(&ready(&task, &mut s.send(0)), Some(Ok(Ok(())))));
+    assert!(rt;
+        matches!(
+            &ready(&task, &mut s.send_many(numbers(alloc, 2)?)),
+            Some(Ok(Ok(())))
+        )
+    );
+    assert_eq!(rt; ready(&task, &mut r.recv()), Some(Ok(Ok(0))));
+    assert_eq!(rt; ready(&task, &mut r.recv_many(&mut into, 1)), Some(Ok(1)));
+    assert_eq!(rt; (s.is_closed(), s.len(), r.try_recv()), (false, 1, Ok(1)));
+    Ok(())
+}
+
+#[test]
 fn futures_of_many_between_two_threads(rt: HostRuntime) -> Result<(), Fail> {
     let alloc = rt.alloc();
     let (s, r) = channel(&rt, alloc, Some(2))?;

@@ -4,7 +4,7 @@ use async_channel::{RecvError, Sender};
 use futures::executor::block_on;
 use futures::task::Poll;
 use futures::test::MockTask;
-use futures::{Future, StreamExt};
+use futures::{Future, Stream, StreamExt};
 use std::process::Abort;
 use std::sync::Wait;
 use std::test::Fail;
@@ -109,6 +109,45 @@ fn a_task_that_takes_over_is_woken(rt: HostRuntime) -> Result<(), Fail> {
     let mut recv = r.recv();
     assert!(rt; is_pending(&first, &mut recv));
     assert!(rt; is_pending(&second, &mut recv));
+    assert!(rt; !second.is_woken());
+    assert_eq!(rt; s.try_send(1u64), Ok(Ok(())));
+    assert!(rt; second.is_woken());
+    Ok(())
+}
+
+#[test]
+fn a_task_that_takes_a_send_over_is_woken(rt: HostRuntime) -> Result<(), Fail> {
+    let (first, second) = (MockTask::new(&rt)?, MockTask::new(&rt)?);
+    let (s, r) = channel(&rt, rt.alloc(), Some(1)).expect(&rt, "a channel");
+    assert_eq!(rt; s.try_send(1u64), Ok(Ok(())));
+    let mut send = s.send(2);
+    assert!(rt; is_pending(&first, &mut send));
+    assert!(rt; is_pending(&second, &mut send));
+    assert!(rt; !second.is_woken());
+    assert_eq!(rt; r.try_recv(), Ok(1));
+    assert!(rt; second.is_woken());
+    Ok(())
+}
+
+#[test]
+fn a_task_that_takes_a_closed_operation_over_is_woken(rt: HostRuntime) -> Result<(), Fail> {
+    let (first, second) = (MockTask::new(&rt)?, MockTask::new(&rt)?);
+    let (s, r) = channel::<u64, _>(&rt, rt.alloc(), None).expect(&rt, "a channel");
+    let mut closed = s.closed();
+    assert!(rt; is_pending(&first, &mut closed));
+    assert!(rt; is_pending(&second, &mut closed));
+    assert!(rt; !second.is_woken());
+    drop(r);
+    assert!(rt; second.is_woken());
+    Ok(())
+}
+
+#[test]
+fn a_task_that_takes_a_stream_over_is_woken(rt: HostRuntime) -> Result<(), Fail> {
+    let (first, second) = (MockTask::new(&rt)?, MockTask::new(&rt)?);
+    let (s, mut r) = channel(&rt, rt.alloc(), None).expect(&rt, "a channel");
+    assert!(rt; first.enter(|cx| matches!(&r.poll_next(cx), Poll::Pending)));
+    assert!(rt; second.enter(|cx| matches!(&r.poll_next(cx), Poll::Pending)));
     assert!(rt; !second.is_woken());
     assert_eq!(rt; s.try_send(1u64), Ok(Ok(())));
     assert!(rt; second.is_woken());

@@ -1,9 +1,13 @@
 //! Worked rows, and the tests of the original that need one thread.
 use crate::probe::Answer::*;
 use crate::probe::Call::*;
-use crate::probe::{channel, run};
+use crate::probe::{Call, channel, run};
 use async_channel::{RecvError, SendError, TryRecvError, TrySendError};
 use futures::executor::block_on;
+use std::alloc::AllocGlobal;
+use std::process::Abort;
+use std::random::RandomSource;
+use std::sync::Wait;
 use std::test::Fail;
 
 #[test]
@@ -200,6 +204,57 @@ fn recv_after_close(rt: HostRuntime) -> Result<(), Fail> {
         )?;
     }
     Ok(())
+}
+
+/// Sends by each call into a channel that holds the message 1 and is closed by hand.
+fn sends_after<R: Wait + Clone + Drop + RandomSource + AllocGlobal + Abort>(
+    rt: &R,
+    capacity: Option<usize>,
+    close: Call,
+) -> Result<(), Fail> {
+    run(
+        rt,
+        capacity,
+        &[
+            (TrySend(1), TrySent(Ok(()))),
+            (close, Flag(true)),
+            (TrySend(2), TrySent(Err(TrySendError::Closed(2)))),
+            (ForceSend(3), Forced(Err(SendError(3)))),
+            (Send(4), Sent(Err(SendError(4)))),
+            (SendBlocking(5), Sent(Err(SendError(5)))),
+            (Ask, Numbers(1, false, capacity == Some(1), true)),
+            (RecvBlocking, Got(Ok(1))),
+            (RecvBlocking, Got(Err(RecvError))),
+            (TryRecv, Received(Err(TryRecvError::Closed))),
+        ],
+    )
+}
+
+#[test]
+fn sends_after_a_close_by_hand(rt: HostRuntime) -> Result<(), Fail> {
+    for capacity in [Some(1), Some(2), None] {
+        sends_after(&rt, capacity, CloseSender)?;
+        sends_after(&rt, capacity, CloseReceiver)?;
+    }
+    Ok(())
+}
+
+#[test]
+fn blocking_receives_in_turn(rt: HostRuntime) -> Result<(), Fail> {
+    run(
+        &rt,
+        None,
+        &[
+            (TrySend(1), TrySent(Ok(()))),
+            (TrySend(2), TrySent(Ok(()))),
+            (TrySend(3), TrySent(Ok(()))),
+            (RecvBlocking, Got(Ok(1))),
+            (CloseSender, Flag(true)),
+            (RecvBlocking, Got(Ok(2))),
+            (RecvBlocking, Got(Ok(3))),
+            (RecvBlocking, Got(Err(RecvError))),
+        ],
+    )
 }
 
 #[test]

@@ -1,7 +1,8 @@
 //! A hundred thousand of each: no limit shows that the contracts don't tell.
+use async_channel::inspect::who_waits;
 use async_channel::{
-    Closed, Receiver, Send, SendError, Sender, StampMaker, TrySendError, WeakReceiver, WeakSender,
-    bounded, unbounded,
+    Closed, Group, Receiver, Send, SendError, Sender, StampMaker, TrySendError, WeakReceiver,
+    WeakSender, bounded, unbounded,
 };
 use futures::Stream;
 use futures::task::Poll;
@@ -301,5 +302,65 @@ fn batches(rt: HostRuntime) -> Result<(), Fail> {
     let task = MockTask::new(&rt)?;
     sends_by_poll(&rt, &task, &s)?;
     receives_by_poll(&rt, &task, &r);
+    Ok(())
+}
+
+/// Looks whether a closed channel has all messages still, in order.
+fn all_are_left<R: Wait + Clone + Drop + AllocGlobal + Abort>(
+    rt: &R,
+    r: &Receiver<u64, R>,
+) -> Result<(), AllocError> {
+    let mut into = Vec::new(rt.alloc());
+    assert!(rt; r.is_closed());
+    assert!(rt; r.try_recv_many(&mut into, usize::MAX) == Ok(Ok(100_000)));
+    all_came(rt, into.as_slice());
+    Ok(())
+}
+
+#[test]
+fn what_is_left_when_a_receiver_closes(rt: HostRuntime) -> Result<(), Fail> {
+    let (s, r) = unbounded(&rt, rt.alloc(), &mut StampMaker::new())?;
+    assert!(rt; s.try_send_many(&mut messages(rt.alloc())?) == Ok(Ok(100_000)));
+    assert!(rt; r.close());
+    all_are_left(&rt, &r)?;
+    Ok(())
+}
+
+#[test]
+fn what_is_left_without_senders(rt: HostRuntime) -> Result<(), Fail> {
+    let (s, r) = unbounded(&rt, rt.alloc(), &mut StampMaker::new())?;
+    assert!(rt; s.try_send_many(&mut messages(rt.alloc())?) == Ok(Ok(100_000)));
+    drop(s);
+    all_are_left(&rt, &r)?;
+    Ok(())
+}
+
+#[test]
+fn what_is_left_without_receivers(rt: HostRuntime) -> Result<(), Fail> {
+    let (s, r) = unbounded(&rt, rt.alloc(), &mut StampMaker::new())?;
+    assert!(rt; s.try_send_many(&mut messages(rt.alloc())?) == Ok(Ok(100_000)));
+    drop(r);
+    assert!(rt; s.is_closed());
+    assert_eq!(rt; s.len(), 100_000);
+    Ok(())
+}
+
+/// How many wait in the group, and how many of them are told.
+fn numbers<R: Wait + Clone + Drop>(weak: &WeakSender<u64, R>, group: Group) -> (usize, usize) {
+    let seen = who_waits(weak, group);
+    (seen.waiting, seen.told)
+}
+
+#[test]
+fn a_look_at_many_who_wait(rt: HostRuntime) -> Result<(), Fail> {
+    let (task, mut streams) = (MockTask::new(&rt)?, Vec::new(rt.alloc()));
+    let (s, r) = unbounded(&rt, rt.alloc(), &mut StampMaker::new())?;
+    let weak = s.downgrade()?;
+    for _ in 0..MANY {
+        streams.push(waiting_stream(&rt, &task, &r)?)?;
+    }
+    assert_eq!(rt; numbers(&weak, Group::Streams), (100_000, 0));
+    assert!(rt; s.close());
+    assert_eq!(rt; numbers(&weak, Group::Streams), (100_000, 100_000));
     Ok(())
 }

@@ -6,12 +6,12 @@ use std::sync::atomic::{AtomicU64, Ordering};
 use std::test::Fail;
 
 /// A message that counts how many like it live.
-struct Counted<'a> {
+pub struct Counted<'a> {
     live: &'a AtomicU64,
 }
 
 impl Counted<'_> {
-    fn new(live: &AtomicU64) -> Counted<'_> {
+    pub fn new(live: &AtomicU64) -> Counted<'_> {
         live.fetch_add(1, Ordering::SeqCst);
         Counted { live }
     }

@@ -8,6 +8,12 @@ mod deeds;
 #[cfg(test)]
 mod ends;
 #[cfg(test)]
+mod given_up;
+#[cfg(test)]
 mod handles;
 #[cfg(test)]
+mod looks;
+#[cfg(test)]
 mod meeting;
+#[cfg(test)]
+mod rounds;

@@ -371,3 +371,49 @@ fn a_blocked_send_sleeps_until_it_is_told(rt: HostRuntime) -> Result<(), Fail> {
     assert_eq!(rt; thread.join(&rt), Ok(Ok(())));
     Ok(())
 }
+
+#[test]
+fn a_blocked_receive_that_the_close_ends_takes_what_is_left(rt: HostRuntime) -> Result<(), Fail> {
+    let (s, r) = channel(&rt, rt.alloc(), None)?;
+    let (task, weak, other) = (MockTask::new(&rt)?, s.downgrade()?, r.try_clone()?);
+    let mut recv = r.recv();
+    assert!(rt; matches!(&task.poll(&mut recv), Poll::Pending));
+    let thread = thread::spawn(&rt, move || other.recv_blocking())?;
+    assert!(rt; are_waiting(&weak, Group::Receives, 2));
+    // the message tells the task, which waits longer
+    assert_eq!(rt; s.try_send(7u64), Ok(Ok(())));
+    assert!(rt; s.close());
+    assert_eq!(rt; thread.join(&rt), Ok(Ok(7)));
+    assert!(rt; matches!(&task.poll(&mut recv), Poll::Ready(Ok(Err(RecvError)))));
+    Ok(())
+}
+
+/// Sends the message 1 until the channel is closed.
+fn sends_until_closed<R: Wait + Clone + Drop>(rt: &R, s: &Sender<u64, R>) -> bool {
+    for _ in rt.forever() {
+        match s.send_blocking(1) {
+            Ok(Ok(())) => {}
+            Ok(Err(SendError(message))) => return message == 1,
+            Err(_) => return false,
+        }
+    }
+    false
+}
+
+#[test]
+fn a_send_told_in_vain_is_told_again(rt: HostRuntime) -> Result<(), Fail> {
+    let (s, r) = channel(&rt, rt.alloc(), Some(1))?;
+    assert_eq!(rt; s.try_send(0u64), Ok(Ok(())));
+    let (weak, other) = (s.downgrade()?, s.try_clone()?);
+    let thread = thread::spawn(&rt, move || sends_until_closed(&rt, &other))?;
+    for _ in 0..ROUNDS {
+        assert!(rt; one_is_untold(&weak, Group::Sends));
+        assert!(rt; r.try_recv().is_ok());
+        // mostly before the thread wakes
+        drop(s.try_send(0));
+    }
+    assert!(rt; s.close());
+    assert!(rt; thread.join(&rt));
+    assert_eq!(rt; waiting(&weak), [0; 4]);
+    Ok(())
+}

@@ -194,3 +194,51 @@ fn closing_tells_a_send_of_many(rt: HostRuntime) -> Result<(), Fail> {
     assert_eq!(rt; numbers(&weak, Group::Sends), (0, 0));
     Ok(())
 }
+
+#[test]
+fn a_told_send_of_many_that_goes_on_tells_no_send(rt: HostRuntime) -> Result<(), Fail> {
+    let (s, r) = channel(&rt, rt.alloc(), Some(1))?;
+    let weak = s.downgrade()?;
+    assert_eq!(rt; s.try_send(1), Ok(Ok(())));
+    let (task, other) = (MockTask::new(&rt)?, MockTask::new(&rt)?);
+    let mut first = s.send_many(messages(rt.alloc(), 2, 2)?);
+    let mut second = s.send_many(messages(rt.alloc(), 3, 3)?);
+    assert!(rt; is_pending(&task, &mut first) && is_pending(&other, &mut second));
+    assert_eq!(rt; r.try_recv(), Ok(1));
+    assert!(rt; task.is_woken() && !other.is_woken());
+    assert!(rt; matches!(&task.poll(&mut first), Poll::Ready(Ok(Ok(())))));
+    assert!(rt; !other.is_woken());
+    assert_eq!(rt; numbers(&weak, Group::Sends), (1, 0));
+    Ok(())
+}
+
+#[test]
+fn an_untold_receive_of_many_keeps_its_place(rt: HostRuntime) -> Result<(), Fail> {
+    let (s, r) = channel(&rt, rt.alloc(), None)?;
+    let (task, other) = (MockTask::new(&rt)?, MockTask::new(&rt)?);
+    let (mut into, mut behind) = (Vec::new(rt.alloc()), Vec::new(rt.alloc()));
+    let (mut first, mut second) = (r.recv_many(&mut into, 5), r.recv_many(&mut behind, 5));
+    assert!(rt; is_pending(&task, &mut first) && is_pending(&other, &mut second));
+    assert!(rt; is_pending(&task, &mut first));
+    // what is polled again lets go of no waker
+    assert!(rt; !task.is_woken());
+    assert_eq!(rt; s.try_send(7u8), Ok(Ok(())));
+    assert!(rt; task.is_woken() && !other.is_woken());
+    Ok(())
+}
+
+#[test]
+fn an_untold_send_of_many_keeps_its_place(rt: HostRuntime) -> Result<(), Fail> {
+    let (s, r) = channel(&rt, rt.alloc(), Some(1))?;
+    assert_eq!(rt; s.try_send(1), Ok(Ok(())));
+    let (task, other) = (MockTask::new(&rt)?, MockTask::new(&rt)?);
+    let mut first = s.send_many(messages(rt.alloc(), 2, 3)?);
+    let mut second = s.send_many(messages(rt.alloc(), 4, 5)?);
+    assert!(rt; is_pending(&task, &mut first) && is_pending(&other, &mut second));
+    assert!(rt; is_pending(&task, &mut first));
+    // what is polled again lets go of no waker
+    assert!(rt; !task.is_woken());
+    assert_eq!(rt; r.try_recv(), Ok(1));
+    assert!(rt; task.is_woken() && !other.is_woken());
+    Ok(())
+}

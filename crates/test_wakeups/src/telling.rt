@@ -375,3 +375,113 @@ fn an_untold_poll_keeps_its_place(rt: HostRuntime) -> Result<(), Fail> {
         ],
     )
 }
+
+#[test]
+fn each_message_tells_a_further_receive(rt: HostRuntime) -> Result<(), Fail> {
+    run(
+        &rt,
+        Some(4),
+        &[],
+        &[Kind::Receiving; 5],
+        &[
+            (TrySend(5), TrySent(Ok(())), &[0]),
+            (ForceSend(6), Forced(Ok(None)), &[0, 1]),
+            (Send(7), Sent(Ok(())), &[0, 1, 2]),
+            (SendBlocking(8), Sent(Ok(())), &[0, 1, 2, 3]),
+            // what is displaced was told of, too
+            (ForceSend(9), Forced(Ok(Some(5))), &[0, 1, 2, 3, 4]),
+            (Poll(4), Got(Ok(6)), &[0, 1, 2, 3]),
+        ],
+    )
+}
+
+#[test]
+fn each_free_place_tells_a_further_send(rt: HostRuntime) -> Result<(), Fail> {
+    let sends = [
+        Kind::Sending(5),
+        Kind::Sending(6),
+        Kind::Sending(7),
+        Kind::Sending(8),
+    ];
+    run(
+        &rt,
+        Some(4),
+        &[1, 2, 3, 4],
+        &sends,
+        &[
+            (TryRecv, Received(Ok(1)), &[0]),
+            (Recv, Got(Ok(2)), &[0, 1]),
+            (Next, Item(Some(3)), &[0, 1, 2]),
+            (RecvBlocking, Got(Ok(4)), &[0, 1, 2, 3]),
+            (Poll(3), Sent(Ok(())), &[0, 1, 2]),
+        ],
+    )
+}
+
+/// What a close tells, where a message and a place have told the first of each kind before.
+fn at_a_later_close<R: Wait + Clone + Drop + RandomSource + AllocGlobal + Abort>(
+    rt: &R,
+    close: Call,
+) -> Result<(), Fail> {
+    at_empty(
+        rt,
+        &[
+            (TrySend(7), TrySent(Ok(())), &[0, 2, 3]),
+            (close, Flag(true), &[0, 1, 2, 3]),
+            (Poll(1), Got(Ok(7)), &[0, 2, 3]),
+            (Poll(0), Got(Err(RecvError)), &[2, 3]),
+        ],
+    )?;
+    at_full(
+        rt,
+        &[
+            (TryRecv, Received(Ok(1)), &[0]),
+            (close, Flag(true), &[0, 1]),
+            (Poll(1), Sent(Err(SendError(3))), &[0]),
+        ],
+    )
+}
+
+#[test]
+fn a_close_tells_those_that_no_message_told(rt: HostRuntime) -> Result<(), Fail> {
+    at_a_later_close(&rt, CloseSender)?;
+    at_a_later_close(&rt, CloseReceiver)?;
+    at_last_sender(
+        &rt,
+        &[
+            (TrySend(7), TrySent(Ok(())), &[0, 2, 3]),
+            (DropSender, Done, &[0, 1, 2, 3]),
+            (Poll(1), Got(Ok(7)), &[0, 2, 3]),
+            (Poll(0), Got(Err(RecvError)), &[2, 3]),
+        ],
+    )?;
+    at_full(
+        &rt,
+        &[
+            (TryRecv, Received(Ok(1)), &[0]),
+            (DropReceiver, Done, &[0, 1, 2, 3]),
+            (Poll(1), Sent(Err(SendError(3))), &[0, 2, 3]),
+        ],
+    )
+}
+
+#[test]
+fn an_untold_one_that_is_given_up_changes_nothing(rt: HostRuntime) -> Result<(), Fail> {
+    at_empty(
+        &rt,
+        &[
+            (TrySend(7), TrySent(Ok(())), &[0, 2, 3]),
+            (GiveUp(1), Done, &[0, 2, 3]),
+            (Poll(0), Got(Ok(7)), &[2, 3]),
+        ],
+    )?;
+    at_full(
+        &rt,
+        &[
+            (TryRecv, Received(Ok(1)), &[0]),
+            (GiveUp(1), Done, &[0]),
+            (Poll(0), Sent(Ok(())), &[]),
+            (TryRecv, Received(Ok(2)), &[]),
+        ],
+    )
+}
