@@ -6,15 +6,20 @@ that tools/explorations/every_order.py makes by the rules, and each script in it
 built chanrun, whose replies have to be those of the outcome. What it prints of the inputs in
 reports.py is compared whole, and a report of 5,040 outcomes has each of them once. Of each byte it
 is asked whether a name may have it, and lines, names and arguments are given at their limits and
-one beyond. The gate leaves the programs built; if one isn't, `rt run` builds it. The last line
-counts the cases, and the status is 0 if all passed.
+one beyond. A device is full, or can't be read, and on a terminal it has to say each second how many
+orders were made. The gate leaves the programs built; if one isn't, `rt run` builds it. The last
+line counts the cases, and the status is 0 if all passed.
 With the argument --write the outcomes are stored in place of being compared.
 """
 
+import os
 import pathlib
+import pty
 import re
+import select
 import subprocess
 import sys
+import time
 
 from every_order import explored
 from reports import reports
@@ -109,20 +114,65 @@ def faulty():
         "await at the top": (b"unbounded\nawait r0\n", b"line 2: unknown command\n"),
         "awaiting a sender": (party + b"await s0\n", b"line 3: bad name\n"),
         "a long line": (party + b"x" * 257 + b"\n", b"line 3: line is too long\n"),
+        "a word that begins with party": (b"unbounded\npartya\n", b"line 2: unknown command\n"),
+        "another party's name": (b"unbounded\nParty a\n", b"line 2: unknown command\n"),
+        "an empty line": (party + b"\n", b"line 3: unknown command\n"),
+        "an empty line before": (b"unbounded\n\nparty a\n", b"line 2: unknown command\n"),
     }
 
 
 def wrong_with_names(program):
-    """Bytes behind a letter of a party's name that are answered wrongly."""
+    """Bytes at the first, second or third place of a party's name that are answered wrongly."""
     plain = b"ABCDEFGHIJKLMNOPQRSTUVWXYZabcdefghijklmnopqrstuvwxyz0123456789_"
     for byte in bytes(range(256)).replace(b"\n", b""):
-        name = bytes([ord("a"), byte])
-        ran = run(program, b"unbounded\nparty " + name + b"\nlen s0\n")
         faults = {32: b"line 2: wrong number of words\n"}
         wanted = b"" if byte in plain else faults.get(byte, b"line 2: bad name\n")
-        shown = b"\n" + name + b": len s0 => 0\n" in ran.stdout
-        if ran.stderr != wanted or shown == bool(wanted):
-            yield f"byte {byte}: {ran.stderr!r}"
+        for name in (b"%cz" % byte, b"a%c" % byte, b"ab%c" % byte):
+            ran = run(program, b"unbounded\nparty " + name + b"\nlen s0\n")
+            shown = b"\n" + name + b": len s0 => 0\n" in ran.stdout
+            if ran.stderr != wanted or shown == bool(wanted):
+                yield f"{name!r}: {ran.stderr!r}"
+
+
+def wrong_with_devices(program):
+    """What is wrong where a device is full, or can't be read."""
+    given = b"unbounded\nparty a\nlen s0\n"
+    with open("/dev/full", "wb") as full:
+        ran = subprocess.run([program], input=given, stdout=full, stderr=subprocess.PIPE)
+    if (ran.returncode, ran.stderr) != (1, b"writing failed\n"):
+        yield f"a full device: status {ran.returncode}, {ran.stderr!r}"
+    ran = subprocess.run(f'"{program}" < /', shell=True, capture_output=True)
+    if (ran.returncode, ran.stdout, ran.stderr) != (1, b"", b"reading failed\n"):
+        yield f"a folder as input: status {ran.returncode}, {ran.stderr!r}"
+
+
+def told_on_terminal(program):
+    """The first two lines on a terminal during a long search, each with its second."""
+    terminal, errors = pty.openpty()
+    given = b"unbounded\n" + b"".join(b"party %c\n" % it + b"len s0\n" * 13 for it in b"ab")
+    arguments, start = ["--orders", "10000000"], time.monotonic()
+    ran = subprocess.Popen(
+        [program, *arguments], stdin=subprocess.PIPE, stdout=subprocess.DEVNULL, stderr=errors
+    )
+    ran.stdin.write(given)
+    ran.stdin.close()
+    for _line in range(2):
+        if select.select([terminal], [], [], 10)[0]:
+            yield os.read(terminal, 100), time.monotonic() - start
+    ran.kill()
+    ran.wait()
+    os.close(errors)
+    os.close(terminal)
+
+
+def wrong_with_terminal(program):
+    """What is wrong with what is said on a terminal each second."""
+    said = list(told_on_terminal(program))
+    counts = [re.fullmatch(rb"(\d+) orders\r\n", line) for line, _second in said]
+    if len(said) != 2 or not all(counts) or int(counts[0][1]) >= int(counts[1][1]):
+        yield f"{said}"
+    elif said[0][1] < 1 or said[1][1] < 1.9:
+        yield f"too soon: {said}"
 
 
 def at_limits():
@@ -154,6 +204,15 @@ def at_limits():
         "a first line too long": (b"unbounded " + b"x" * 247, [], 2, b"", b"line 1" + fault),
         "the second name again": (one + names + b"party b\n", [], 2, b"", b"line 8: bad name\n"),
         "the third name again": (one + names + b"party c\n", [], 2, b"", b"line 8: bad name\n"),
+        "the last of many names again": (
+            b"unbounded\n" + b"".join(b"party p%d\n" % it for it in range(50)) + b"party p49\n",
+            [], 2, b"", b"line 52: bad name\n",
+        ),
+        "names that are alike": (
+            b"unbounded\n" + b"".join(
+                b"party %s\n" % it for it in b"abc abd axc bbc ab a bc c abcd".split()
+            ), [], 0, b"orders 1", b"",
+        ),
         "a name in other letters": (one + b"party A\nlen s0\n", [], 0, b"orders 2", b""),
         "a name that goes on": (one + b"party ab\nlen s0\n", [], 0, b"orders 2", b""),
         "the longest input": (filler, [], 2, b"", number),
@@ -235,6 +294,11 @@ def main():
     wrong = list(wrong_with_many(programs["program_chanexplore"]))
     cases, failed = cases + 1, failed + bool(wrong)
     print(f"chanexplore: many outcomes: {'; '.join(wrong) or 'ok'}")
+    devices = {"devices": wrong_with_devices, "a terminal": wrong_with_terminal}
+    for title, wrong_with_it in devices.items():
+        wrong = list(wrong_with_it(programs["program_chanexplore"]))
+        cases, failed = cases + 1, failed + bool(wrong)
+        print(f"chanexplore: {title}: {'; '.join(wrong) or 'ok'}")
     for name, (given, arguments, status, first, fault) in (hostile() | at_limits()).items():
         ran = run(programs["program_chanexplore"], given, arguments)
         got = (ran.returncode, ran.stdout.split(b"\n")[0], ran.stderr)

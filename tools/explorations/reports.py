@@ -59,6 +59,26 @@ REPORTS = {
             "unbounded / recv o0 r0 / len s0 / poll o0",
         )],
     ),
+    "eleven orders": (
+        [],
+        "unbounded / party one" + " / len s0" * 10 + " / party two / len r0",
+        "orders 11 / outcomes 1 / stuck 0",
+        [(
+            "outcome 1: 11 orders",
+            "one: len s0 => 0 / " * 10 + "two: len r0 => 0",
+            "unbounded" + " / len s0" * 10 + " / len r0",
+        )],
+    ),
+    "the third party awaits for ever": (
+        [],
+        "unbounded / party one" + " / len s0" * 5 + " / party two / len r0 / party last / await r0",
+        "orders 42 / outcomes 1 / stuck 1",
+        [(
+            "outcome 1: 42 orders, stuck",
+            "one: len s0 => 0 / " * 5 + "two: len r0 => 0 / last: await r0 => pending",
+            "unbounded" + " / len s0" * 5 + " / len r0 / next r0",
+        )],
+    ),
     "an await that is refused": (
         [],
         "unbounded / recv o0 r0 / party one / poll o0 / party two / await r0",
