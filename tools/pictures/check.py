@@ -7,7 +7,8 @@ row of less than 1 KB for each line that the built chanrun prints of the same sc
 in it, and room for all of them; statuses and messages have to be chanrun's. There is one row more
 for each poll of settling that is pending. After each mark, a tab in SVG and a star for a terminal,
 there has to be a reply, in order. Columns and keys have to be there for what occurs, and for
-nothing else. The replies to `len` and `notice` have to agree with the messages and the waiting
+nothing else; each text has room for itself, each name's line begins below it, and a cell shows as
+many words as fit. The replies to `len` and `notice` have to agree with the messages and the waiting
 lists in their rows. The rows of examples.py have to show, in both forms, what is listed there, and
 a cell that is too small how many others there are. The terminal's form has to keep to 100 columns
 of ASCII. If a request for memory is refused, the picture has to be whole still, or else a beginning
@@ -35,7 +36,7 @@ sys.path.insert(0, str(TOP / "tools"))
 
 from random_scripts import LARGEST, random_script  # noqa: E402
 import examples  # noqa: E402
-from rows import LISTS, SVG, TELLS, svg_rows, svg_strokes, text_rows  # noqa: E402
+from rows import LISTS, MIDDLE, SVG, TELLS, svg_rows, svg_strokes, text_rows  # noqa: E402
 from states import states_of  # noqa: E402
 
 PICTURES = ("handed_on.svg", "forced.svg", "forced.txt", "closes.svg")
@@ -49,6 +50,13 @@ ROW_BYTES = 1024
 FRAME_BYTES = 8192
 COLUMNS = 100
 ROW_HEIGHT = 20
+# the width of a letter, and how many letters the cells have room for; a longer line, reply or name
+# is squeezed
+LETTER = 7.2
+LINE_ROOM, REPLY_ROOM, NAME_ROOM = 25, 18, 3
+HELD_ROOM, LIST_ROOM, HELD_COLUMNS = 16, 11, 12
+# the column of the marks in the terminal's form, and how many lines have a number that is short
+MARKS_AT, SHORT_NUMBERS = 25, 9999
 # each cell has room for a word of this many letters, and for how many others there are
 NARROW = 7
 TEXT = "{http://www.w3.org/2000/svg}text"
@@ -92,8 +100,8 @@ def wrong_with_places(root, shown):
     wrong = []
     if any(below - above != ROW_HEIGHT for above, below in zip(heights, heights[1:])):
         wrong.append("the replies don't stand row by row")
-    if heights and int(root.get("height")) < heights[-1] + ROW_HEIGHT:
-        wrong.append("it is too short for its rows")
+    if heights and not 1 <= (int(root.get("height")) - heights[-1]) / ROW_HEIGHT <= 2:
+        wrong.append("it is too short for its rows, or too long")
     return wrong
 
 
@@ -122,6 +130,61 @@ def wrong_with_keys(root):
     told = {"v"} & explained if "t" in drawn else set()
     if explained != drawn & KEYS | told or named != names:
         wrong.append(f"keys {explained}, {named} beside {drawn}, {names}")
+    return wrong
+
+
+def ends_of(root):
+    """Where each text that isn't squeezed begins and ends, by its row, and each key by its own."""
+    rows = {}
+    for text in root.iter(TEXT):
+        if text.get("y") and text.get("class") in (None, "x", "g") and not text.get("textLength"):
+            begin, letters = int(text.get("x")), len(text.text or "")
+            rows.setdefault(text.get("y"), []).append((begin, begin + LETTER * letters))
+    for key in root.findall(SVG + "g"):
+        x, y = map(int, re.findall(r"\d+", key.get("transform")))
+        text = key.find(TEXT)
+        begin = x + int(text.get("x", 0))
+        rows.setdefault(f"key {y}", []).append((x, begin + LETTER * len("".join(text.itertext()))))
+    return rows
+
+
+def wrong_with_room(root):
+    """Where a text reaches into the next one, or out of the picture."""
+    wrong = []
+    for row, places in ends_of(root).items():
+        begins = [begin for begin, _end in sorted(places)][1:] + [int(root.get("width"))]
+        if any(end > begin for (_begin, end), begin in zip(sorted(places), begins)):
+            wrong.append(f"a text has no room in row {row}")
+    for text in root.iter(TEXT):
+        room = {LINES_AT: LINE_ROOM, REPLIES_AT: REPLY_ROOM}.get(text.get("x"))
+        room = NAME_ROOM if text.get("class") == NAMES else room
+        is_long = room is not None and len(text.text or "") > room
+        if text.get("class") not in ("g", POLLS) and is_long != bool(text.get("textLength")):
+            wrong.append(f"{text.text} is squeezed, or has no room")
+    return wrong[:1]
+
+
+def wrong_with_lanes(root):
+    """What is wrong with the lanes: their names, where lines begin, and what is beside them."""
+    texts = [(it.get("class"), int(it.get("x")), int(it.get("y")))
+             for it in root.iter(TEXT) if it.get("y")]
+    names = sorted((x, y) for shape, x, y in texts if shape == NAMES)
+    paths = {}
+    for path in root.findall(SVG + "path"):
+        paths.setdefault(path.get("class"), []).append(path.get("d"))
+    lives = re.findall(r"M(\d+) (\d+)", " ".join(paths.get("l", [])))
+    lives = sorted((int(x), int(y) - MIDDLE) for x, y in lives)
+    wrong = [] if lives == names else ["a name's line begins elsewhere"]
+    lanes = {x for x, _y in names}
+    others = [x for shape, x, _y in texts if shape is None]
+    if len(lanes) > examples.LANES or any(min(lanes) <= x <= max(lanes) for x in others):
+        wrong.append("something else stands in the lanes")
+    for told in paths.get(TELLS, []):
+        x, _y, *others = map(int, re.findall(r"\d+", told))
+        if [x, *others] not in (sorted({x, *others}), sorted({x, *others}, reverse=True)):
+            wrong.append("an arrow turns back")
+    if any(it.split("h")[1] != root.get("width") for it in paths.get("c", [])):
+        wrong.append("a closing doesn't go across")
     return wrong
 
 
@@ -178,6 +241,9 @@ def wrong_with_rows(picture, replies):
     wrong += wrong_with_marks(picture, replies)
     if replies:
         wrong += wrong_with_keys(root) + wrong_with_columns(picture)
+        wrong += wrong_with_room(root) + wrong_with_lanes(root)
+    if any((it.get("class") == "x") != (it.text or "").startswith("refused: ") for it in shown):
+        wrong.append("a refusal isn't shown, or something else is shown as one")
     if [text.text or "" for text in shown if text.get("class") != POLLS] != replies:
         wrong.append("the replies aren't chanrun's")
     lines = picture.split(b"\n")
@@ -195,6 +261,8 @@ def wrong_with_text(text, replies):
     lines = text.decode("ascii", "replace").split("\n")
     if any(len(line) > COLUMNS for line in lines):
         wrong.append("the terminal's form has more than 100 columns")
+    if any(line.find("*") not in (-1, MARKS_AT) for line in lines[:SHORT_NUMBERS]):
+        wrong.append("the marks of the terminal's form aren't below one another")
     if not all(line.isprintable() and line.isascii() for line in lines):
         wrong.append("the terminal's form has what can't be printed")
     marked = text.decode("ascii", "replace").split("*")[1:]
@@ -205,6 +273,19 @@ def wrong_with_text(text, replies):
     if not right:
         wrong.append("behind the marks of the terminal's form stands something else")
     return wrong
+
+
+def wrong_with_frames(given, picture, text, replies):
+    """What is wrong with the title, with the marks of what was refused, and with no row."""
+    first = given.split(b"\n")[0].decode("latin-1")
+    title = f"Calls on a channel, {first}: who waits, and who tells whom"
+    root = ElementTree.fromstring(picture)
+    if not list(root):
+        return [] if text == b"\n" and not replies else ["a picture without a row has something"]
+    marked = [line for line in text.decode().split("\n\n")[0].split("\n") if line[:1] == "x"]
+    wrong = [] if root.findtext(SVG + "title") == title else ["it has another title"]
+    is_right = len(marked) == sum(reply.startswith("refused: ") for reply in replies)
+    return wrong + ([] if is_right else ["the terminal's form shows other refusals"])
 
 
 def wrong_with(given, programs):
@@ -220,6 +301,7 @@ def wrong_with(given, programs):
     if answered.returncode == 1:
         return wrong + (["something was drawn"] if picture.stdout + text.stdout else [])
     wrong += wrong_with_rows(picture.stdout, replies)
+    wrong += wrong_with_frames(given, picture.stdout, text.stdout, replies)
     return wrong + wrong_with_text(text.stdout, replies)
 
 
@@ -275,6 +357,11 @@ def hostile():
             f"force_send s0 {LARGEST}", "next r0", "close r0", f"try_send s0 {LARGEST}"
         ),
         "a stream whose receiver is borrowed": "\n".join(borrowed).encode(),
+        "texts that just fit": "\n".join([
+            "bounded 1", "try_send s0 1", "try_send s0 1234567890123", "try_send s0 12345678901234",
+            "downgrade s0 ws1", "downgrade s0 ws10", "",
+        ]).encode(),
+        "the largest capacity": b"bounded 1000000\nlen s0\n",
         "no byte": b"",
         "an empty line": b"\n",
         "markup in the first line": b"unbounded<script>&\"'\n",
@@ -383,12 +470,17 @@ def wrong_with_example(example, strokes, programs):
     return wrong + first_difference("lines", sorted(drawn), sorted(strokes))
 
 
-def is_cut(cell, words):
-    """Whether a cell shows these words, or the first of them and how many others there are."""
+def is_cut(cell, words, room=None):
+    """Whether a cell shows these words, or the first of them and how many others there are.
+
+    Where its room is known, it shows as many as fit."""
     rest = int(cell[-1]) if cell and cell[-1].startswith("+") else 0
     shown = cell[:-1] if rest else cell
     is_narrow = bool(words) and len(words[0]) <= NARROW
     counts = len(shown) + rest == len(words)
+    more = words[: len(shown) + 1] + [f"+{rest - 1}"] * (rest > 1)
+    if room and (len(" ".join(cell)) > room or (rest and len(" ".join(more)) <= room)):
+        return False
     return counts and shown == words[: len(shown)] and not (is_narrow and not shown)
 
 
@@ -399,8 +491,10 @@ def wrong_with_states(given, programs):
     states = list(states_of(given, replies))
     for svg, text, (held, *lists) in zip(in_svg, in_text, states):
         waiting = [word for name in LISTS for word in getattr(text, name)]
-        right = is_cut(svg.held, held) and is_cut(text.held, held)
-        right = right and all(is_cut(getattr(svg, it), who) for it, who in zip(LISTS, lists))
+        right = is_cut(svg.held, held, HELD_ROOM) and is_cut(text.held, held, HELD_COLUMNS)
+        right = right and all(
+            is_cut(getattr(svg, it), who, LIST_ROOM) for it, who in zip(LISTS, lists)
+        )
         if not right or not is_cut(waiting, sum(lists, [])):
             return [f"{svg} and {text}, not {held}, {lists}"]
     return [] if len(in_svg) == len(in_text) == len(states) else ["a row is missing"]
@@ -420,12 +514,15 @@ def wrong_with_cuts(programs):
             yield f"`{line}` beside {[row.rest for row in shown]}"
     messages = list(examples.many_messages())
     for shown, (line, held) in zip(rows(line for line, _held in messages), messages):
-        if not all(is_cut(row.held, held) for row in shown):
+        in_svg, in_text = shown
+        right = is_cut(in_svg.held, held, HELD_ROOM) and is_cut(in_text.held, held, HELD_COLUMNS)
+        if not right:
             yield f"`{line}` beside {[row.held for row in shown]}"
     waits = list(examples.many_waits())
     for (in_svg, in_text), (line, receives, closed) in zip(rows(it[0] for it in waits), waits):
         both = in_text.receives + in_text.closed
-        right = is_cut(in_svg.receives, receives) and is_cut(in_svg.closed, closed)
+        right = is_cut(in_svg.receives, receives, LIST_ROOM)
+        right = right and is_cut(in_svg.closed, closed, LIST_ROOM)
         if not right or not is_cut(both, receives + closed):
             yield f"`{line}` beside {in_svg.receives}, {in_svg.closed}, {both}"
 

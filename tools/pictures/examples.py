@@ -156,12 +156,88 @@ BORROWED_STREAM_STROKES = [
     *tells(13, "r0", "o2"),
 ]
 
+# Weak handles of both kinds; who closes the channel waits itself, and nothing is upgraded then.
+WEAK = """\
+unbounded
+downgrade s0 ws0 => done / ||w / / / / /
+downgrade r0 wr0 => done / |||v / / / / /
+clone ws0 ws1 => done / ||||w / / / / /
+clone wr0 wr1 => done / |||||v / / / / /
+upgrade ws1 s1 => ok / ||||||s / / / / /
+upgrade wr1 r1 => ok / |||||||r / / / / /
+drop ws1 => done / ||||x||| / / / / /
+drop wr1 => done / |||| x|| / / / / /
+next r1 => pending / ||||  |: / / / / r1 /
+close r1 => true / =======! / / / / r1! /
+upgrade ws0 s2 => none / ||||  |! / / / / r1! /
+close s1 => false / ||||  |! / / / / r1! /
+next r1 => end / ||||  || / / / / /
+drop s0 => done / x|||  || / / / / /
+drop s1 => done /  |||  x| / / / / /
+"""
+
+# The last sender is given up, and tells two to its left.
+LAST_SENDER = """\
+bounded 3
+recv o0 r0 => done / |<o / / / / /
+poll o0 => pending / ||: / / / o0 / /
+clone r0 r1 => done / ||:r / / / o0 / /
+next r1 => pending / ||:: / / / o0 / r1 /
+clone s0 s1 => done / ||::s / / / o0 / r1 /
+drop s0 => done / x|::| / / / o0 / r1 /
+drop s1 => done / ==!!x / / / o0! / r1! /
+poll o0 => closed /  ||! / / / / r1! /
+next r1 => end /  ||| / / / / /
+close r0 => false /  ||| / / / / /
+downgrade r0 wr0 => done / v||| / / / / /
+"""
+
+# The last poll of settling is pending, and nothing comes behind it.
+SETTLED = """\
+bounded 1
+closed o0 s0 => done / <-o / / / / /
+poll o0 => pending / ||: / / / / / o0
+next r0 => pending / |:: / / / / r0 / o0
+try_send s0 1 => ok / |!: / 1 / / / r0! / o0
+try_recv r0 => ok 1 / |!: / / / / r0! / o0
+settle => settled 1 0 / |!: / / / / r0! / o0
+polled by settling => r0 pending / |:: / / / / r0 / o0
+"""
+
+# Who waits for the end of the last receiver isn't told of a closing by hand.
+CLOSED = """\
+unbounded
+closed o0 s0 => done / <-o / / / / /
+poll o0 => pending / ||: / / / / / o0
+close r0 => true / ==: / / / / / o0
+"""
+
+# Handles and operations without a lane: the last sender is one of them.
+ALL = "|" * 24
+CROWDED = f"""\
+unbounded
+{"".join(f"clone r0 r{n} => done / {'|' * (n + 1)}r / / / / /{chr(10)}" for n in range(1, 23))}\
+clone s0 s1 => done / {ALL} +1 / / / / /
+drop s0 => done / x{ALL[1:]} +1 / / / / /
+len s1 => 0 /  {ALL[1:]} +1 / / / / /
+recv o0 r0 => done / o>{ALL[2:]} +1 / / / / /
+send o1 s1 5 => done / {ALL} +2 / / / / /
+drop o1 => done / {ALL} +1 / / / / /
+drop s1 => done / {"=" * 24} / / / / /
+poll o0 => closed / {ALL} / / / / /
+"""
+
 # the rows of each, and its lines of some shapes
 EXAMPLES = {
     "all lists": (LISTS, LISTS_STROKES),
     "both sides": (SIDES, SIDES_STROKES),
     "turns": (TURNS, TURNS_STROKES),
     "a stream polled by settling": (BORROWED_STREAM, BORROWED_STREAM_STROKES),
+    "weak handles": (WEAK, []),
+    "names without a lane": (CROWDED, []),
+    "a pending poll at the end": (SETTLED, tells(4, "s0", "r0")),
+    "a closing beside who waits": (CLOSED, []),
+    "the last sender": (LAST_SENDER, tells(7, "s1", "o0", "r1")),
 }
 
 # How many names, messages and waits there are in the end if cells are too small for them.
@@ -170,22 +246,24 @@ LANES = 24
 
 
 def many_names():
-    """Rows in which one name more is made each time: the line, and how many have no lane."""
+    """Rows in which one name is made or given up: the line, and how many have no lane."""
     for number in range(1, MANY):
         yield f"clone s0 s{number}", max(0, 2 + number - LANES)
+    for number in range(MANY - 1, LANES - 2, -1):
+        yield f"drop s{number}", 1 + number - LANES
 
 
 def many_messages():
     """Rows in which one message more is held each time: the line, and the messages."""
     for number in range(1, MANY):
-        yield f"try_send s0 {number * number}", [str(held * held) for held in range(1, number + 1)]
+        yield f"try_send s0 {number}", [str(held) for held in range(1, number + 1)]
 
 
 def many_waits():
     """Rows in which one receive or closed operation more waits: the line, and both lists."""
     receives, closed = [], []
     for number in range(1, MANY):
-        name, waiting = f"o{number * number}", receives if number % 3 else closed
+        name, waiting = f"o{number}", receives if number % 3 else closed
         start = f"recv {name} r0" if number % 3 else f"closed {name} s0"
         yield start, [*receives], [*closed]
         waiting.append(name)
@@ -205,4 +283,5 @@ def rows_of(example):
         lanes, held, *lists = cells
         asked, reply = asked.strip().split(" => ")
         words = (cell.split() for cell in (held, *lists))
-        yield Row(asked, reply, lanes.removeprefix(" ").rstrip(), "", *words)
+        lanes, plus, rest = lanes.removeprefix(" ").partition("+")
+        yield Row(asked, reply, lanes.rstrip(), plus + rest.strip(), *words)
