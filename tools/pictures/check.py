@@ -55,8 +55,8 @@ ROW_HEIGHT = 20
 LETTER = 7.2
 LINE_ROOM, REPLY_ROOM, NAME_ROOM = 25, 18, 3
 HELD_ROOM, LIST_ROOM, HELD_COLUMNS = 16, 11, 12
-# the column of the marks in the terminal's form, and how many lines have a number that is short
-MARKS_AT, SHORT_NUMBERS = 25, 9999
+# the column of the marks in the terminal's form
+MARKS_AT = 25
 # each cell has room for a word of this many letters, and for how many others there are
 NARROW = 7
 TEXT = "{http://www.w3.org/2000/svg}text"
@@ -159,7 +159,7 @@ def wrong_with_room(root):
         room = {LINES_AT: LINE_ROOM, REPLIES_AT: REPLY_ROOM}.get(text.get("x"))
         room = NAME_ROOM if text.get("class") == NAMES else room
         is_long = room is not None and len(text.text or "") > room
-        if text.get("class") not in ("g", POLLS) and is_long != bool(text.get("textLength")):
+        if text.get("class") != "g" and is_long != bool(text.get("textLength")):
             wrong.append(f"{text.text} is squeezed, or has no room")
     return wrong[:1]
 
@@ -261,7 +261,7 @@ def wrong_with_text(text, replies):
     lines = text.decode("ascii", "replace").split("\n")
     if any(len(line) > COLUMNS for line in lines):
         wrong.append("the terminal's form has more than 100 columns")
-    if any(line.find("*") not in (-1, MARKS_AT) for line in lines[:SHORT_NUMBERS]):
+    if any(line.find("*") not in (-1, MARKS_AT) for line in lines):
         wrong.append("the marks of the terminal's form aren't below one another")
     if not all(line.isprintable() and line.isascii() for line in lines):
         wrong.append("the terminal's form has what can't be printed")
@@ -480,6 +480,8 @@ def is_cut(cell, words, room=None):
     counts = len(shown) + rest == len(words)
     more = words[: len(shown) + 1] + [f"+{rest - 1}"] * (rest > 1)
     if room and (len(" ".join(cell)) > room or (rest and len(" ".join(more)) <= room)):
+        return False
+    if room and rest and len(" ".join(words)) <= room:
         return False
     return counts and shown == words[: len(shown)] and not (is_narrow and not shown)
 

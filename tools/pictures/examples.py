@@ -255,8 +255,10 @@ def many_names():
 
 def many_messages():
     """Rows in which one message more is held each time: the line, and the messages."""
-    for number in range(1, MANY):
-        yield f"try_send s0 {number}", [str(held) for held in range(1, number + 1)]
+    held = []
+    for number in [10, *range(1, MANY)]:
+        held.append(str(number))
+        yield f"try_send s0 {number}", [*held]
 
 
 def many_waits():

@@ -93,6 +93,15 @@ fn width_with(cell: &[u8], text: &str, left: usize) -> usize {
         .saturating_add(tail)
 }
 
+// How wide these texts are, with a space between them.
+fn width_of(texts: &[String]) -> usize {
+    let mut width: usize = 0;
+    for text in texts {
+        width = width.saturating_add(text.len()).saturating_add(1);
+    }
+    width.saturating_sub(1)
+}
+
 // Adds as many of these texts as fit, of `total` in all. It answers how many are left.
 fn add_words(
     cell: &mut Vec<u8>,
@@ -100,10 +109,11 @@ fn add_words(
     total: usize,
     width: usize,
 ) -> Result<usize, AllocError> {
+    let all_fit = texts.len() == total && width_of(texts) <= width;
     let mut left = total;
     for text in texts {
         let more = left.saturating_sub(1);
-        if width_with(cell.as_slice(), text.as_str(), more) > width {
+        if !all_fit && width_with(cell.as_slice(), text.as_str(), more) > width {
             break;
         }
         add_word(cell, text.as_str())?;

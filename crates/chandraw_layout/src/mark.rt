@@ -66,6 +66,7 @@ pub enum Mark {
     SqueezedLine,
     ReplyStart,
     SqueezedReply,
+    SqueezedPoll,
     TextEnd,
     // The beginnings of lines, what stands between their numbers, and their ends.
     LifePath,
@@ -170,6 +171,7 @@ pub fn mark_bytes(mark: Mark) -> &'static [u8]
         Mark::SqueezedLine => b"\" textLength=\"184\" lengthAdjust=\"spacingAndGlyphs\">",
         Mark::ReplyStart => b"\"",
         Mark::SqueezedReply => b"\" textLength=\"138\" lengthAdjust=\"spacingAndGlyphs\"",
+        Mark::SqueezedPoll => b"\" textLength=\"138\" lengthAdjust=\"spacingAndGlyphs\">",
         Mark::TextEnd => b"</text>",
         Mark::LifePath => b"<path class=\"l\" d=\"",
         Mark::WaitPath => b"<path class=\"w\" d=\"",

@@ -30,6 +30,9 @@ const REPLY_WIDTH: usize = 18;
 
 const NAME_WIDTH: usize = 3;
 
+// how many letters ` pending` has
+const PENDING_WIDTH: usize = 8;
+
 const HELD_WIDTH: usize = 16;
 
 const LIST_WIDTH: usize = 11;
@@ -292,8 +295,13 @@ pub(crate) fn add_poll(
     add_settling(fragments, table.row)?;
     fragments.mark(Mark::PendingText)?;
     fragments.number(text_y(table.row))?;
-    fragments.mark(Mark::TextStart)?;
-    fragments.text(name_text(alloc, name)?.as_bytes())?;
+    let text = name_text(alloc, name)?;
+    fragments.mark(if text.len().saturating_add(PENDING_WIDTH) > REPLY_WIDTH {
+        Mark::SqueezedPoll
+    } else {
+        Mark::TextStart
+    })?;
+    fragments.text(text.as_bytes())?;
     fragments.mark(Mark::PendingEnd)?;
     add_cells(fragments, alloc, table, size)
 }

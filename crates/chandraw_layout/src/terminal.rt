@@ -14,8 +14,6 @@ use channel_model::{Notice, Who};
 use std::alloc::{AllocError, Global};
 
 // where the cells begin, and the last column
-const LINE: usize = 6;
-
 const POLL: usize = 17;
 
 const REPLY: usize = 27;
@@ -57,16 +55,17 @@ fn add_gap(
     fragments.text(gap.as_slice())
 }
 
-// Adds the number of a line, with a mark if it was refused.
+// Adds the number of a line, with a mark if it was refused. It answers the column after it.
 fn add_number(
     fragments: &mut Fragments,
     alloc: Global,
     table: &Table,
     number: u64,
-) -> Result<(), AllocError> {
+) -> Result<usize, AllocError> {
     let mark = if table.row_refused { 'x' } else { ' ' };
     let text = format!(in alloc; "{mark}{number:>4} ")?;
-    fragments.text(text.as_bytes())
+    fragments.text(text.as_bytes())?;
+    Ok(text.len())
 }
 
 // Adds the number of a line, and the line, and goes on to the next cell.
@@ -78,9 +77,9 @@ fn add_line(
     line: &[u8],
     next: usize,
 ) -> Result<(), AllocError> {
-    add_number(fragments, alloc, table, number)?;
+    let column = add_number(fragments, alloc, table, number)?;
     fragments.text(line)?;
-    add_gap(fragments, alloc, LINE.saturating_add(line.len()), next)
+    add_gap(fragments, alloc, column.saturating_add(line.len()), next)
 }
 
 // where the messages held begin
