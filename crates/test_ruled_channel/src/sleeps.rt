@@ -19,8 +19,9 @@ const BEFORE: u64 = 50;
 /// How many it is blocked after it.
 const AFTER: u64 = 200;
 
-/// More milliseconds of processor time than it needs to go to sleep three times.
-const LITTLE: u64 = 10;
+/// More milliseconds of processor time than it needs to go to sleep three times, also if a busy
+/// machine counts some of others.
+const LITTLE: u64 = 50;
 
 /// Blocks in a send or in a receive, and answers how much processor time that took.
 fn block<R>(rt: &R, channel: &Channel, mut pass: Pass, is_send: bool) -> io::Result<Duration>

@@ -155,8 +155,9 @@ fn whoever_sleeps_is_woken(rt: HostRuntime) -> Result<(), Fail> {
 // How many milliseconds a thread waits for the lock.
 const HELD: u64 = 200;
 
-// More milliseconds of processor time than it needs to look for a while and to go to sleep.
-const LITTLE: u64 = 10;
+// More milliseconds of processor time than it needs to look for a while and to go to sleep, also if
+// a busy machine counts some of others.
+const LITTLE: u64 = 50;
 
 // Holds the lock for so long.
 fn hold<R: Wait + Clock>(rt: &R, mutex: &Mutex, is_held: &AtomicU64) {
