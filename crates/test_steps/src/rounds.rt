@@ -41,7 +41,7 @@ fn is_short(divisor: u64) -> bool {
     0 < divisor && divisor <= ROUND_LIMIT as u64
 }
 
-/// The largest number that divides both, where 0 is divided by each.
+/// The largest number that divides both. Each divides 0.
 fn common_divisor(one: u64, other: u64) -> u64 {
     let (mut larger, mut smaller) = (one, other);
     for _ in 0..128u8 {
