@@ -1,7 +1,7 @@
 -- The constant bytes of a picture.
 use Rattle.std.specs.Prelude.{ℕ, List, codes}
 use Rattle.chandraw_layout.specs.declared.mark.Mark.{Mark}
-use Rattle.chandraw_layout.specs.declared.mark.Mark.TheVariants.{SvgStart, SvgHeight, SvgViewBox, SvgTitle, SvgDescription, SvgTexts, SvgLines, SvgDark, SvgArrow, SvgTell, SvgCross, SvgRows, SvgTitles, SvgEnd, Blank, KeyAt, NameKey, LineKey, KeyEnd, SenderKey, ReceiverKey, WeakSenderKey, WeakReceiverKey, OperationKey, WaitKey, ToldKey, TellsKey, MessageKey, DisplacedKey, BorrowKey, ClosingKey, EndKey, Title, HeldName, SendsName, ReceivesName, StreamsName, ClosedsName, NumberText, LineText, PollText, PollName, PendingText, PendingEnd, ReplyText, RefusedText, NameText, MessageText, CellText, AtX, TextStart, SqueezedName, SqueezedLine, ReplyStart, SqueezedReply, TextEnd, LifePath, WaitPath, ToldPath, BorrowPath, MessagePath, DisplacedPath, TellsPath, ClosingPath, EndPath, Move, LineTo, Down, Along, Across, Space, Bar, PathEnd, Newline, TerminalHead, TerminalHeld, TerminalPoll, Legend, LegendEnd}
+use Rattle.chandraw_layout.specs.declared.mark.Mark.TheVariants.{SvgStart, SvgHeight, SvgViewBox, SvgTitle, SvgDescription, SvgTexts, SvgLines, SvgDark, SvgArrow, SvgTell, SvgCross, SvgRows, SvgTitles, SvgEnd, Blank, KeyAt, NameKey, LineKey, KeyEnd, SenderKey, ReceiverKey, WeakSenderKey, WeakReceiverKey, OperationKey, WaitKey, ToldKey, TellsKey, MessageKey, DisplacedKey, BorrowKey, ClosingKey, EndKey, Title, HeldName, SendsName, ReceivesName, StreamsName, ClosedsName, NumberText, LineText, PollText, PollName, PendingText, PendingEnd, ReplyText, RefusedText, NameText, MessageText, CellText, AtX, TextStart, SqueezedName, SqueezedLine, ReplyStart, SqueezedReply, SqueezedPoll, TextEnd, LifePath, WaitPath, ToldPath, BorrowPath, MessagePath, DisplacedPath, TellsPath, ClosingPath, EndPath, Move, LineTo, Down, Along, Across, Space, Bar, PathEnd, Newline, TerminalHead, TerminalHeld, TerminalPoll, Legend, LegendEnd}
 
 -- What stands in a picture whatever the input is: the bytes of each mark.
 abbrev pub mark_bytes : Mark → List ℕ
@@ -60,6 +60,7 @@ mark_bytes SqueezedName = codes "\" textLength=\"24\" lengthAdjust=\"spacingAndG
 mark_bytes SqueezedLine = codes "\" textLength=\"184\" lengthAdjust=\"spacingAndGlyphs\">"
 mark_bytes ReplyStart = codes "\""
 mark_bytes SqueezedReply = codes "\" textLength=\"138\" lengthAdjust=\"spacingAndGlyphs\""
+mark_bytes SqueezedPoll = codes "\" textLength=\"138\" lengthAdjust=\"spacingAndGlyphs\">"
 mark_bytes TextEnd = codes "</text>"
 mark_bytes LifePath = codes "<path class=\"l\" d=\""
 mark_bytes WaitPath = codes "<path class=\"w\" d=\""
