@@ -248,8 +248,9 @@ fn whole_lists_leave_others_a_turn(rt: HostRuntime) -> Result<(), Fail> {
     assert!(rt; task.poll(&mut send).is_pending());
     assert!(rt; task.is_woken());
     // 128 steps: a send is begun, and then polled
-    let (mut sender, sent) = send.give_up();
+    let (_sender, sent) = send.give_up();
     assert_eq!(rt; sent, 64);
+    let mut sender = hub.sender(&channel);
     assert_eq!(rt; sender.send_all(&rt, &channel, messages.as_slice()), 1000);
     let mut collect = hub.receiver(&channel).collect(&rt, rt.alloc(), &channel);
     assert!(rt; other.poll(&mut collect).is_pending());
