@@ -17,11 +17,11 @@ use std::time::{CpuClock, Duration};
 const BEFORE: u64 = 50;
 
 /// How many it is blocked after it.
-const AFTER: u64 = 200;
+const AFTER: u64 = 400;
 
 /// More milliseconds of processor time than it needs to go to sleep three times, also if a busy
 /// machine counts some of others.
-const LITTLE: u64 = 50;
+const LITTLE: u64 = 30;
 
 /// Blocks in a send or in a receive, and answers how much processor time that took.
 fn block<R>(rt: &R, channel: &Channel, mut pass: Pass, is_send: bool) -> io::Result<Duration>
