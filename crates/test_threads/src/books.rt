@@ -87,9 +87,9 @@ fn clerks_in_another_order(rt: HostRuntime) -> Result<(), Fail> {
     make(&rt, &recorder, &mut clerks, &WITH_ROOM)?;
     clerks.as_mut_slice().reverse();
     let book = recorder.finish(clerks)?;
-    assert_eq!(rt; book.places(0), Some([2, 5, 8, 11, 14].as_slice()));
-    assert_eq!(rt; book.places(1), Some([1, 4, 7, 10, 13].as_slice()));
-    assert_eq!(rt; book.places(2), Some([0, 3, 6, 9, 12].as_slice()));
+    assert!(rt; matches!(book.places(0), Some([2, 5, 8, 11, 14])));
+    assert!(rt; matches!(book.places(1), Some([1, 4, 7, 10, 13])));
+    assert!(rt; matches!(book.places(2), Some([0, 3, 6, 9, 12])));
     Ok(())
 }
 
