@@ -1,7 +1,5 @@
 -- What is shown at a pass and its view is shown at the same pass and view.
-use Rattle.std.proofs.Common.{◌≡◌, ℕ, Bool, List, Option, [], sym, subst}
-use Rattle.ruled_mutex.specs.declared.pass.Pass.{Pass}
-use Rattle.ruled_mutex.specs.declared.pass.Stage.TheVariants.{Outside}
+use Rattle.std.proofs.Common.{◌≡◌, ℕ, Bool, List, Option, sym, subst}
 use Rattle.ruled_channel.specs.Rule.{Sends, Receives, Ends, Learns}
 
 module _ {T V : Type 0} (holds : List T → Bool → List V → Type 0) (pass pass' : ℕ) (v v' : V) (p : pass' ≡ pass) (q : v' ≡ v) where
@@ -16,9 +14,3 @@ module _ {T V : Type 0} (holds : List T → Bool → List V → Type 0) (pass pa
 
   pub learns_same : (fact : V → List T → Bool → Type 0) → Learns holds pass v (fact v) → Learns holds pass' v' (fact v')
   learns_same fact t = subst (λ (z : ℕ × V). Learns holds z.0 z.1 (fact z.1)) (λ i. (sym p i, sym q i)) t
-
--- between two calls, the pass is the one that it was at first, with the same view
-abbrev pub IsPassBetween : {T V : Type 0} → Pass T V → Pass T V → Type 0
-IsPassBetween was pass = (pass.seat.table_id ≡ was.seat.table_id) × (pass.seat.id ≡ was.seat.id)
-    × (pass.seat.me.0.stage ≡ Outside) × (pass.seat.me.1 ≡ [])
-    × (pass.seat.me.0.client ≡ was.seat.me.0.client)

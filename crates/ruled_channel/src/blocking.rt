@@ -1,7 +1,7 @@
 //! Calls that wait for others, and block their thread.
 //!
-//! A call first tries a few times, and gives others turns in between. If it can't go on then, it
-//! leaves its mark in the core's list, under the lock, and sleeps until just this mark is rung.
+//! Who can't go on leaves its mark in the core's list, under the lock, and sleeps until just this
+//! mark is rung.
 ghost use Rattle.std.specs.Prelude.{◌≡◌, [], false, true, IfOk, IfErr, OnErr};
 ghost use Rattle.ruled_mutex.specs.Passes.{IsSamePass, view, number};
 ghost use Rattle.ruled_channel.specs.Rule.{Sends, Receives, Ends, Learns, Fitted};
@@ -12,12 +12,7 @@ use crate::outcomes::{AtEnd, Lesson, Received, Sent};
 use crate::protocol::Protocol;
 use channel_core::{NoMemory, OutOfMemory, RecvError, SendError, TryRecvError, TrySendError};
 use channel_wakers::Sleeper;
-use ruled_mutex::Unruled;
 use std::sync::Wait;
-use std::thread;
-
-// How often a call looks before it sleeps.
-const LOOKS: u32 = 10;
 
 impl<T: Drop, V, P: Protocol<T, V>> RuledChannel<T, V, P> {
     /// Puts a message last, and blocks its thread while the channel is full. A closed channel hands
@@ -33,40 +28,6 @@ impl<T: Drop, V, P: Protocol<T, V>> RuledChannel<T, V, P> {
     /// ```
     #[tactic(auto, using(crate::proofs::Same::sends_same, crate::proofs::Same::learns_same))]
     pub fn send_blocking_as<M: Sent<T, V>, L: Lesson<T, V>, R: Wait>(
-        &self,
-        rt: &R,
-        pass: &mut Pass<T, V>,
-        message: T,
-    ) -> Result<Result<(), SendError<T>>, NoMemory<T>>
-        requires own { IsPassOf self.now pass.old }
-        requires rule { Sends P.fits P.holds (number pass.old) (view pass.old) message M.then }
-        requires lesson { Learns P.holds (number pass.old) (view pass.old)
-            (L.fact (view pass.old)) }
-        ensures own { IsPassOf self.now pass.new × IsSamePass pass.old pass.new }
-        ensures sent { IfOk result (λ answer. IfOk answer
-            (λ _. M.then (view pass.old) message (view pass.new))) }
-        ensures refused { IfOk result (λ answer. IfErr answer
-            (λ error. (error.0 ≡ message) × (view pass.new ≡ view pass.old)
-            × LearnedOf (λ messages. L.fact (view pass.old) messages true))) }
-        ensures memory { IfErr result
-            (λ error. (error.0 ≡ message) × (view pass.new ≡ view pass.old)
-            × WantsToSend P.fits (L.fact (view pass.old))) }
-    {
-        let mut waiting = message;
-        for _ in 0..LOOKS {
-            match self.try_send_as::<M, L, R>(rt, pass, waiting)? {
-                Ok(()) => return Ok(Ok(())),
-                Err(TrySendError::Closed(back)) => return Ok(Err(SendError(back))),
-                Err(TrySendError::Full(back)) => waiting = back,
-            }
-            thread::yield_now();
-        }
-        self.wait_to_send::<M, L, R>(rt, pass, waiting)
-    }
-
-    // Waits until the channel isn't full, or closed.
-    #[tactic(auto, using(crate::proofs::Same::sends_same, crate::proofs::Same::learns_same))]
-    fn wait_to_send<M: Sent<T, V>, L: Lesson<T, V>, R: Wait>(
         &self,
         rt: &R,
         pass: &mut Pass<T, V>,
@@ -113,34 +74,6 @@ impl<T: Drop, V, P: Protocol<T, V>> RuledChannel<T, V, P> {
     /// ```
     #[tactic(auto, using(crate::proofs::Same::receives_same, crate::proofs::Same::ends_same))]
     pub fn recv_blocking_as<M: Received<T, V>, E: AtEnd<V>, R: Wait>(
-        &self,
-        rt: &R,
-        pass: &mut Pass<T, V>,
-    ) -> Result<Result<T, RecvError>, OutOfMemory>
-        requires own { IsPassOf self.now pass.old }
-        requires rule { Receives P.holds (number pass.old) (view pass.old) M.then }
-        requires end { Ends P.holds (number pass.old) (view pass.old) E.then }
-        ensures own { IsPassOf self.now pass.new × IsSamePass pass.old pass.new }
-        ensures received { IfOk result (λ answer. IfOk answer
-            (λ message. M.then (view pass.old) message (view pass.new))) }
-        ensures end { IfOk result (λ answer. IfErr answer
-            (λ _. E.then (view pass.old) (view pass.new))) }
-        ensures memory { OnErr result ((view pass.new ≡ view pass.old)
-            × Fitted P.holds (view pass.old) [] false) }
-    {
-        for _ in 0..LOOKS {
-            match self.try_recv_as::<M, E, Unruled, R>(rt, pass) {
-                Ok(message) => return Ok(Ok(message)),
-                Err(TryRecvError::Closed) => return Ok(Err(RecvError)),
-                Err(TryRecvError::Empty) => thread::yield_now(),
-            }
-        }
-        self.wait_to_recv::<M, E, R>(rt, pass)
-    }
-
-    // Waits until there is a message, or the channel is closed.
-    #[tactic(auto, using(crate::proofs::Same::receives_same, crate::proofs::Same::ends_same))]
-    fn wait_to_recv<M: Received<T, V>, E: AtEnd<V>, R: Wait>(
         &self,
         rt: &R,
         pass: &mut Pass<T, V>,

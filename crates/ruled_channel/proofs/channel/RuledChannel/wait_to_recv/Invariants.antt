@@ -1,5 +1,0 @@
-use Rattle.ruled_channel.proofs.Same.{IsPassBetween}
-use Rattle.ruled_channel.proofs.channel.RuledChannel.wait_to_recv.Given as goal
-
-abbrev pub invariant-loop : goal.invariant-loop
-invariant-loop g l = IsPassBetween l.fn.pass l.pass
