@@ -28,12 +28,15 @@ def words(clauses):
 
 
 def index(crates):
-    """The index: each public call with a clause. Those of one type with the same share a line.
+    """The index: each public call of a crate that is no test, if it has a clause.
 
-    So do all of a crate whose clauses have no name.
+    Those of one type with the same clauses share a line. So do all of a crate whose clauses have
+    no name.
     """
     lines = []
     for crate in crates.values():
+        if crate.name.startswith('test_'):
+            continue
         shared = {}
         for call in crate.public_calls():
             owner = call.owner if any(call.clauses) else ''
