@@ -97,6 +97,8 @@ impl<T: Drop, V, P: Protocol<T, V>, M: Received<T, V>, E: AtEnd<V>, R: Wait> Fut
         ensures same { OnPending result ((x : _)
             → Gives P.holds M.then E.then self.new.channel.now self.new.pass x
             → Gives P.holds M.then E.then self.old.channel.now self.old.pass x) }
+        ensures stays { OnPending result ((self.new.channel.now ≡ self.old.channel.now)
+            × IsBack self.old.channel.now self.old.pass self.new.pass) }
         ensures registered { OnPending result
             (Covers cx.new (λ source. source ≡ self.new.channel.now.source.id)) }
         ensures holds { OnPending result (IsSome self.new.ticket) }

@@ -3,4 +3,5 @@ pub mod Keeps
 pub mod Settled
 pub mod Stages
 pub mod GivenUp
+pub mod Received
 pub mod Lists

@@ -205,6 +205,7 @@ impl<T: Drop> Sender<T> {
 
 impl<T: Drop> Receiver<T> {
     ghost use Rattle.ruled_channel_rules.specs.Handles.{IsReceiverOf, got_by, has_ended, receiver_closed};
+    ghost use Rattle.ruled_channel_rules.specs.Receiving.{IsAsItWas};
 
     /// Takes the oldest message, and waits while there is none. The inner error says that the
     /// channel is closed and empty, the outer that memory was refused.
@@ -229,7 +230,7 @@ impl<T: Drop> Receiver<T> {
             (λ message. got_by self.new ≡ got_by self.old ++ message ∷ [])) }
         ensures ended { IfOk result (λ answer. IfErr answer
             (λ _. (got_by self.new ≡ got_by self.old) × (has_ended self.new ≡ true))) }
-        ensures memory { IfErr result (λ _. got_by self.new ≡ got_by self.old) }
+        ensures memory { IfErr result (λ _. IsAsItWas self.old self.new) }
     {
         let ruled = &channel.ruled;
         ruled.recv_blocking_as::<Whole, Whole, R>(rt, &mut self.pass)

@@ -2,8 +2,8 @@
 ghost use Rattle.std.specs.Prelude.{◌≡◌, IfSome, IfNone, IsSomeAnd};
 ghost use Rattle.futures.specs.Task.{Covers, Keeps};
 ghost use Rattle.futures.specs.Poll.{IfReady, OnPending};
-ghost use Rattle.ruled_channel_rules.specs.Handles.{IsReceiverOf, got_by};
-ghost use Rattle.ruled_channel_rules.specs.Receiving.{MayReceive, TellsReceived};
+ghost use Rattle.ruled_channel_rules.specs.Handles.{IsReceiverOf};
+ghost use Rattle.ruled_channel_rules.specs.Receiving.{MayReceive, TellsReceived, IsAsItWas};
 
 use crate::handles::{Channel, Receiver};
 use crate::log::{Log, Whole};
@@ -106,7 +106,7 @@ impl<T: Drop, R: Wait> Future for Recv<'_, '_, T, R> {
 }
 
 impl<T: Drop, R: Wait> Recv<'_, '_, T, R> {
-    /// Gives up a receive that was not ready yet. Its receiver got no message.
+    /// Gives up a receive that was not ready yet: its receiver, which is as it was.
     ///
     /// ```
     /// let (channel, mut hub) = bounded(rt.alloc(), 4)?;
@@ -120,7 +120,7 @@ impl<T: Drop, R: Wait> Recv<'_, '_, T, R> {
         requires may { IsSomeAnd self.old.inner (λ b. MayReceive self.old.channel.now
             self.old.receiver.value b.channel.now b.pass) }
         ensures own { IsReceiverOf self.old.channel.now result }
-        ensures same { got_by result ≡ got_by self.old.receiver.value }
+        ensures same { IsAsItWas self.old.receiver.value result }
     {
         let Some(inner) = self.inner.take() else {
             unreachable!()
