@@ -8,9 +8,9 @@ use crate::plays::{Cut, Glue, Learn, Lock, Pay, Sit, Unlock};
 use atomic_table::{Join, Refused, Split, Table, TableRule};
 use crossbeam_utils::rule::{Outcome, Protocol};
 use std::alloc::{AllocFailed, Allocator, Global};
-use std::hint;
 use std::marker::PhantomData;
 use std::sync::Wait;
+use std::thread;
 
 /// What a call learns from the rule: of its view, and of the value that it found.
 ///
@@ -52,7 +52,16 @@ const LOCKED: u64 = 1;
 const CONTENDED: u64 = 2;
 
 // How often a thread looks at a held lock before it sleeps.
-const LOOKS: u32 = 100;
+const LOOKS: u32 = 10;
+
+// How often it gives others a turn before each look.
+const YIELDS: u32 = 4;
+
+fn yield_to_others() {
+    for _ in 0..YIELDS {
+        thread::yield_now();
+    }
+}
 
 /// A mutex under the rule `P`, over a `T` and over the view `V` of each pass. It is as large as two
 /// blocks of memory, one of 128 bytes for the lock's word and one for the value.
@@ -368,18 +377,34 @@ impl<T, V, P: Protocol<T, V>, A: Allocator> RuledMutex<T, V, P, A> {
         ensures same { IsSamePass pass.old pass.new }
         ensures taken { Took (view pass.old) pass.new.seat.me }
     {
-        let mut seen = self.look();
-        if seen == FREE && self.take(pass) {
+        if self.take_in_turns(pass) {
             return;
         }
         for _ in rt.forever() {
-            if seen != CONTENDED && self.mark(pass) {
+            if self.mark(pass) {
                 return;
             }
-            self.table.shared.park(rt, WORD, 2);
-            seen = self.look();
+            self.table.shared.park(rt, WORD, CONTENDED as u32);
         }
         unreachable!()
+    }
+
+    // Takes the lock if it is found free, and says whether it was. Others get turns before each
+    // look: whoever has the lock then takes it several times, and its cache lines stay where they
+    // are.
+    fn take_in_turns(&self, pass: &mut Pass<T, V>) -> bool
+        requires { IsPassOf self.now pass.old }
+        ensures same { IsSamePass pass.old pass.new }
+        ensures taken { IsTrue result → Took (view pass.old) pass.new.seat.me }
+        ensures held { IsFalse result → pass.new.seat.me ≡ pass.old.seat.me }
+    {
+        for _ in 0..LOOKS {
+            yield_to_others();
+            if self.table.shared.peek(WORD) == FREE && self.take(pass) {
+                return true;
+            }
+        }
+        false
     }
 
     // Takes the lock if it is free, and says whether it was. Whoever gives it back will wake
@@ -394,18 +419,6 @@ impl<T, V, P: Protocol<T, V>, A: Allocator> RuledMutex<T, V, P, A> {
             .shared
             .swap::<Lock>(&mut pass.seat, WORD, CONTENDED)
             == FREE
-    }
-
-    // The word, looked at for a while as long as the lock is held and nobody sleeps.
-    fn look(&self) -> u64 {
-        for _ in 0..LOOKS {
-            let seen = self.table.shared.peek(WORD);
-            if seen != LOCKED {
-                return seen;
-            }
-            hint::spin_loop();
-        }
-        LOCKED
     }
 
     // Wakes one that sleeps.

@@ -153,7 +153,7 @@ fn whoever_sleeps_is_woken(rt: HostRuntime) -> Result<(), Fail> {
 }
 
 // How many milliseconds a thread waits for the lock.
-const HELD: u64 = 200;
+const HELD: u64 = 500;
 
 // More milliseconds of processor time than it needs to look for a while and to go to sleep, also if
 // a busy machine counts some of others.
