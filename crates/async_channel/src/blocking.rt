@@ -1,20 +1,19 @@
 //! Calls that block their thread.
 //!
-//! A blocking call looks a few times, by the plain call, and gives others a turn between. Then it
-//! waits: its entry in the waiting list names a cell of its own, where its thread sleeps until
-//! just this entry is told.
+//! A blocking call looks a few times, by the plain call, and pauses in between. Then it waits:
+//! its entry in the waiting list names a cell of its own, where its thread sleeps until just this
+//! entry is told.
 ghost use Rattle.std.specs.Prelude.{◌≡◌, ◌+◌, ◌<◌, ◌≤◌, ℕ, [], IfOk, IfErr, OnOk, Ok, drop, length, take};
 ghost use Rattle.channel_core.specs.Batches.{moved_count};
 
 use crate::handles::{Receiver, Sender};
-use crate::shared::LOOKS;
+use crate::shared::{LOOKS, pause_between_looks};
 use channel_core::{NoMemory, OutOfMemory, RecvError, SendError, TryRecvError, TrySendError};
 use channel_wakers::Sleeper;
 use futures::task::Poll;
 use std::alloc::Global;
 use std::collections::VecDeque;
 use std::sync::Wait;
-use std::thread;
 
 impl<T: Drop, R: Wait + Clone + Drop> Sender<T, R> {
     /// Sends a message into the channel, and blocks its thread until it is there.
@@ -49,7 +48,7 @@ impl<T: Drop, R: Wait + Clone + Drop> Sender<T, R> {
                 Err(TrySendError::Closed(message)) => return Ok(Err(SendError(message))),
                 Err(TrySendError::Full(back)) => message = back,
             }
-            thread::yield_now();
+            pause_between_looks();
         }
         self.wait_to_send(message)
     }
@@ -178,7 +177,7 @@ impl<T: Drop, R: Wait + Clone + Drop> Receiver<T, R> {
             match self.try_recv() {
                 Ok(message) => return Ok(Ok(message)),
                 Err(TryRecvError::Closed) => return Ok(Err(RecvError)),
-                Err(TryRecvError::Empty) => thread::yield_now(),
+                Err(TryRecvError::Empty) => pause_between_looks(),
             }
         }
         self.wait_to_recv()

@@ -7,19 +7,37 @@ use channel_core::{Core, OutOfMemory};
 use channel_wakers::Mark;
 use futures::task::Source;
 use std::alloc::Global;
+use std::hint;
 use std::sync::{Arc, Mutex, MutexGuard, Wait};
-use std::thread;
 
-/// How often a thread looks again before it sleeps: at the lock, and at the channel in a blocking
-/// call.
+/// How often a blocking call looks at the channel before its thread sleeps.
 ///
-/// Ten looks were measured to pay. In a trial, one producer and one consumer at 128 places took 3.2
-/// to 4.5 times as long as the original without looks at either, and 0.7 to 1.3 times with both.
-pub(crate) const LOOKS: u32 = 10;
+/// It pauses between two looks, and doesn't yield: if all processors are busy, whoever yields may get
+/// no turn for milliseconds. In a trial, eight threads kept four processors busy beside one producer
+/// and one consumer at 128 places: a message took 38 microseconds with yields, and 0.4 with pauses.
+/// Alone, both took a tenth.
+pub(crate) const LOOKS: u32 = 20;
 
-// How often a thread gives others a turn between two looks at the lock. In the same trial, spinning
-// in place of that took 1.9 to 3.1 times as long as the original.
-const YIELDS: u32 = 4;
+// How many of the processor's pauses are between two looks at the channel.
+const PAUSES: u32 = 20;
+
+// How often a thread looks at a taken lock before it sleeps.
+const LOCK_LOOKS: u32 = 5;
+
+// How many pauses are before each look at a taken lock: so many that whoever has it can take several
+// steps, and its cache lines stay where they are.
+const LOCK_PAUSES: u32 = 60;
+
+fn pause(pauses: u32) {
+    for _ in 0..pauses {
+        hint::spin_loop();
+    }
+}
+
+/// Lets some time go by between two looks at the channel.
+pub(crate) fn pause_between_looks() {
+    pause(PAUSES);
+}
 
 /// What all handles of a channel share.
 #[derive(Drop)]
@@ -54,17 +72,14 @@ impl<T: Drop> Shared<T> {
     fn lock<R: Wait>(&self, rt: &R) -> MutexGuard<'_, Core<T, Mark>> {
         match self.core.try_lock() {
             Some(guard) => guard,
-            None => self.lock_in_turns(rt),
+            None => self.lock_taken(rt),
         }
     }
 
-    // The lock, if somebody has it. Others get turns before this thread asks for it: whoever
-    // has it then takes several steps, and its cache lines stay where they are.
-    fn lock_in_turns<R: Wait>(&self, rt: &R) -> MutexGuard<'_, Core<T, Mark>> {
-        for _ in 0..LOOKS {
-            for _ in 0..YIELDS {
-                thread::yield_now();
-            }
+    // The lock, if somebody has it.
+    fn lock_taken<R: Wait>(&self, rt: &R) -> MutexGuard<'_, Core<T, Mark>> {
+        for _ in 0..LOCK_LOOKS {
+            pause(LOCK_PAUSES);
             if let Some(guard) = self.core.try_lock() {
                 return guard;
             }

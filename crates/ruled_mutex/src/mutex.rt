@@ -8,9 +8,9 @@ use crate::plays::{Cut, Glue, Learn, Lock, Pay, Sit, Unlock};
 use atomic_table::{Join, Refused, Split, Table, TableRule};
 use crossbeam_utils::rule::{Outcome, Protocol};
 use std::alloc::{AllocFailed, Allocator, Global};
+use std::hint;
 use std::marker::PhantomData;
 use std::sync::Wait;
-use std::thread;
 
 /// What a call learns from the rule: of its view, and of the value that it found.
 ///
@@ -52,14 +52,16 @@ const LOCKED: u64 = 1;
 const CONTENDED: u64 = 2;
 
 // How often a thread looks at a held lock before it sleeps.
-const LOOKS: u32 = 10;
+const LOOKS: u32 = 5;
 
-// How often it gives others a turn before each look.
-const YIELDS: u32 = 4;
+// How many of the processor's pauses are before each look: so many that whoever has the lock can
+// take it several times, and its cache lines stay where they are. A thread doesn't yield: if all
+// processors are busy, it may get no turn for milliseconds then.
+const PAUSES: u32 = 60;
 
-fn yield_to_others() {
-    for _ in 0..YIELDS {
-        thread::yield_now();
+fn pause() {
+    for _ in 0..PAUSES {
+        hint::spin_loop();
     }
 }
 
@@ -377,7 +379,7 @@ impl<T, V, P: Protocol<T, V>, A: Allocator> RuledMutex<T, V, P, A> {
         ensures same { IsSamePass pass.old pass.new }
         ensures taken { Took (view pass.old) pass.new.seat.me }
     {
-        if self.take_in_turns(pass) {
+        if self.take_soon(pass) {
             return;
         }
         for _ in rt.forever() {
@@ -389,17 +391,15 @@ impl<T, V, P: Protocol<T, V>, A: Allocator> RuledMutex<T, V, P, A> {
         unreachable!()
     }
 
-    // Takes the lock if it is found free, and says whether it was. Others get turns before each
-    // look: whoever has the lock then takes it several times, and its cache lines stay where they
-    // are.
-    fn take_in_turns(&self, pass: &mut Pass<T, V>) -> bool
+    // Takes the lock if it is found free, and says whether it was.
+    fn take_soon(&self, pass: &mut Pass<T, V>) -> bool
         requires { IsPassOf self.now pass.old }
         ensures same { IsSamePass pass.old pass.new }
         ensures taken { IsTrue result → Took (view pass.old) pass.new.seat.me }
         ensures held { IsFalse result → pass.new.seat.me ≡ pass.old.seat.me }
     {
         for _ in 0..LOOKS {
-            yield_to_others();
+            pause();
             if self.table.shared.peek(WORD) == FREE && self.take(pass) {
                 return true;
             }
