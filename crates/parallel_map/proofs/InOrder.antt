@@ -1,187 +1,190 @@
--- Chunks in the order of their places.
-use Rattle.std.proofs.Common.{◌≡◌, ◌≢◌, ℕ, ◌+◌, ◌-◌, ◌<◌, ◌≤◌, ◌==◌, min, false, cond, List, [], ◌∷◌, ◌++◌, length, take, drop, get_or, map, suc, refl, ap, sym, ◌∙◌, ⊎_elim, arith, length-drop}
+-- Chunks that are put together as they come.
+use Rattle.std.proofs.Common.{◌≡◌, ◌≢◌, ℕ, ◌+◌, ◌-◌, ◌<◌, ◌≤◌, min, false, true, List, [], ◌∷◌, ◌++◌, length, take, drop, get_or, map, refl, ap, sym, ◌∙◌, subst, ◌⊎◌, inl, inr, ⊎_elim, arith, length-append, length-take, length-drop, true≢false}
 use Rattle.std.proofs.Math.Seq.{take-add}
+use Rattle.std.proofs.lemmas.Bool.{cases_eq, cases_lt}
+use Rattle.std.proofs.lemmas.List.{length-map, take_all, take_min, take-map, drop-map, get_or-map, nil_from_length}
+use Rattle.std.proofs.lemmas.List.Elements.{All-map, All-push, All-contains, All-weaker, Contains-get_or, Contains-append_left, Contains-push, Contains-push_cases}
+use Rattle.std.proofs.lemmas.List.Sorted.{IsPermutation-sym, All-permutation, Contains-permutation}
 use Rattle.std.proofs.lemmas.Bool.Decides.{eqb_tells}
-use Rattle.std.proofs.lemmas.List.{map-append, take_all, take_min, append-nil, take-map, drop-map}
-use Rattle.std.proofs.lemmas.List.Elements.{All-push, All-head, All-tail, All-map}
-use Rattle.std.proofs.lemmas.List.Sums.{sum_by-cons}
-use Rattle.std.proofs.lemmas.List.Sorted.{IsPermutation-sym, IsPermutation-trans, IsPermutation-map, IsNonDecreasingBy-push, IsNonDecreasingBy-short, All-permutation, sum_by-IsPermutation}
-use Rattle.std.proofs.lemmas.Grind.{flat_map-append}
-use Rattle.std.specs.Prelude.{IsPermutation}
-use Rattle.std.specs.List.{All, flat_map, sum_by}
-use Rattle.std.specs.List.Sorted.{IsNonDecreasing, IsNonDecreasingBy}
-use Rattle.parallel_map.proofs.Faults.{itself, lower_or_above}
-use Rattle.parallel_map.specs.Chunks.{ChunkView, chunk_at, AreStartsOf, AreAllChunksOf}
+use Rattle.std.specs.BTreeMap.{BTreeMap, Updates, get}
+use Rattle.std.specs.Cmp.{unsigned_tied}
+use Rattle.std.specs.Ordering.{nat_cmp}
+use Rattle.std.specs.Prelude.{IsPermutation, IsSome, is_some, Option, Some, None, Vec, All, Contains}
+use Rattle.parallel_map.specs.Chunks.{ChunkView, chunk_at, AreStartsOf}
+use Rattle.parallel_map.specs.Joining.{AreSoFar}
 
--- numbers, each at least the one before it
-abbrev Rise : ℕ → List ℕ → Type 0
-Rise low [] = low ≡ low
-Rise low (n ∷ ns) = (low ≤ n) × Rise n ns
+-- the places sent so far: the first, and behind each the next, unless that is to be sent now or is
+-- behind the last
+pub record AreBefore (count size from : ℕ) (places : List ℕ) : Type 0 where
+  pub first : (from ≡ 0) ⊎ Contains places 0
+  pub next : (place : ℕ) → Contains places place
+      → (place + size ≡ from) ⊎ (Contains places (place + size) ⊎ (count ≤ place + size))
 
-abbrev times : ℕ → List ℕ → ℕ
-times k ns = sum_by (λ n. cond (n == k) 1 0) ns
+pub none_yet : (count size : ℕ) → AreBefore count size 0 []
+none_yet count size = record {
+  first = inl refl;
+  next = λ place there. absurd (omega (arith, there.1));
+}
 
-apart : (n k : ℕ) → n ≢ k → (n == k) ≡ false
-apart n k ne = ⊎_elim (λ yes. absurd (ne yes.1)) (λ no. no.0) (eqb_tells n k)
+pub one_more : (count size from next : ℕ) (places : List ℕ) → AreBefore count size from places
+    → next ≡ from + min size (count - from) → AreBefore count size next (places ++ from ∷ [])
+one_more count size from next places are end =
+    let sent = λ (n : ℕ) (is : n ≡ from). subst (Contains (places ++ from ∷ [])) (sym is) (Contains-push places from) in
+    record {
+      first = inr (⊎_elim (λ is. sent 0 (sym is)) (Contains-append_left places (from ∷ []) 0) are.first);
+      next = λ place there.
+          ⊎_elim (λ old.
+          ⊎_elim (λ is. inr (inl (sent (place + size) is)))
+          (λ more. inr (⊎_elim (λ behind. inl (Contains-append_left places (from ∷ []) (place + size) behind)) (λ last. inr last) more))
+          (are.next place old))
+          (λ same.
+          ⊎_elim (λ less. inl (omega (arith, same, end, less))) (λ last. inr (inr (omega (arith, same, last))))
+          (cases_lt (place + size) count))
+          (Contains-push_cases places from place there);
+    }
 
-none_below : (k low : ℕ) (ns : List ℕ) → k < low → Rise low ns → times k ns ≡ 0
-none_below k low [] below up = refl
-none_below k low (n ∷ ns) below up =
-    let le = up.0 in
-    let first = sum_by-cons (λ n. cond (n == k) 1 0) n ns in
-    let here : ◌≡◌ {A = ℕ} (cond (n == k) 1 0) 0 = ap (λ b. cond {A = ℕ} b 1 0) (apart n k (λ same. omega (arith, same, le, below))) in
-    let rest = none_below k n ns (omega (arith, le, below)) up.1 in
-    omega (arith, first, here, rest)
-
-at_least_one : (k : ℕ) (ns : List ℕ) → 0 < times k (k ∷ ns)
-at_least_one k ns =
-    let first = sum_by-cons (λ n. cond (n == k) 1 0) k ns in
-    let here = ap (λ b. cond b 1 0 + times k ns) (itself k) in
-    omega (arith, first, here)
-
--- if the first is lower, the other list hasn't got it
-not_lower : (x y : ℕ) (xs ys : List ℕ) → x < y → Rise y ys → times x (y ∷ ys) ≡ times x (x ∷ xs) → ⊥
-not_lower x y xs ys less up same =
-    let none = none_below x y (y ∷ ys) less (omega arith, up) in
-    let one = at_least_one x xs in
-    omega (arith, none, one, same)
-
--- lists that rise and have the same numbers are the same
-one_order : (xs ys : List ℕ) (low bottom : ℕ) → Rise low xs → Rise bottom ys
-    → ((f : ℕ → ℕ) → sum_by f ys ≡ sum_by f xs) → xs ≡ ys
-one_order [] [] low bottom up rise same = refl
-one_order [] (y ∷ ys) low bottom up rise same =
-    let s = same (λ _. 1) in let c = sum_by-cons (λ _. 1) y ys in absurd (omega (arith, s, c))
-one_order (x ∷ xs) [] low bottom up rise same =
-    let s = same (λ _. 1) in let c = sum_by-cons (λ _. 1) x xs in absurd (omega (arith, s, c))
-one_order (x ∷ xs) (y ∷ ys) low bottom up rise same =
-    let first : x ≡ y =
-    ⊎_elim (λ yes. yes.1)
-    (λ no. absurd (⊎_elim
-    (λ less. not_lower x y xs ys less rise.1 (same (λ n. cond (n == x) 1 0)))
-    (λ more. not_lower y x ys xs more up.1 (sym (same (λ n. cond (n == y) 1 0))))
-    (lower_or_above x y no.1)))
-    (eqb_tells x y) in
-    let others : (f : ℕ → ℕ) → sum_by f ys ≡ sum_by f xs =
-    λ f. let s = same f in let c = sum_by-cons f x xs in let d = sum_by-cons f y ys in let e = ap f first in omega (arith, s, c, d, e) in
-    ap (λ n. n ∷ xs) first ∙ ap (λ ns. y ∷ ns) (one_order xs ys x y up.1 rise.1 others)
-
-rising : (ns : List ℕ) (low : ℕ) → ((d : ℕ) → 0 < length ns → low ≤ get_or ns 0 d) → IsNonDecreasing ns → Rise low ns
-rising [] low first up = refl
-rising (n ∷ ns) low first up = (
-  first n (omega arith),
-  rising ns n (λ d some. up 0 1 d (omega arith) (omega (arith, some)))
-      (λ i j d le within. up (suc i) (suc j) d (omega (arith, le)) (omega (arith, within))),
-)
-
-module _ {B : Type 0} where
-  abbrev place : ChunkView B → ℕ
-  place chunk = chunk.from
-
-  rising_by : (chunks : List (ChunkView B)) (low : ℕ) → ((d : ChunkView B) → 0 < length chunks → low ≤ place (get_or chunks 0 d))
-      → IsNonDecreasingBy place chunks → Rise low (map place chunks)
-  rising_by [] low first up = refl
-  rising_by (c ∷ chunks) low first up = (
-    first c (omega arith),
-    rising_by chunks c.from (λ d some. up 0 1 d (omega arith) (omega (arith, some)))
-        (λ i j d le within. up (suc i) (suc j) d (omega (arith, le)) (omega (arith, within))),
-  )
-
-  by_place : (g : ℕ → ChunkView B) (chunks : List (ChunkView B)) → All (λ c. c ≡ g c.from) chunks → chunks ≡ map g (map place chunks)
-  by_place g [] each = refl
-  by_place g (c ∷ chunks) each =
-      ap (λ d. d ∷ chunks) (All-head (λ c. c ≡ g c.from) c chunks each)
-      ∙ ap (λ ds. g c.from ∷ ds) (by_place g chunks (All-tail (λ c. c ≡ g c.from) c chunks each))
-
-  module _ (all : List B) (size : ℕ) where
-    places_of : (places : List ℕ) → map place (map (chunk_at all size) places) ≡ places
-    places_of [] = refl
-    places_of (n ∷ places) = ap (λ ns. n ∷ ns) (places_of places)
-
-    each_there : (places : List ℕ) → All (λ c. c ≡ chunk_at all size c.from) (map (chunk_at all size) places)
-    each_there places = All-map (λ c. c ≡ chunk_at all size c.from) (chunk_at all size) places (λ k d within. refl)
-
-    -- chunks that are sorted by their places stand in the order of the places
-    pub sorted : (found : List (ChunkView B)) (places : List ℕ) → IsNonDecreasing places
-        → IsNonDecreasingBy (λ c. c.from) found → IsPermutation found (map (chunk_at all size) places) → found ≡ map (chunk_at all size) places
-    sorted found places in_order up shuffled =
-        let chunks = map (chunk_at all size) places in
-        let same : (f : ℕ → ℕ) → sum_by f places ≡ sum_by f (map place found) =
-        λ f. sym (ap (sum_by f) (places_of places)) ∙ sum_by-IsPermutation f (map place found) (map place chunks) (IsPermutation-map place found chunks shuffled) in
-        let keys = one_order (map place found) places 0 0 (rising_by found 0 (λ d some. omega arith) up) (rising places 0 (λ d some. omega arith) in_order) same in
-        by_place (chunk_at all size) found (All-permutation (λ c. c ≡ chunk_at all size c.from) chunks found (IsPermutation-sym found chunks shuffled) (each_there places))
-        ∙ ap (map (chunk_at all size)) keys
-
-    flattened : (places : List ℕ) → flat_map (λ c. c.answers) (map (chunk_at all size) places) ≡ flat_map (λ from. take size (drop from all)) places
-    flattened [] = refl
-    flattened (n ∷ places) = ap (λ l. take size (drop n all) ++ l) (flattened places)
-
-  -- all answers, once the chunks are sorted and their answers are behind one another
-  pub put_together : (all answers : List B) (found given : List (ChunkView B)) → AreAllChunksOf all found
-      → IsNonDecreasingBy (λ c. c.from) given → IsPermutation given found → answers ≡ flat_map (λ c. c.answers) given → answers ≡ all
-  put_together all answers found given are up shuffled is =
-      let chunks = map (chunk_at all are.0) are.1 in
-      let same = sorted all are.0 given are.1 are.2.in_order up (IsPermutation-trans given found chunks shuffled are.3) in
-      is ∙ ap (flat_map (λ c. c.answers)) same ∙ flattened all are.0 are.1 ∙ are.2.whole
-
--- the places sent so far: the chunks that begin there are the inputs before the next place
-pub record AreBefore {A : Type 0} (inputs : List A) (size from : ℕ) (places : List ℕ) : Type 0 where
-  pub in_order : IsNonDecreasing places
-  pub before : All (λ place. place ≤ from) places
-  pub whole : flat_map (λ place. take size (drop place inputs)) places ≡ take from inputs
-
-module _ {A : Type 0} where
-  pub none_yet : (inputs : List A) (size : ℕ) → AreBefore inputs size 0 []
-  none_yet inputs size = record {
-    in_order = IsNonDecreasingBy-short (λ n. n) [] (omega arith);
-    before = λ k d within. absurd (omega (arith, within));
-    whole = refl;
-  }
-
-  pub one_more : (inputs : List A) (size from next : ℕ) (places : List ℕ) → AreBefore inputs size from places
-      → next ≡ from + min size (length inputs - from) → AreBefore inputs size next (places ++ from ∷ [])
-  one_more inputs size from next places are end =
-      let low : (d : ℕ) → 0 < length places → get_or places (length places - 1) d ≤ from =
-      λ d some. are.before (length places - 1) d (omega (arith, some)) in
-      let le : from ≤ next = omega (arith, end) in
-      let weaker : All (λ place. place ≤ next) places =
-      λ k d within. let first = are.before k d within in omega (arith, first, le) in
-      let part = λ (place : ℕ). take size (drop place inputs) in
-      let cut : take (min size (length inputs - from)) (drop from inputs) ≡ take size (drop from inputs) =
-      ap (λ n. take (min size n) (drop from inputs)) (sym (length-drop from inputs)) ∙ take_min size (drop from inputs) in
-      let more : flat_map part (places ++ from ∷ []) ≡ take next inputs =
-      flat_map-append part places (from ∷ [])
-      ∙ ap (λ l. l ++ (part from ++ [])) are.whole
-      ∙ ap (λ l. take from inputs ++ l) (append-nil (part from) ∙ sym cut)
-      ∙ sym (take-add from (min size (length inputs - from)) inputs)
-      ∙ ap (λ n. take n inputs) (sym end) in
-      record {
-        in_order = IsNonDecreasingBy-push (λ n. n) places from are.in_order low;
-        before = All-push (λ place. place ≤ next) places from weaker le;
-        whole = more;
-      }
-
-  pub to_the_end : (inputs : List A) (size from : ℕ) (places : List ℕ) → AreBefore inputs size from places → length inputs ≤ from → AreStartsOf inputs size places
-  to_the_end inputs size from places are end = record {
-    in_order = are.in_order;
-    whole = are.whole ∙ take_all from inputs end;
-  }
+pub to_the_end : (count size from : ℕ) (places : List ℕ) → AreBefore count size from places → count ≤ from → AreStartsOf count size places
+to_the_end count size from places are end = record {
+  first = λ some. ⊎_elim (λ is. absurd (omega (arith, some, is, end))) (λ there. there) are.first;
+  next = λ place there less.
+      ⊎_elim (λ is. absurd (omega (arith, is, end, less)))
+      (λ more. ⊎_elim (λ behind. behind) (λ last. absurd (omega (arith, last, less))) more)
+      (are.next place there);
+}
 
 module _ {A B : Type 0} (answer : A → B) where
   -- the answers for a chunk are a chunk of the answers
   pub answered_part : (inputs : List A) (size from : ℕ) → take size (drop from (map answer inputs)) ≡ map answer (take size (drop from inputs))
   answered_part inputs size from = ap (take size) (drop-map answer from inputs) ∙ take-map answer size (drop from inputs)
 
-  all_parts : (inputs : List A) (size : ℕ) (places : List ℕ) → flat_map (λ from. take size (drop from (map answer inputs))) places ≡ map answer (flat_map (λ from. take size (drop from inputs)) places)
-  all_parts inputs size [] = refl
-  all_parts inputs size (n ∷ places) =
-      ap (λ l. l ++ flat_map (λ from. take size (drop from (map answer inputs))) places) (answered_part inputs size n)
-      ∙ ap (λ l. map answer (take size (drop n inputs)) ++ l) (all_parts inputs size places)
-      ∙ sym (map-append answer (take size (drop n inputs)) (flat_map (λ from. take size (drop from inputs)) places))
+module _ {B : Type 0} (all : List B) (size : ℕ) (places : List ℕ) where
+  starts : (from : ℕ) → Contains (map (chunk_at all size) places) (chunk_at all size from) → Contains places from
+  starts from there =
+      let within : there.0 < length places = omega (arith, there.1, length-map places (chunk_at all size)) in (
+        there.0,
+        within,
+        ap (λ (c : ChunkView B). c.from) (sym (get_or-map (chunk_at all size) places there.0 from (chunk_at all size from) within) ∙ there.2),
+      )
 
-  -- what begins the chunks of the inputs begins those of the answers
-  pub starts_of_answers : (inputs : List A) (size : ℕ) (places : List ℕ) → AreStartsOf inputs size places → AreStartsOf (map answer inputs) size places
-  starts_of_answers inputs size places are = record {
-    in_order = are.in_order;
-    whole = all_parts inputs size places ∙ ap (map answer) are.whole;
+  chunk_there : (from : ℕ) → Contains places from → Contains (map (chunk_at all size) places) (chunk_at all size from)
+  chunk_there from there = (
+    there.0,
+    omega (arith, there.1, length-map places (chunk_at all size)),
+    get_or-map (chunk_at all size) places there.0 from (chunk_at all size from) there.1 ∙ ap (chunk_at all size) there.2,
+  )
+
+module _ {B Z : Type 0} (all : List B) (size : ℕ) where
+  pub nothing_came : (kept : ℕ → Option (Vec B Z)) → ((q : ℕ) → kept q ≡ None) → AreSoFar all size [] [] kept
+  nothing_came kept none = record {
+    first = refl;
+    ends = inl refl;
+    each = λ k d within. absurd (omega (arith, within));
+    aside = λ from list is. let clash : ◌≡◌ {A = Option (Vec B Z)} None (Some list) = sym (none from) ∙ is in cc;
   }
+
+  module _ (came : List (ChunkView B)) (answers : List B) (kept after : ℕ → Option (Vec B Z)) (list : Vec B Z) (are : AreSoFar all size came answers kept) where
+    is_kept : (q : ℕ) → after q ≡ Some list → IsSome (after q)
+    is_kept q is = ap is_some is
+
+    -- one more came, and is kept
+    pub one_came : (c : ChunkView B) → c ≡ chunk_at all size c.from → list.items ≡ c.answers
+        → after c.from ≡ Some list → ((q : ℕ) → q ≢ c.from → after q ≡ kept q) → AreSoFar all size (came ++ c ∷ []) answers after
+    one_came c right same here others = record {
+      first = are.first;
+      ends = ⊎_elim (λ none. inl none)
+          (λ e. inr (e.0, Contains-append_left came (c ∷ []) (chunk_at all size e.0) e.1, e.2)) are.ends;
+      each = All-push (λ d. (take size (drop d.from all) ≡ []) ⊎ ((d.from < length answers) ⊎ IsSome (after d.from))) came c
+          (All-weaker (λ d. (take size (drop d.from all) ≡ []) ⊎ ((d.from < length answers) ⊎ IsSome (kept d.from)))
+          (λ d. (take size (drop d.from all) ≡ []) ⊎ ((d.from < length answers) ⊎ IsSome (after d.from)))
+          (λ d is. ⊎_elim (λ none. inl none) (λ some. ⊎_elim (λ less. inr (inl less))
+          (λ there. inr (inr (⊎_elim (λ e. is_kept d.from (ap after e ∙ here)) (λ ne. subst IsSome (sym (others d.from ne)) there) (cases_eq d.from c.from)))) some) is)
+          came are.each)
+          (inr (inr (is_kept c.from here)));
+      aside = λ from found is.
+          ⊎_elim (λ e.
+          let one : ◌≡◌ {A = Option (Vec B Z)} (Some found) (Some list) = sym is ∙ ap after e ∙ here in
+          let found_it : found ≡ list = cc in (
+            ap (λ (v : Vec B Z). v.items) found_it ∙ same ∙ ap (λ (d : ChunkView B). d.answers) right ∙ ap (λ n. take size (drop n all)) (sym e),
+            subst (Contains (came ++ c ∷ [])) (right ∙ ap (chunk_at all size) (sym e)) (Contains-push came c),
+          ))
+          (λ ne.
+          let old = are.aside from found (sym (others from ne) ∙ is) in
+          (old.0, Contains-append_left came (c ∷ []) (chunk_at all size from) old.1))
+          (cases_eq from c.from);
+    }
+
+    -- the one for the next place is appended, and not kept any longer
+    pub one_appended : kept (length answers) ≡ Some list → ((q : ℕ) → q ≢ length answers → after q ≡ kept q)
+        → after (length answers) ≡ None → AreSoFar all size came (answers ++ list.items) after
+    one_appended here others gone =
+        let at = length answers in
+        let old = are.aside at list here in
+        let part = take size (drop at all) in
+        let longer : length (answers ++ list.items) ≡ at + length list.items = length-append answers list.items in
+        let whole : part ≡ take (length list.items) (drop at all) =
+        sym (take_min size (drop at all)) ∙ ap (λ n. take n (drop at all)) (sym (length-take size (drop at all)) ∙ ap length (sym old.0)) in
+        record {
+          first = ap (λ l. answers ++ l) (old.0 ∙ whole) ∙ ap (λ l. l ++ take (length list.items) (drop at all)) are.first
+              ∙ sym (take-add at (length list.items) all) ∙ ap (λ n. take n all) (sym longer);
+          ends = inr (at, old.1, ap (λ l. at + length l) (sym old.0) ∙ sym longer);
+          each = All-weaker (λ d. (take size (drop d.from all) ≡ []) ⊎ ((d.from < at) ⊎ IsSome (kept d.from)))
+              (λ d. (take size (drop d.from all) ≡ []) ⊎ ((d.from < length (answers ++ list.items)) ⊎ IsSome (after d.from)))
+              (λ d is. ⊎_elim (λ none. inl none)
+              (λ some. ⊎_elim (λ less. inr (inl (omega (arith, longer, less))))
+              (λ there. ⊎_elim
+              (λ e. ⊎_elim
+              (λ more. inr (inl (omega (arith, longer, e, more))))
+              (λ none. inl (ap (λ n. take size (drop n all)) e ∙ sym old.0 ∙ nil_from_length list.items (omega (arith, none))))
+              (cases_lt 0 (length list.items)))
+              (λ ne. inr (inr (subst IsSome (sym (others d.from ne)) there)))
+              (cases_eq d.from at)) some) is)
+              came are.each;
+          aside = λ from found is.
+              ⊎_elim (λ e. let clash : ◌≡◌ {A = Option (Vec B Z)} None (Some found) = sym gone ∙ ap after (sym e) ∙ is in cc)
+              (λ ne. are.aside from found (sym (others from ne) ∙ is))
+              (cases_eq from at);
+        }
+
+  -- once all came, and nothing is kept for the next place, all answers are there
+  pub all_there : (places : List ℕ) (came : List (ChunkView B)) (answers : List B) (kept : ℕ → Option (Vec B Z)) → 0 < size
+      → (All (λ c. c ≡ chunk_at all size c.from) came → AreSoFar all size came answers kept)
+      → kept (length answers) ≡ None → AreStartsOf (length all) size places → IsPermutation came (map (chunk_at all size) places) → answers ≡ all
+  all_there places came answers kept some of_chunks none begun same =
+      let at = length answers in
+      let chunks = map (chunk_at all size) places in
+      let right : All (λ c. c ≡ chunk_at all size c.from) chunks = All-map (λ c. c ≡ chunk_at all size c.from) (chunk_at all size) places (λ k d within. refl) in
+      let are = of_chunks (All-permutation (λ c. c ≡ chunk_at all size c.from) chunks came (IsPermutation-sym came chunks same) right) in
+      ⊎_elim (λ less.
+      let next : Contains places at =
+      ⊎_elim (λ zero. subst (Contains places) (sym zero) (begun.first (omega (arith, less))))
+      (λ e.
+      let here = length-take size (drop e.0 all) in
+      let rest = length-drop e.0 all in
+      let end = e.2 in
+      let is : e.0 + size ≡ at = omega (arith, here, rest, end, less) in
+      subst (Contains places) is (begun.next e.0 (starts all size places e.0 (Contains-permutation came chunks (chunk_at all size e.0) same e.1)) (omega (arith, is, less))))
+      are.ends in
+      let it = All-contains (λ d. (take size (drop d.from all) ≡ []) ⊎ ((d.from < at) ⊎ IsSome (kept d.from))) came (chunk_at all size at) are.each
+      (Contains-permutation chunks came (chunk_at all size at) (IsPermutation-sym came chunks same) (chunk_there all size places at next)) in
+      absurd (⊎_elim (λ nil.
+      let here = length-take size (drop at all) in
+      let rest = length-drop at all in
+      let zero : length (take size (drop at all)) ≡ 0 = ap length nil in
+      omega (arith, here, rest, zero, less, some))
+      (λ more. ⊎_elim (λ below. omega (arith, below)) (λ kept_it. let clash : true ≡ false = sym kept_it ∙ ap is_some none in true≢false clash) more) it))
+      (λ last. are.first ∙ take_all at all last)
+      (cases_lt at (length all))
+
+  pub put_in : (came : List (ChunkView B)) (answers : List B) (kept after : ℕ → Option (Vec B Z)) (list : Vec B Z) (c : ChunkView B)
+      → (All (λ d. d ≡ chunk_at all size d.from) came → AreSoFar all size came answers kept) → list.items ≡ c.answers → after c.from ≡ Some list
+      → ((q : ℕ) → q ≢ c.from → after q ≡ kept q) → All (λ d. d ≡ chunk_at all size d.from) (came ++ c ∷ []) → AreSoFar all size (came ++ c ∷ []) answers after
+  put_in came answers kept after list c before same here others right =
+      let is = λ (d : ChunkView B) (there : Contains (came ++ c ∷ []) d). All-contains (λ d. d ≡ chunk_at all size d.from) (came ++ c ∷ []) d right there in
+      one_came came answers kept after list
+      (before (λ k d within. is (get_or came k d) (Contains-append_left came (c ∷ []) (get_or came k d) (Contains-get_or came k d within))))
+      c (is c (Contains-push came c)) same here others
+
+-- a map of numbers has at other keys what it had
+pub elsewhere : {X : Type 0} (old new : BTreeMap ℕ X) (key : ℕ) (value : Option X) → Updates nat_cmp old new key value
+    → (q : ℕ) → q ≢ key → get nat_cmp new q ≡ get nat_cmp old q
+elsewhere old new key value is q ne = is.2 q (unsigned_tied key q ∙ ⊎_elim (λ yes. absurd (ne (sym yes.1))) (λ no. no.0) (eqb_tells key q))

@@ -1,7 +1,5 @@
 -- Runs of places that follow one another.
-use Rattle.std.specs.Prelude.{◌≡◌, ℕ, List, take, drop, map, IsPermutation}
-use Rattle.std.specs.List.{flat_map}
-use Rattle.std.specs.List.Sorted.{IsNonDecreasing}
+use Rattle.std.specs.Prelude.{ℕ, ◌+◌, ◌<◌, List, take, drop, Contains}
 
 -- what contracts see of a chunk: the place of its first input, and the answers in order
 pub record ChunkView (B : Type 0) : Type 0 where
@@ -13,13 +11,8 @@ pub record ChunkView (B : Type 0) : Type 0 where
 abbrev pub chunk_at : {B : Type 0} → List B → ℕ → ℕ → ChunkView B
 chunk_at all size from = record { from = from; answers = take size (drop from all) }
 
--- places in order: the chunks that begin there are all inputs together
-pub record AreStartsOf {A : Type 0} (inputs : List A) (size : ℕ) (places : List ℕ) : Type 0 where
-  pub in_order : IsNonDecreasing places
-  pub whole : flat_map (λ from. take size (drop from inputs)) places ≡ inputs
-
--- the chunks of all answers, each once, in any order
-abbrev pub AreAllChunksOf : {B : Type 0} → List B → List (ChunkView B) → Type 0
-AreAllChunksOf all chunks =
-    (size : ℕ) × (places : List ℕ) × AreStartsOf all size places
-    × IsPermutation chunks (map (chunk_at all size) places)
+-- places of chunks of that size: the first, and behind each the next, unless it is the last
+pub record AreStartsOf (count size : ℕ) (places : List ℕ) : Type 0 where
+  pub first : 0 < count → Contains places 0
+  pub next : (from : ℕ) → Contains places from → from + size < count
+      → Contains places (from + size)

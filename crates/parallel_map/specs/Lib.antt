@@ -1,4 +1,5 @@
 pub mod Chunks
+pub mod Joining
 pub mod Pieces
 pub mod Slots
 pub mod Stamps

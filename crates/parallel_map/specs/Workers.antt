@@ -7,7 +7,9 @@ use Rattle.ruled_channel_rules.specs.declared.handles.Sender.{Sender}
 use Rattle.ruled_channel_rules.specs.declared.log.Log.{Log}
 use Rattle.ruled_channel_rules.specs.Handles.{IsHubOf, IsSenderOf, IsReceiverOf, sent_by, got_by, has_ended}
 use Rattle.ruled_channel_rules.specs.Whole.{hub_log}
+use Rattle.parallel_map.specs.declared.workers.Collector.{Collector}
 use Rattle.parallel_map.specs.Chunks.{ChunkView, chunk_at}
+use Rattle.parallel_map.specs.Joining.{HasJoined}
 
 module _ {B : Type 0} where
   -- a worker receives places by the first channel, and sends chunks by the second
@@ -23,6 +25,11 @@ module _ {B : Type 0} where
   abbrev pub AreDone : List B → ℕ → Receiver ℕ → Sender (ChunkView B) → Type 0
   AreDone all size receiver sender =
       (sent_by sender ≡ map (chunk_at all size) (got_by receiver)) × (has_ended receiver ≡ true)
+
+  -- the caller receives chunks, and has put those together that it received
+  pub record IsCollectorOf (chunks : Channel (ChunkView B)) (collector : Collector B) : Type 0 where
+    pub own : IsReceiverOf chunks collector.receiver
+    pub joined : HasJoined (got_by collector.receiver) collector.joined
 
   -- those who make the ends
   abbrev pub AreHubsOf : Channel ℕ → Channel (ChunkView B) → Hub ℕ → Hub (ChunkView B) → Type 0

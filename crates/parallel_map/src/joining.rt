@@ -1,35 +1,51 @@
-//! Chunks are put together.
+//! Chunks are put together as they come.
 //!
-//! They are sorted by their places, and their answers are appended in turn. As they are
-//! all chunks, each once, the answers stand at the places of their inputs.
-ghost use Rattle.std.specs.Prelude.{◌≡◌, IfOk, IsPermutation, List};
-ghost use Rattle.std.specs.List.Sorted.{IsNonDecreasingBy};
-ghost use Rattle.parallel_map.specs.Chunks.{AreAllChunksOf};
+//! A chunk for the next place is appended. One that comes before its turn is kept aside, under its
+//! place, until the answers reach it.
+ghost use Rattle.std.specs.Prelude.{◌≡◌, ◌++◌, [], ◌∷◌, List, IfOk, OnOk};
+ghost use Rattle.parallel_map.specs.Chunks.{ChunkView};
 
 use crate::chunk::Chunk;
 use std::alloc::{AllocError, Global};
+use std::collections::BTreeMap;
 
-// Sorts chunks by their places.
-fn sort<B: Drop>(chunks: &mut [Chunk<B>])
-    ensures in_order { IsNonDecreasingBy (λ chunk. chunk.from) chunks.new }
-    ensures same { IsPermutation chunks.old chunks.new }
-{
-    chunks.sort_unstable_by_key(|chunk| chunk.from());
+/// The answers so far, and those that came before their turn.
+#[derive(Drop)]
+pub struct Joined<B: Drop> {
+    pub answers: Vec<B>,
+    pub early: BTreeMap<usize, Vec<B>>,
 }
 
-/// All answers, in the order of their places. `count` says for how many there is to be room.
-pub fn join_chunks<B: Drop>(
-    alloc: Global,
-    count: usize,
-    mut chunks: Vec<Chunk<B>>,
-) -> Result<Vec<B>, AllocError>
-    ensures { (all : List B) → AreAllChunksOf all chunks.items
-        → IfOk result (λ answers. answers.items ≡ all) }
-{
-    let mut answers = Vec::with_capacity(alloc, count)?;
-    sort(chunks.as_mut_slice());
-    for chunk in chunks {
-        answers.append(&mut chunk.into_answers())?;
+impl<B: Drop> Joined<B> {
+    ghost use Rattle.parallel_map.specs.Joining.{HasKept, HasJoined};
+
+    /// No answers yet. `count` says for how many there is to be room.
+    pub fn new(alloc: Global, count: usize) -> Result<Self, AllocError>
+        ensures { IfOk result (HasJoined []) }
+    {
+        Ok(Joined {
+            answers: Vec::with_capacity(alloc, count)?,
+            early: BTreeMap::new(alloc),
+        })
     }
-    Ok(answers)
+
+    /// Takes a chunk in.
+    pub fn put(&mut self, chunk: Chunk<B>) -> Result<(), AllocError>
+        ensures { (came : List (ChunkView B)) → HasJoined came self.old
+            → OnOk result (HasJoined (came ++ chunk ∷ []) self.new) }
+    {
+        self.early.insert(chunk.from(), chunk.into_answers())?;
+        self.append_next()
+    }
+
+    // Appends what is kept for the next place, as long as there is something.
+    fn append_next(&mut self) -> Result<(), AllocError>
+        ensures { (came : List (ChunkView B)) → HasKept came self.old
+            → OnOk result (HasJoined came self.new) }
+    {
+        while let Some(mut next) = self.early.remove(&self.answers.len()) {
+            self.answers.append(&mut next)?;
+        }
+        Ok(())
+    }
 }

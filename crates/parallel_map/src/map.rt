@@ -3,14 +3,11 @@ ghost use Rattle.std.specs.Prelude.{◌≡◌, ◌≢◌, ◌<◌, ◌≤◌, �
 ghost use Rattle.identity.specs.Stamps.{next_stamp};
 ghost use Rattle.ruled_channel_rules.specs.Handles.{known};
 ghost use Rattle.ruled_channel_rules.specs.Whole.{hub_log};
-ghost use Rattle.parallel_map.specs.Chunks.{AreAllChunksOf};
 ghost use Rattle.parallel_map.specs.Stamps.{behind_two, DrewTwoAtMost};
 ghost use Rattle.parallel_map.specs.Workers.{AreHubsOf};
 
-use crate::chunk::Chunk;
 use crate::error::MapError;
 use crate::job::{Gate, Job};
-use crate::joining::join_chunks;
 use crate::lines::{bounded_line, unbounded_line};
 use crate::workers::{self, Hubs, Task};
 use identity::{Exact, StampMaker};
@@ -40,13 +37,13 @@ fn chunk_size(count: usize, workers: usize, largest: usize) -> usize
         .max(1)
 }
 
-// The chunks of all answers, by threads that are joined.
+// All answers, by threads that are joined.
 fn answered<A, B, J, G, R>(
     rt: &R,
     task: &Task<'_, A, B, J, G>,
     hubs: Hubs<B>,
     count: usize,
-) -> Result<Vec<Chunk<B>>, MapError>
+) -> Result<Vec<B>, MapError>
 where
     A: Sync,
     B: Drop + Send,
@@ -55,23 +52,22 @@ where
     R: Wait + Threads + Sync,
     requires own { AreHubsOf task.now.places task.now.chunks hubs.places hubs.chunks }
     requires new { (known hubs.places ≡ hub_log 0 0) × (known hubs.chunks ≡ hub_log 0 0) }
-    requires size { 0 < task.now.size }
+    requires size { (0 < task.now.size) × (0 < task.now.most_out) }
     requires count { 0 < count }
-    ensures all { IfOk result (λ found.
-        AreAllChunksOf (map J.answer task.now.inputs.now) found.items) }
+    ensures all { IfOk result (λ answers. answers.items ≡ map J.answer task.now.inputs.now) }
     ensures refused { IfErr result (λ error.
         (error ≡ MapError.OutOfMemory) ⊎ (error ≡ MapError.NoThread)) }
 {
     thread::scope(
         thread::scope_env(),
         rt,
-        move |scope| -> Result<Vec<Chunk<B>>, MapError>
+        move |scope| -> Result<Vec<B>, MapError>
             requires own { AreHubsOf task.now.places task.now.chunks hubs.places hubs.chunks }
             requires new { (known hubs.places ≡ hub_log 0 0) × (known hubs.chunks ≡ hub_log 0 0) }
-            requires size { 0 < task.now.size }
+            requires size { (0 < task.now.size) × (0 < task.now.most_out) }
             requires count { 0 < count }
-            ensures all { IfOk result (λ found.
-                AreAllChunksOf (map J.answer task.entry.now.inputs.now) found.items) }
+            ensures all { IfOk result (λ answers.
+                answers.items ≡ map J.answer task.entry.now.inputs.now) }
             ensures refused { IfErr result (λ error.
                 (error ≡ MapError.OutOfMemory) ⊎ (error ≡ MapError.NoThread)) }
         { workers::run(scope, rt, task, hubs, count) },
@@ -85,7 +81,7 @@ where
 /// or else each worker has at least 32 chunks of at most 8,192 inputs. At most `cap` chunks are on
 /// their way to the workers at a time. The gate is called around the job at each input. When the
 /// call returns, every thread that it started has ended. Beside the answers, room is taken for
-/// about as many again.
+/// those of chunks that are out, or that came before their turn.
 ///
 /// No inputs have no answers: then nothing is asked for. Else both channels are made first, and may
 /// be refused with `OutOfMemory` or `NoStamps`. Then `NoThread` is answered if a worker couldn't
@@ -190,6 +186,7 @@ where
         places: jobs,
         chunks: results,
     };
+    let count = workers.min(inputs.len());
     let task = Task {
         places,
         chunks,
@@ -198,10 +195,7 @@ where
         gate,
         inputs,
         size: chunk_size(inputs.len(), workers, largest),
+        most_out: cap.saturating_add(count),
     };
-    let found = answered(rt, &task, hubs, workers.min(inputs.len()))?;
-    match join_chunks(alloc, inputs.len(), found) {
-        Ok(answers) => Ok(answers),
-        Err(_) => Err(MapError::OutOfMemory),
-    }
+    answered(rt, &task, hubs, count)
 }

@@ -2,20 +2,22 @@
 //!
 //! Each worker takes places from one channel. For each it runs the job on the chunk of inputs that
 //! begins there, and sends the chunk of answers into the other channel. It ends when no more places
-//! come. If it is refused memory it closes the channel of places, so that the others end too,
-//! and nobody waits to send. The caller starts the workers, sends the first place of each chunk and
-//! joins every worker that was started, whatever was refused meanwhile. Both channels are under the
-//! rule that what is received is what is sent. So once all ends are back the caller has the chunks
-//! of all answers, each once.
-ghost use Rattle.std.specs.Prelude.{◌≡◌, ◌+◌, ◌^◌, ◌<◌, ◌⊎◌, [], All, length, take, drop, map, vec_len, true, false, IsTrue, IfOk, IfErr, OnErr, Err, IsPermutation};
+//! come. If it is refused memory it closes both channels, so that the others end too, and the
+//! caller doesn't wait. The caller starts the workers and sends the first place of each chunk.
+//! Once as many chunks are out as the workers can have and as may be on their way, it takes one
+//! back before it sends the next. At last it joins every worker that was started, whatever was
+//! refused meanwhile. Both channels are under the rule that what is received is what is sent. So
+//! once all ends are back the caller has had the chunks of all answers, each once.
+ghost use Rattle.std.specs.Prelude.{◌≡◌, ◌+◌, ◌^◌, ◌<◌, ◌⊎◌, [], All, length, take, drop, map, vec_len, true, false, IsTrue, IfOk, IfErr, IsSome, OnOk, OnErr, Err};
 ghost use Rattle.ruled_channel_rules.specs.Handles.{IsSenderOf, IsReceiverOf, sent_by, got_by, has_ended, sender_closed, receiver_closed, known};
 ghost use Rattle.ruled_channel_rules.specs.Whole.{hub_log, together, sender_log, receiver_log};
-ghost use Rattle.parallel_map.specs.Chunks.{chunk_at, AreStartsOf, AreAllChunksOf};
-ghost use Rattle.parallel_map.specs.Workers.{AreEndsOf, AreNew, AreDone, AreHubsOf, AreFresh, AreBack, AreAllDone};
+ghost use Rattle.parallel_map.specs.Chunks.{chunk_at, AreStartsOf};
+ghost use Rattle.parallel_map.specs.Workers.{AreEndsOf, AreNew, AreDone, AreHubsOf, AreFresh, AreBack, AreAllDone, IsCollectorOf};
 
 use crate::chunk::Chunk;
 use crate::error::MapError;
 use crate::job::{Gate, Job};
+use crate::joining::Joined;
 use ruled_channel_rules::{Channel, Hub, OutOfMemory, Receiver, Sender};
 use std::alloc::{AllocError, Global};
 use std::sync::Wait;
@@ -33,6 +35,8 @@ pub struct Task<'a, A, B: Drop, J, G> {
     pub inputs: &'a [A],
     /// How many inputs a chunk has.
     pub size: usize,
+    /// How many chunks may be out at a time, from when their place is sent until they are back.
+    pub most_out: usize,
 }
 
 impl<A, B: Drop, J, G> Drop for Task<'_, A, B, J, G> {
@@ -45,6 +49,7 @@ impl<A, B: Drop, J, G> Drop for Task<'_, A, B, J, G> {
             gate: _,
             inputs: _,
             size: _,
+            most_out: _,
         } = self;
     }
 }
@@ -61,6 +66,13 @@ pub struct Hubs<B: Drop> {
 struct Ends<B: Drop> {
     places: Receiver<usize>,
     chunks: Sender<Chunk<B>>,
+}
+
+// Who takes chunks back, and what it has put together of them.
+#[derive(Drop)]
+struct Collector<B: Drop> {
+    receiver: Receiver<Chunk<B>>,
+    joined: Joined<B>,
 }
 
 // What a worker hands back: its ends, and whether it worked until no more places came.
@@ -87,8 +99,8 @@ fn answer<A, B: Drop, J: Job<A, B>, G: Gate>(
     Chunk::make(task.alloc, task.job, task.gate, from, part)
 }
 
-// Works at chunks until no more places come. It answers false if memory was refused: then the
-// channel of places is closed, so that nobody waits to send the next one.
+// Works at chunks until no more places come. It answers false if memory was refused: then both
+// channels are closed, so that nobody waits to send the next place or to receive a chunk.
 fn work<A, B, J, G, R>(rt: &R, task: &Task<'_, A, B, J, G>, mut ends: Ends<B>) -> Worked<B>
 where
     B: Drop,
@@ -100,7 +112,8 @@ where
     ensures own { AreEndsOf task.now.places task.now.chunks result.0.places result.0.chunks }
     ensures done { IsTrue result.1 → AreDone (map J.answer task.now.inputs.now) task.now.size
         result.0.places result.0.chunks }
-    ensures gave_up { result.1 ≡ false → receiver_closed result.0.places ≡ true }
+    ensures gave_up { result.1 ≡ false → (receiver_closed result.0.places ≡ true)
+        × (sender_closed result.0.chunks ≡ true) }
 {
     for _ in rt.forever() {
         match ends.places.recv_blocking(rt, &task.places) {
@@ -117,6 +130,7 @@ where
         }
     }
     ends.places.close(rt, &task.places);
+    ends.chunks.close(rt, &task.chunks);
     (ends, false)
 }
 
@@ -216,54 +230,108 @@ where
     Ok(())
 }
 
-// Sends the first place of each chunk, as long as the channel is open. It answers false if that
-// ended, or memory was refused.
-fn send_places<A, R: Wait>(
+// Takes one chunk back. It answers false if no more come.
+fn take_chunk<A, B: Drop, J, G, R: Wait>(
     rt: &R,
-    line: &Channel<usize>,
-    feeder: &mut Sender<usize>,
-    inputs: &[A],
-    size: usize,
-) -> bool
-    requires own { IsSenderOf line.now feeder.old }
-    requires new { sent_by feeder.old ≡ [] }
-    requires size { 0 < size }
-    ensures own { IsSenderOf line.now feeder.new }
-    ensures all { IsTrue result → AreStartsOf inputs.now size (sent_by feeder.new) }
+    task: &Task<'_, A, B, J, G>,
+    collector: &mut Collector<B>,
+) -> Result<bool, OutOfMemory>
+    requires own { IsCollectorOf task.now.chunks collector.old }
+    ensures own { OnOk result (IsCollectorOf task.now.chunks collector.new) }
+    ensures ended { IfOk result (λ came.
+        came ≡ false → has_ended collector.new.receiver ≡ true) }
 {
-    let mut from = 0;
-    while from < inputs.len() {
-        let Ok(Ok(())) = feeder.send_blocking(rt, line, from) else {
+    let Ok(chunk) = collector.receiver.recv_blocking(rt, &task.chunks)? else {
+        return Ok(false);
+    };
+    match collector.joined.put(chunk) {
+        Ok(()) => Ok(true),
+        Err(_) => Err(OutOfMemory),
+    }
+}
+
+// Takes so many chunks back. It answers false if fewer came, or memory was refused.
+fn take_chunks<A, B: Drop, J, G, R: Wait>(
+    rt: &R,
+    task: &Task<'_, A, B, J, G>,
+    collector: &mut Collector<B>,
+    count: usize,
+) -> bool
+    requires own { IsCollectorOf task.now.chunks collector.old }
+    ensures own { IsTrue result → IsCollectorOf task.now.chunks collector.new }
+{
+    for _turn in 0..count {
+        let Ok(true) = take_chunk(rt, task, collector) else {
             return false;
         };
-        from += size.min(inputs.len() - from);
     }
     true
 }
 
-// Sends the first place of each chunk if all workers were started, and closes the channel. It
-// answers whether all places were sent.
+// Sends the first place of each chunk, and takes chunks back while too many are out. It answers
+// how many are out still, or none if a channel was closed or memory was refused.
+fn send_places<A, B: Drop, J, G, R: Wait>(
+    rt: &R,
+    task: &Task<'_, A, B, J, G>,
+    feeder: &mut Sender<usize>,
+    collector: &mut Collector<B>,
+) -> Option<usize>
+    requires own { IsSenderOf task.now.places feeder.old
+        × IsCollectorOf task.now.chunks collector.old }
+    requires new { sent_by feeder.old ≡ [] }
+    requires size { (0 < task.now.size) × (0 < task.now.most_out) }
+    ensures own { IsSenderOf task.now.places feeder.new }
+    ensures collector { IsSome result → IsCollectorOf task.now.chunks collector.new }
+    ensures all { IsSome result
+        → AreStartsOf (length task.now.inputs.now) task.now.size (sent_by feeder.new) }
+{
+    let mut from = 0;
+    let mut out = 0;
+    while from < task.inputs.len() {
+        if out == task.most_out {
+            let Ok(true) = take_chunk(rt, task, collector) else {
+                return None;
+            };
+            out -= 1;
+        }
+        let Ok(Ok(())) = feeder.send_blocking(rt, &task.places, from) else {
+            return None;
+        };
+        out += 1;
+        from += task.size.min(task.inputs.len() - from);
+    }
+    Some(out)
+}
+
+// Sends the first place of each chunk if all workers were started, closes the channel of places,
+// and takes the chunks back. It answers whether all came.
 fn feed<A, B: Drop, J, G, R: Wait>(
     rt: &R,
     task: &Task<'_, A, B, J, G>,
     feeder: &mut Sender<usize>,
+    collector: &mut Collector<B>,
     are_started: bool,
 ) -> bool
-    requires own { IsSenderOf task.now.places feeder.old }
+    requires own { IsSenderOf task.now.places feeder.old
+        × IsCollectorOf task.now.chunks collector.old }
     requires new { sent_by feeder.old ≡ [] }
-    requires size { 0 < task.now.size }
+    requires size { (0 < task.now.size) × (0 < task.now.most_out) }
     ensures own { IsSenderOf task.now.places feeder.new }
+    ensures collector { IsTrue result → IsCollectorOf task.now.chunks collector.new }
     ensures all { IsTrue result
-        → AreStartsOf task.now.inputs.now task.now.size (sent_by feeder.new) }
+        → AreStartsOf (length task.now.inputs.now) task.now.size (sent_by feeder.new) }
     ensures closed { sender_closed feeder.new ≡ true }
 {
     if !are_started {
         feeder.close(rt, &task.places);
         return false;
     }
-    let all_sent = send_places(rt, &task.places, feeder, task.inputs, task.size);
+    let out = send_places(rt, task, feeder, collector);
     feeder.close(rt, &task.places);
-    all_sent
+    match out {
+        Some(count) => take_chunks(rt, task, collector, count),
+        None => false,
+    }
 }
 
 // Takes the ends of a worker back.
@@ -308,44 +376,71 @@ fn join_all<'s, 'a: 's, A, B: Drop, J: Job<A, B>, G, R: Threads>(
     all_well
 }
 
-// All chunks that the workers have sent. The rule of both channels says that they are those for
-// the places that were sent, each once.
+// Finds the end of the chunks.
+fn end<A, B: Drop, J, G, R: Wait>(
+    rt: &R,
+    task: &Task<'_, A, B, J, G>,
+    collector: &mut Collector<B>,
+) -> Result<(), OutOfMemory>
+    requires own { IsCollectorOf task.now.chunks collector.old }
+    ensures own { OnOk result (IsCollectorOf task.now.chunks collector.new) }
+    ensures ended { OnOk result (has_ended collector.new.receiver ≡ true) }
+{
+    collector.receiver.close(rt, &task.chunks);
+    for _ in rt.forever() {
+        let Ok(came) = take_chunk(rt, task, collector) else {
+            break;
+        };
+        if !came {
+            return Ok(());
+        }
+    }
+    Err(OutOfMemory)
+}
+
+// All answers. The rule of both channels says that the chunks that came are those for the places
+// that were sent, each once.
 fn collect<A, B: Drop, J: Job<A, B>, G, R: Wait>(
     rt: &R,
     task: &Task<'_, A, B, J, G>,
     hubs: &mut Hubs<B>,
     feeder: Sender<usize>,
-    mut collector: Receiver<Chunk<B>>,
-) -> Result<Vec<Chunk<B>>, OutOfMemory>
+    mut collector: Collector<B>,
+) -> Result<Vec<B>, OutOfMemory>
     requires own { AreHubsOf task.now.places task.now.chunks hubs.old.places hubs.old.chunks }
     requires feeder { IsSenderOf task.now.places feeder }
-    requires collector { IsReceiverOf task.now.chunks collector × (got_by collector ≡ []) }
+    requires collector { IsCollectorOf task.now.chunks collector }
+    requires size { 0 < task.now.size }
+    requires all { AreStartsOf (length task.now.inputs.now) task.now.size (sent_by feeder) }
     requires some { 0 < (known hubs.old.places).receivers }
     requires back { AreBack (known hubs.old.places).receivers
         (known hubs.old.places) (known hubs.old.chunks) }
     requires done { AreAllDone (map J.answer task.now.inputs.now) task.now.size
         (known hubs.old.places) (known hubs.old.chunks) }
-    ensures { IfOk result (λ found. IsPermutation found.items
-        (map (chunk_at (map J.answer task.now.inputs.now) task.now.size) (sent_by feeder))) }
+    ensures { IfOk result (λ answers. answers.items ≡ map J.answer task.now.inputs.now) }
 {
-    collector.close(rt, &task.chunks);
-    let found = collector.recv_all(rt, task.alloc, &task.chunks)?;
+    end(rt, task, &mut collector)?;
+    let Collector { receiver, joined } = collector;
+    let Joined {
+        answers,
+        early: _early,
+    } = joined;
     hubs.places.take_sender(&task.places, feeder);
     hubs.places.settle(rt, &task.places);
-    hubs.chunks.take_receiver(&task.chunks, collector);
+    hubs.chunks.take_receiver(&task.chunks, receiver);
     hubs.chunks.settle(rt, &task.chunks);
-    Ok(found)
+    Ok(answers)
 }
 
-/// Starts the workers, sends the first place of each chunk, waits for the workers and takes the
-/// chunks.
+/// Starts the workers, sends the first place of each chunk, puts the chunks together that come
+/// back, and waits for the workers.
 pub fn run<'s, 'a: 's, E, A, B, J, G, R>(
     scope: &'s Scope<'s, E>,
     rt: &'s R,
     task: &'s Task<'a, A, B, J, G>,
     mut hubs: Hubs<B>,
     count: usize,
-) -> Result<Vec<Chunk<B>>, MapError>
+) -> Result<Vec<B>, MapError>
 where
     A: Sync + 'a,
     B: Drop + Send + 'a,
@@ -354,27 +449,30 @@ where
     R: Wait + Threads + Sync + 's,
     requires own { AreHubsOf task.now.places task.now.chunks hubs.places hubs.chunks }
     requires new { (known hubs.places ≡ hub_log 0 0) × (known hubs.chunks ≡ hub_log 0 0) }
-    requires size { 0 < task.now.size }
+    requires size { (0 < task.now.size) × (0 < task.now.most_out) }
     requires count { 0 < count }
-    ensures all { IfOk result (λ found.
-        AreAllChunksOf (map J.answer task.now.inputs.now) found.items) }
+    ensures all { IfOk result (λ answers. answers.items ≡ map J.answer task.now.inputs.now) }
     ensures refused { IfErr result (λ error.
         (error ≡ MapError.OutOfMemory) ⊎ (error ≡ MapError.NoThread)) }
 {
     let Ok(mut workers) = Vec::with_capacity(task.alloc, count) else {
         return Err(MapError::OutOfMemory);
     };
+    let Ok(joined) = Joined::new(task.alloc, task.inputs.len()) else {
+        return Err(MapError::OutOfMemory);
+    };
     let mut feeder = hubs.places.sender(&task.places);
-    let collector = hubs.chunks.receiver(&task.chunks);
+    let receiver = hubs.chunks.receiver(&task.chunks);
+    let mut collector = Collector { receiver, joined };
     let started = start_all(scope, rt, task, &mut hubs, count, &mut workers);
-    let all_sent = feed(rt, task, &mut feeder, started.is_ok());
+    let all_came = feed(rt, task, &mut feeder, &mut collector, started.is_ok());
     let all_well = join_all(rt, task, &mut hubs, workers);
     started?;
-    if !all_sent || !all_well {
+    if !all_came || !all_well {
         return Err(MapError::OutOfMemory);
     }
     match collect(rt, task, &mut hubs, feeder, collector) {
-        Ok(chunks) => Ok(chunks),
+        Ok(answers) => Ok(answers),
         Err(_) => Err(MapError::OutOfMemory),
     }
 }
