@@ -2,8 +2,8 @@
 //!
 //! The inputs are cut into chunks, whose places follow one another. The first place of each chunk
 //! goes out to workers through one channel, and its answers come back through another, with that
-//! place. Chunks come in any order. They are put in order, and their answers are appended, a chunk
-//! in one step.
+//! place. Chunks come in any order. While the workers run, the caller appends each in its turn, in
+//! one step.
 //!
 //! Both channels are those of `ruled_channel_rules`: what is sent is what is received, each message
 //! once. A worker's thread promises that it has sent the chunk for each place that it received. So
