@@ -15,7 +15,7 @@ all_at : {X : Type 0} (P : X → Type 0) (before : List X) (x : X) (after : List
 all_at P [] x after all = all 0 x (omega arith)
 all_at P (y ∷ ys) x after all = all_at P ys x after (λ i d low. all (suc i) d (omega (arith, low)))
 
-pub itself : (n : ℕ) → (n == n) ≡ true
+itself : (n : ℕ) → (n == n) ≡ true
 itself n = ⊎_elim (λ yes. yes.0) (λ no. absurd (no.1 refl)) (eqb_tells n n)
 
 -- the pieces for the place of one of them are one more than those before it and after it
@@ -100,7 +100,7 @@ no_first : {A : Type 0} (inputs : List A) (pieces before : List (PieceView A)) (
 no_first inputs pieces before piece sound f at = none_at_fault inputs before piece f.after
     (subst (AreSound inputs) f.split sound) at
 
-pub lower_or_above : (a b : ℕ) → a ≢ b → (a < b) ⊎ (b < a)
+lower_or_above : (a b : ℕ) → a ≢ b → (a < b) ⊎ (b < a)
 lower_or_above zero zero ne = absurd (ne refl)
 lower_or_above zero (suc b) ne = inl (omega arith)
 lower_or_above (suc a) zero ne = inr (omega arith)
