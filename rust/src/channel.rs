@@ -16,7 +16,7 @@ mod batches;
 
 use crate::lock::Lock;
 use crate::marks::{Mark, Marks, Told};
-use crate::primitives::{abort, turns, yield_now, AtomicUsize};
+use crate::primitives::{abort, pause, turns, AtomicUsize};
 use crate::proved::channel_core::{Core as ProvedCore, Group, Upgrade, HANDLE_LIMIT};
 use crate::proved::event_list::Ticket;
 use crate::shim::Global;
@@ -27,8 +27,11 @@ use std::task::{Context, Poll};
 
 type Core<T> = ProvedCore<T, Mark>;
 
-/// How often a thread looks before it waits, with others running in between.
-const LOOKS: u32 = turns(10);
+/// How often a thread looks before it waits.
+const LOOKS: u32 = turns(20);
+
+/// How long it pauses between two looks.
+const PAUSES: u32 = 20;
 
 /// What the handles of a channel share.
 pub(crate) struct Channel<T> {
@@ -369,15 +372,15 @@ impl<T> Channel<T> {
     }
 }
 
-/// Looks whether a thread may go on, and lets others run in between. That is cheaper than to sleep
-/// if another thread is about to make it so.
+/// Looks whether a thread may go on, and pauses in between. That is cheaper than to sleep if another
+/// thread is about to make it so.
 #[inline]
 fn await_turn(may_go_on: impl Fn() -> bool) {
     for _look in 0..LOOKS {
         if may_go_on() {
             return;
         }
-        yield_now();
+        pause(PAUSES);
     }
 }
 

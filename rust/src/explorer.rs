@@ -333,7 +333,8 @@ pub(crate) fn park() {
     }
 }
 
-pub(crate) fn yield_now() {
+/// Lets others run, however long it is.
+pub(crate) fn pause(_pauses: u32) {
     if let Some((run, me)) = mine() {
         run.meet(me, Status::Ready, false);
     }

@@ -3,14 +3,19 @@
 use std::panic::{RefUnwindSafe, UnwindSafe};
 
 #[cfg(any(not(feature = "parking_lot"), test))]
-use crate::primitives::{turns, yield_now};
+use crate::primitives::{pause, turns};
 use crate::primitives::{Mutex, MutexGuard};
 #[cfg(any(not(feature = "parking_lot"), test))]
 use std::sync::{PoisonError, TryLockError};
 
-/// How often a thread lets others run before it sleeps until the lock is free.
+/// How often a thread looks at a taken lock before it sleeps until it is free.
 #[cfg(any(not(feature = "parking_lot"), test))]
-const TURNS: u32 = turns(8);
+const LOOKS: u32 = turns(5);
+
+/// How long it pauses before each look: so long that whoever has the lock can take it many times, and
+/// its cache lines stay where they are.
+#[cfg(any(not(feature = "parking_lot"), test))]
+const PAUSES: u32 = 300;
 
 /// A value that one thread at a time can reach.
 ///
@@ -48,8 +53,8 @@ impl<V> Lock<V> {
     #[cfg(any(not(feature = "parking_lot"), test))]
     #[cold]
     fn wait(&self) -> MutexGuard<'_, V> {
-        for _turn in 0..TURNS {
-            yield_now();
+        for _look in 0..LOOKS {
+            pause(PAUSES);
             if let Some(guard) = self.try_lock() {
                 return guard;
             }

@@ -5,14 +5,14 @@
 
 #[cfg(test)]
 pub(crate) use crate::explorer::{
-    abort, current, park, yield_now, AtomicBool, AtomicUsize, Mutex, MutexGuard, Thread,
+    abort, current, park, pause, AtomicBool, AtomicUsize, Mutex, MutexGuard, Thread,
 };
 #[cfg(not(test))]
 pub(crate) use std::process::abort;
 #[cfg(not(test))]
 pub(crate) use std::sync::atomic::{AtomicBool, AtomicUsize};
 #[cfg(not(test))]
-pub(crate) use std::thread::{current, park, yield_now, Thread};
+pub(crate) use std::thread::{current, park, Thread};
 
 #[cfg(all(feature = "parking_lot", not(test)))]
 pub(crate) use parking_lot::{Mutex, MutexGuard};
@@ -25,5 +25,14 @@ pub(crate) const fn turns(count: u32) -> u32 {
         1
     } else {
         count
+    }
+}
+
+/// Lets some time go by, so many of the processor's pauses. A thread doesn't yield: if all
+/// processors are busy, it may get no turn for milliseconds then.
+#[cfg(not(test))]
+pub(crate) fn pause(pauses: u32) {
+    for _ in 0..pauses {
+        std::hint::spin_loop();
     }
 }

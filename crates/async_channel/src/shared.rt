@@ -14,9 +14,9 @@ use std::sync::{Arc, Mutex, MutexGuard, Wait};
 ///
 /// It pauses between two looks, and doesn't yield: if all processors are busy, whoever yields may get
 /// no turn for milliseconds. In a trial, eight threads kept four processors busy beside one producer
-/// and one consumer at 128 places: a message took 38 microseconds with yields, and 0.4 with pauses.
-/// Alone, both took a tenth.
-pub(crate) const LOOKS: u32 = 20;
+/// and one consumer at 128 places: a message took 38 microseconds with yields, and 0.5 with pauses.
+/// Alone on the machine, both took 0.07.
+pub(crate) const LOOKS: u32 = 40;
 
 // How many of the processor's pauses are between two looks at the channel.
 const PAUSES: u32 = 20;
@@ -25,8 +25,9 @@ const PAUSES: u32 = 20;
 const LOCK_LOOKS: u32 = 5;
 
 // How many pauses are before each look at a taken lock: so many that whoever has it can take several
-// steps, and its cache lines stay where they are.
-const LOCK_PAUSES: u32 = 60;
+// steps, and its cache lines stay where they are. With 60, four producers and four consumers at 128
+// places took twice as long.
+const LOCK_PAUSES: u32 = 150;
 
 fn pause(pauses: u32) {
     for _ in 0..pauses {

@@ -57,7 +57,7 @@ const LOOKS: u32 = 5;
 // How many of the processor's pauses are before each look: so many that whoever has the lock can
 // take it several times, and its cache lines stay where they are. A thread doesn't yield: if all
 // processors are busy, it may get no turn for milliseconds then.
-const PAUSES: u32 = 60;
+const PAUSES: u32 = 150;
 
 fn pause() {
     for _ in 0..PAUSES {
