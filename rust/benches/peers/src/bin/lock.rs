@@ -1,5 +1,6 @@
 //! What it costs to meet at the lock: threads that take it as the crate's calls do, once for each
 //! message that they would send or receive, and add one under it.
+use std::hint;
 use std::sync::{Barrier, Mutex};
 use std::thread;
 use std::time::{Duration, Instant};
@@ -7,14 +8,14 @@ use std::time::{Duration, Instant};
 const MESSAGES: u32 = 1_000_000;
 const ROUNDS: usize = 7;
 
-/// Takes the lock as the crate does: it looks, lets others run up to eight times, and then sleeps.
+/// Takes the lock as the crate does: it looks, pauses up to five times, and then sleeps.
 fn take(lock: &Mutex<u64>) {
-    for _turn in 0..=8 {
+    for _look in 0..=5 {
         if let Ok(mut count) = lock.try_lock() {
             *count += 1;
             return;
         }
-        thread::yield_now();
+        (0..300).for_each(|_| hint::spin_loop());
     }
     *lock.lock().expect("nobody panics under the lock") += 1;
 }
