@@ -11,7 +11,7 @@ pub record ChunkView (B : Type 0) : Type 0 where
 abbrev pub chunk_at : {B : Type 0} → List B → ℕ → ℕ → ChunkView B
 chunk_at all size from = record { from = from; answers = take size (drop from all) }
 
--- places of chunks of that size: the first, and behind each the next, unless it is the last
+-- places of chunks of that size: the first, and after each the next, unless it is the last
 pub record AreStartsOf (count size : ℕ) (places : List ℕ) : Type 0 where
   pub first : 0 < count → Contains places 0
   pub next : (from : ℕ) → Contains places from → from + size < count
