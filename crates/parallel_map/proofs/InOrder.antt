@@ -13,8 +13,8 @@ use Rattle.std.specs.Prelude.{IsPermutation, IsSome, is_some, Option, Some, None
 use Rattle.parallel_map.specs.Chunks.{ChunkView, chunk_at, AreStartsOf}
 use Rattle.parallel_map.specs.Joining.{AreSoFar}
 
--- the places sent so far: the first, and behind each the next, unless that is to be sent now or is
--- behind the last
+-- the places sent so far: the first, and after each the next, unless that is to be sent now or is
+-- after the last
 pub record AreBefore (count size from : ℕ) (places : List ℕ) : Type 0 where
   pub first : (from ≡ 0) ⊎ Contains places 0
   pub next : (place : ℕ) → Contains places place
