@@ -1,69 +1,96 @@
 # `make run` and `make test` do everything on a fresh machine.
 
-.PHONY: help run tour try test tools rust clients check facts bench
+.PHONY: help kit run tour try test pages programs rust rust-scripts clients oldest original check facts bench
 
 PROCESSORS := $(shell nproc)
 export RT_JOBS ?= $(PROCESSORS)
-
-# What proves in `make test`, over what earlier checks kept. The gate, .ci/run, has `rt ci` here.
-PROVE = rt all test --jobs $(PROCESSORS)
 
 help:
 	@echo 'make run    proves and builds the channel, and runs trysend'
 	@echo 'make tour   the same of chanrun, on examples/tour.chan'
 	@echo 'make try    runs both before any proof, in about a minute'
-	@echo 'make test   proves and tests everything over what earlier checks kept; make tools'
-	@echo 'make tools  examples, built programs, pictures, refused requests, facts; make rust'
-	@echo 'make rust   builds and tests the Rust crate, and compares it with the proved chanrun'
+	@echo 'make test   proves and tests everything over what earlier checks kept'
+	@echo 'make rust   builds and tests the Rust crate'
 	@echo 'make clients runs the tests of Debian'"'"'s crates over async-channel and over the Rust crate'
+	@echo 'make original makes random runs beside async-channel itself'
+	@echo 'make oldest builds the Rust crate with the compiler of Debian 12'
 	@echo 'make check  proves every crate, lowest first, over what earlier checks kept'
-	@echo 'make facts  writes the tables of crates and contracts from the sources'
-	@echo 'make bench  measures the waiting list, the handles, the parallel map, scripts, runs and orders'
-	@echo '.ci/run     the gate: make test from nothing, and edits that the prover must refuse'
+	@echo 'make facts  writes the tables of the pages that come from the sources'
+	@echo 'make bench  measures the waiting list, the handles, the parallel map, scripts, runs and orders,'
+	@echo '            and writes it into docs/figures.txt'
+	@echo '.ci/run     the gate: make test from nothing, and edits that the prover must refuse;'
+	@echo '            at its end stands what each part took'
 
-run:
+kit:
+	@command -v rt > /dev/null || { echo 'make: rt is missing: it is in the Rattle kit, see "Try it" in README.md' >&2; exit 1; }
+
+run: kit
 	cd crates/trysend && rt run
 
-tour:
+tour: kit
 	cd crates/program_chanrun && rt run < ../../examples/tour.chan
 
-try:
-	@cd crates/trysend && rt try 2> /dev/null
-	@cd crates/program_chanrun && rt try < ../../examples/tour.chan 2> /dev/null
+# What a command says beside its output is shown if it fails.
+failing = log=$$(mktemp); $(1) 2> "$$log" || { cat "$$log" >&2; rm "$$log"; exit 1; }; rm "$$log"
 
-test:
+try: kit
+	@cd crates/trysend && $(call failing,rt try)
+	@cd crates/program_chanrun && $(call failing,rt try < ../../examples/tour.chan)
+
+test: kit pages
+	rt all test --jobs $(PROCESSORS)
+	$(MAKE) --no-print-directory programs rust rust-scripts
+
+# What needs no proof.
+pages:
 	tools/facts
-	$(PROVE)
-	$(MAKE) --no-print-directory tools
-
-tools:
 	tools/facts_tests
 	tools/examples_tests
+	tools/edits --places
+	tools/refused_requests_tests
+
+# What needs the proved programs and libraries.
+programs:
+	tools/compare_handles
+	tools/compare_handles_tests
 	tools/examples
 	python3 tools/chanrun_runs.py
 	python3 tools/explorations/check.py
-	python3 tools/pictures/check.py
-	tools/refused_requests_tests
+	tools/picture_tests
 	python3 tools/refused_requests.py
-	$(MAKE) --no-print-directory rust
+	tools/held_bytes
 
 rust:
 	tools/rust_gate
 
+rust-scripts:
+	tools/rust_scripts_tests
+	. tools/rust_cargo.sh && timeout --verbose 900 tools/rust_scripts
+
 clients:
 	. tools/rust_cargo.sh && tools/rust_clients
 
-check:
+original:
+	tools/rust_original
+
+oldest:
+	tools/rust_oldest
+
+check: kit
 	rt all check
 
 facts:
 	tools/facts --write
 
 bench:
-	cd crates/bench_channel && rt run -- measure
-	tools/held_bytes
+	cd crates/bench_channel && rt run > /dev/null
+	for table in waiters channel map; do \
+	    tools/figures $$table crates/bench_channel/out/bench_channel measure $$table || exit 1; done
+	tools/figures held tools/held_bytes
 	cd crates/program_chanrun && rt run < ../../examples/tour.chan > /dev/null
-	tools/script_times.py
+	tools/figures scripts tools/script_times.py
 	cd crates/program_chanexplore && rt run < stdin > /dev/null
-	tools/explore_times.py
-	. tools/rust_cargo.sh && cd rust/scripts && cargo run --quiet --release --bin run_steps
+	tools/figures orders tools/explore_times.py
+	. tools/rust_cargo.sh && cd rust/scripts && \
+	    ../../tools/figures runs cargo run --quiet --release --bin run_steps
+	tools/facts --write

@@ -3,8 +3,9 @@
 
 A case is a folder: args (one a line), stdin, stdout, stderr and status. The file stdout_to, if
 there is one, names a device that standard output goes to. Status and both streams are compared.
-The gate leaves the program built; if it isn't, `rt run` builds it. The last line counts the
-cases, and the status is 0 if all passed.
+Of one case each of the three is then changed, and the difference has to be named. The gate leaves
+the program built; if it isn't, `rt run` builds it. The last line counts the cases, and the status
+is 0 if all passed.
 """
 
 import pathlib
@@ -31,8 +32,17 @@ def told(case, name):
     return path.read_bytes() if path.is_file() else b""
 
 
-def differences(program, case):
-    """Runs one case, and names what is other than it says."""
+def wanted_of(case):
+    """What has to come of a case."""
+    return {
+        "status": int(told(case, "status")),
+        "stdout": told(case, "stdout"),
+        "stderr": told(case, "stderr"),
+    }
+
+
+def differences(program, case, wanted):
+    """Runs one case, and names what is other than wanted."""
     arguments = told(case, "args").decode().splitlines()
     device = told(case, "stdout_to").decode().strip()
     with open(device or "/dev/null", "wb") as output:
@@ -43,13 +53,18 @@ def differences(program, case):
             stderr=subprocess.PIPE,
             timeout=SECONDS,
         )
-    wanted = {
-        "status": int(told(case, "status")),
-        "stdout": told(case, "stdout"),
-        "stderr": told(case, "stderr"),
-    }
     given = {"status": ran.returncode, "stdout": ran.stdout or b"", "stderr": ran.stderr}
     return [f"{it}: {given[it]!r}, not {wanted[it]!r}" for it in wanted if given[it] != wanted[it]]
+
+
+def overlooked(program, case):
+    """Which of the three may be other than wanted, with no difference named."""
+    wanted = wanted_of(case)
+    others = {"status": wanted["status"] + 1, "stdout": b"other", "stderr": b"other"}
+    return [
+        it for it, other in others.items()
+        if len(differences(program, case, {**wanted, it: other})) != 1
+    ]
 
 
 def main():
@@ -57,11 +72,14 @@ def main():
     cases = sorted(it for it in (TOOLS / "chanrun_runs").iterdir() if it.is_dir())
     failed = 0
     for case in cases:
-        wrong = differences(program, case)
+        wrong = differences(program, case, wanted_of(case))
         failed += bool(wrong)
         print(f"chanrun: {case.name}: {'; '.join(wrong) or 'ok'}")
-    print(f"chanrun: {len(cases) - failed} passed, {failed} failed")
-    return 0 if cases and not failed else 1
+    missed = overlooked(program, TOOLS / "chanrun_runs" / "good_script")
+    for it in missed:
+        print(f"chanrun: another {it} isn't seen")
+    print(f"chanrun: {len(cases) - failed} passed, {failed + len(missed)} failed")
+    return 0 if cases and not failed and not missed else 1
 
 
 if __name__ == "__main__":

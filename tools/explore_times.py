@@ -1,5 +1,5 @@
 #!/usr/bin/env python3
-"""Compares what a step costs in the built chanexplore and in the built chanrun, on the same lines.
+"""Compares a step of the built chanexplore with the same line of the built chanrun.
 
 One row has one party with many lines, and so one order; the other has three parties with 34,650
 orders, each made on a channel of its own. A row's time is the best of some runs, without what a
@@ -54,14 +54,15 @@ def main():
     many = LINES * 15_000
     idle = seconds([chanrun], script(LINES[:1]))
     plain = (seconds([chanrun], script(many)) - idle) / len(many)
-    print(f"a line in chanrun: {plain * 1e9:.0f} ns")
+    print("| Lines | ns a step | to a line of chanrun |\n|---|---|---|")
+    print(f"| in chanrun | {plain * 1e9:.0f} | 1.0 |")
     worst = 0.0
     for name, parties, steps in rows():
         lines = [line for n, acts in enumerate(parties) for line in [f"party p{n}", *acts]]
         begin = seconds([explore], script(["party p", LINES[0]]))
         step = (seconds([explore], script(lines)) - begin) / steps
         worst = max(worst, step / plain)
-        print(f"{name}: {step * 1e9:.0f} ns a step, {step / plain:.1f} times")
+        print(f"| {name} | {step * 1e9:.0f} | {step / plain:.1f} |")
     return 0 if worst <= GOAL else 1
 
 

@@ -1,4 +1,4 @@
-"""Random scripts for `chanrun`, by a seed and a number, one in six of them spoilt.
+"""Random scripts for `chanrun`, one in six of them spoilt.
 
 Names are picked from those that are probably live, so that most lines are more than a refusal.
 Nothing here says what a reply should be.

@@ -1,62 +1,96 @@
 #!/usr/bin/env python3
-"""Makes each worked row with its requests for memory refused one by one.
+"""Makes each row with its requests for memory refused one by one.
 
-    tools/refused_requests.py            compares, too, how many requests each row makes
-    tools/refused_requests.py --write    stores how many, in refused_requests/requests.txt
+    tools/refused_requests.py            compares, too, what is stored of each row
+    tools/refused_requests.py --write    stores it, in refused_requests/requests.txt
 
-Two built programs make the rows: chanrun those that are scripts, and test_memory those of every
-layer below (the waiting list, the queue and the core, runs, handles, operations, the recorder). An
-allocator laid in front of a program counts its requests, and refuses the one that it is told to. It
-stands in front of each call of the C library that gives memory.
+Three built programs make the rows: chanrun and test_channel the scripts of test_channel/data that
+both make, test_channel also those of batches; chanrun those of tools/chanrun_runs; and test_memory
+what no script says. An allocator laid in front of a program counts its requests, and refuses the one
+that it is told to. It stands in front of each call of the C library that gives memory.
 
-Each row is made once with all memory, and must print what it is to print. Then it is made again for
-each request, and that one request is refused. chanrun may end as before, or with a beginning of its
-replies, status 1 and the line `out of memory`. test_memory must print the same replies as before;
-on standard error stands at most that the call which made this request was refused, and the program
-makes that call again by itself, once it has seen that nothing else changed. If a recorder's
-`finish` is refused the row begins anew, after the line `row again`. Anything else is a difference.
-So is a request by a call of which test_memory says that it makes none. Of maps by threads it is
-left open which call makes a request, and how many there are.
+Each row is made once with all memory, and must write and end with what it is to. Then it is made
+again for each request, and that one request is refused. Four things may come of that:
 
-A line is printed for each row: how many of its requests were refused in turn, how many of them were
-answered as refused, how many changed nothing, and how many came to something else. Of the longest
-scripts the first and the last requests are refused. The status is 0 if nothing differed, every
-row asked for memory, made as many requests as are stored for it, and every call of test_memory that
-asked was refused once. What is stored is what the programs made: it is written anew if a row
-comes or goes, or if one is meant to make another number of requests.
+- unchanged: it writes and ends with the same, since it goes on without that memory.
+- again: it writes the same, and ends with status 1 and the line that a call was refused memory, and
+  made again. So the call said that it was refused, and handed its message back; what the channel
+  holds and who waits was as before; and all that came later was as if nothing had been. A batch may
+  have moved a part before, and is made again for the rest.
+- ended: it writes a beginning of the same, and ends with status 1 and the line that there is no
+  memory. chanrun ends like this; the other two if it is their own memory, and no call's.
+- different: anything else, which is a fault.
+
+A line is printed for each row, with how many of its requests came to each. Of the longest scripts
+the first and the last requests are refused. The status is 0 if nothing differed, each row asked for
+memory, and as many of its requests came to each as are stored. What is stored is what the programs
+did: it is written anew if a row comes or goes, or if one is meant to make other requests. Of maps
+nothing is stored, since their threads make another number of requests each time.
 """
 
 import os
 import pathlib
-import re
 import subprocess
 import sys
 import tempfile
+from collections import Counter
 from concurrent.futures import ThreadPoolExecutor
+from dataclasses import dataclass
 
 TOOLS = pathlib.Path(__file__).resolve().parent
 CRATES = TOOLS.parent / "crates"
-ROWS = CRATES / "test_rows" / "src" / "rows"
+DATA = CRATES / "test_channel" / "data"
 CASES = TOOLS / "chanrun_runs"
 STORED = TOOLS / "refused_requests" / "requests.txt"
-# The rows whose calls start threads.
-BY_THREADS = {"maps by threads"}
 # How many requests of a long script are refused, from either end.
 ENDS = 50
+# How many further requests of a row by threads are refused, if they are made.
+MORE = 20
 SECONDS = 60
-OUT_OF_MEMORY = (1, b"out of memory\n")
-AGAIN = "row again\n"
-MARK = re.compile(r"^(may|no) request: ", re.MULTILINE)
+AGAIN = (1, b"a call was refused memory, and made again\n")
+WITHOUT_MEMORY = [
+    (1, line)
+    for line in (
+        b"out of memory\n",
+        b"Error: out of memory\n",
+        b"Error: memory allocation failed\n",
+        b"Error: memory was refused\n",
+    )
+]
 
 
-def built(name):
-    """The program as the gate leaves it, or as `rt run` builds it."""
-    crate = CRATES / name
-    program = crate / "out" / name
-    if not program.is_file():
-        with open(crate / "stdin", "rb") as script:
-            subprocess.run(["rt", "run"], cwd=crate, stdin=script, stdout=subprocess.DEVNULL)
-    return program
+@dataclass
+class Row:
+    """What a program is run on, and what it writes and ends with if memory is there."""
+
+    program: str
+    name: str
+    output: bytes
+    arguments: tuple = ()
+    script: bytes = b""
+    ending: tuple = (0, b"")
+    is_long: bool = False
+    is_by_threads: bool = False
+
+    def __str__(self):
+        return f"{self.program}: {self.name}"
+
+    def numbers(self, made):
+        """The requests that are refused in turn, if it makes so many."""
+        numbers = range(1, made + 1 + MORE * self.is_by_threads)
+        if self.is_long and made > 2 * ENDS:
+            return [*numbers[:ENDS], *numbers[-ENDS:]]
+        return list(numbers)
+
+    def outcome(self, output, ending):
+        """What came of a refused request."""
+        if (output, ending) == (self.output, self.ending):
+            return "unchanged"
+        if (output, ending) == (self.output, AGAIN):
+            return "again"
+        if ending in WITHOUT_MEMORY and self.output.startswith(output):
+            return "ended"
+        return "different"
 
 
 class Sweep:
@@ -65,7 +99,6 @@ class Sweep:
     def __init__(self, folder):
         self.folder = folder
         self.allocator = folder / "refuse.so"
-        self.programs = {name: built(name) for name in ("program_chanrun", "test_memory")}
         source = TOOLS / "refused_requests" / "refuse.c"
         command = ["cc", "-O2", "-shared", "-fPIC", "-o", self.allocator, source]
         subprocess.run(command, check=True)
@@ -76,7 +109,7 @@ class Sweep:
         if counted:
             environment["COUNTED"] = str(counted)
         ran = subprocess.run(
-            [self.programs[row.program], *row.arguments],
+            [built(row.program), *row.arguments],
             input=row.script,
             capture_output=True,
             env=environment,
@@ -84,278 +117,154 @@ class Sweep:
         )
         return ran.stdout, (ran.returncode, ran.stderr)
 
-    def counts(self, row):
-        """How many requests were made at each line that the row wrote, and at its end."""
+    def requests(self, row):
+        """How many requests the row makes with all memory."""
         counted = self.folder / "counted"
-        output, ending = self.run(row, counted=counted)
-        if not row.is_as_wanted(output) or ending != row.ending:
-            raise SystemExit(f"refused: {row.name}: with all memory: {ending}, {output!r}")
-        return [int(it) for it in counted.read_text().split()]
+        ran = self.run(row, counted=counted)
+        if ran != (row.output, row.ending):
+            raise SystemExit(f"refused: {row}: with all memory: {ran}")
+        return int(counted.read_text())
+
+    def outcomes(self, row, pool):
+        """How many requests the row makes, and what came of each that was refused."""
+        made = self.requests(row)
+        numbers = row.numbers(made)
+        ran = pool.map(lambda number: self.run(row, number), numbers)
+        return made, {number: row.outcome(*it) for number, it in zip(numbers, ran)}
 
 
-class Script:
-    """A script for chanrun, and what it writes and ends with if memory is there."""
-
-    program = "program_chanrun"
-    arguments = ()
-    is_counted = True
-
-    def __init__(self, name, script, output, status=0, error=b"", is_long=False):
-        self.name, self.script, self.output = name, script, output
-        self.ending = (status, error)
-        self.is_long = is_long
-
-    def is_as_wanted(self, output):
-        return output == self.output
-
-    def made(self, counts):
-        """How many requests it makes."""
-        return counts[-1]
-
-    def numbers(self, counts):
-        """The requests that are refused in turn."""
-        numbers = range(1, counts[-1] + 1)
-        if self.is_long and len(numbers) > 2 * ENDS:
-            return [*numbers[:ENDS], *numbers[-ENDS:]]
-        return list(numbers)
-
-    def faults(self, _counts):
-        return []
-
-    def outcome(self, _counts, _number, output, ending):
-        if (output, ending) == (self.output, self.ending):
-            return "unchanged"
-        if ending == OUT_OF_MEMORY and self.output.startswith(output):
-            return "refused"
-        return "different"
-
-    def never_refused(self, _counts, _outcomes):
-        return []
-
-
-class Calls:
-    """A row of test_memory: a line for each call, with its reply after ` => `."""
-
-    program = "test_memory"
-    ending = (0, b"")
-    is_counted = True
-
-    def __init__(self, name, arguments, output, script=b"", is_marked=True):
-        self.name, self.arguments, self.output = name, arguments, output
-        self.script, self.is_marked = script, is_marked
-        self.lines = []
-
-    def is_as_wanted(self, output):
-        """Whether the replies are the row's. The first time, with all memory, they are kept."""
-        text = output.decode()
-        self.lines = self.lines or text.splitlines()
-        return (text if self.is_marked else MARK.sub("", text)) == self.output
-
-    def calls(self, counts):
-        """Each line's mark and call, with the requests that were made before it and with it."""
-        for line, before, behind in zip(self.lines, [counts[0], *counts], counts):
-            mark, colon, rest = line.partition(": ")
-            yield mark if colon else "", rest.rpartition(" => ")[0], before, behind
-
-    def made(self, counts):
-        """How many requests it makes, after the line that begins the row."""
-        return counts[-1] - counts[0]
-
-    def numbers(self, counts):
-        """The requests that are refused in turn: those after the line that begins the row."""
-        return list(range(counts[0] + 1, counts[-1] + 1))
-
-    def faults(self, counts):
-        """What is wrong with the requests as they were counted."""
-        if len(counts) != len(self.lines) + 1:
-            return ["another number of lines"]
-        calls = self.calls(counts)
-        wrong = [call for mark, call, low, high in calls if mark != "may request" and low != high]
-        if counts[-1] != counts[-2]:
-            wrong.append("the end of the row")
-        return [f"a request is made by: {it}" for it in wrong]
-
-    def caller(self, counts, number):
-        """The call that makes this request."""
-        return next(call for _, call, low, high in self.calls(counts) if low < number <= high)
-
-    def outcome(self, counts, number, output, ending):
-        *begun, whole = output.decode().split(AGAIN)
-        wanted = as_lines(self.lines[1:] if begun else self.lines)
-        beginning = as_lines(self.lines)
-        is_begun = len(begun) <= 1 and all(beginning.startswith(it) for it in begun)
-        if whole != wanted or not is_begun or ending[0] != 0:
-            return "different"
-        caller = self.caller(counts, number)
-        refusal = f"refused: {caller}\n".encode()
-        return {b"": "unchanged", refusal: "refused"}.get(ending[1], "different")
-
-    def never_refused(self, counts, outcomes):
-        """The calls that asked for memory, of which no request was answered as refused."""
-        for _, call, low, high in self.calls(counts):
-            mine = [outcomes[number] for number in range(low + 1, high + 1)]
-            if mine and "refused" not in mine:
-                yield call
-
-
-class Threads(Calls):
-    """A row of test_memory whose threads make another number of requests each time.
-
-    So nothing is stored of it. Which call makes a request isn't known either: any may say that it
-    was refused.
-    """
-
-    is_counted = False
-    # how many further requests are refused, if they are made
-    MORE = 20
-
-    def numbers(self, counts):
-        return list(range(counts[0] + 1, counts[-1] + 1 + self.MORE))
-
-    def faults(self, counts):
-        return [] if len(counts) == len(self.lines) + 1 else ["another number of lines"]
-
-    def outcome(self, counts, _number, output, ending):
-        calls = {call for _, call, _, _ in self.calls(counts)}
-        refusals = {(0, f"refused: {call}\n".encode()) for call in calls}
-        if output.decode() != self.output or ending not in {self.ending, *refusals}:
-            return "different"
-        return "unchanged" if ending == self.ending else "refused"
-
-    def never_refused(self, _counts, outcomes):
-        return [] if "refused" in outcomes.values() else [self.name]
+def built(name):
+    """The program as the gate leaves it, or as `rt run` builds it."""
+    crate = CRATES / name
+    program = crate / "out" / name
+    if not program.is_file():
+        subprocess.run(["rt", "run"], cwd=crate, stdin=subprocess.DEVNULL, capture_output=True)
+    return program
 
 
 def as_lines(lines):
     return "".join(line + "\n" for line in lines)
 
 
-def worked_rows():
-    """The worked rows: their names, and their lines with the replies."""
-    texts = [path.read_text(encoding="utf-8") for path in sorted(ROWS.glob("*.rt"))]
-    pattern = re.compile(r'name: "([^"]+)",\s*lines: "\\\n(.*?)",', re.DOTALL)
-    found = [row for text in texts for row in pattern.findall(text)]
-    return [(name, lines.split("\n")) for name, lines in found]
+def stored_rows(name):
+    """The rows of a file of test_channel: their names, and their lines with the answers."""
+    _, *rows = (DATA / name).read_text("utf-8").split("\n\n")
+    for row in rows:
+        title, *lines = row.strip().splitlines()
+        yield title.removeprefix("# "), lines
 
 
-def parted(lines):
-    """The script of a row, and its replies."""
-    parts = [line.partition("=> ") for line in lines]
-    script = [step.rstrip() for step, _, _ in parts if step]
-    return as_lines(script).encode(), [reply for _, arrow, reply in parts if arrow]
+def scripts():
+    """The rows that chanrun makes, too."""
+    for path in sorted(DATA.glob("*.rows")):
+        for name, lines in stored_rows(path.name):
+            lines = as_lines(lines).replace(", ", "\n=> ").splitlines()
+            parts = [line.partition("=> ") for line in lines]
+            script = as_lines(step.rstrip() for step, _, _ in parts if step)
+            output = as_lines(reply for _, arrow, reply in parts if arrow)
+            yield Row("program_chanrun", name, output.encode(), script=script.encode())
 
 
-def script_rows():
-    for name, lines in worked_rows():
-        script, replies = parted(lines)
-        yield Script(name, script, as_lines(replies).encode())
+def rows_of_handles():
+    """The same rows by handles, and those of batches."""
+    for path in [*sorted(DATA.glob("*.rows")), DATA / "batches.calls"]:
+        for name, lines in stored_rows(path.name):
+            count = sum(" => " in line for line in lines)
+            output = f"1 rows, {count} lines, 0 differences\n".encode()
+            arguments = ("0", "1", "/dev/stdin")
+            yield Row("test_channel", name, output, arguments, as_lines(lines).encode())
 
 
-def faulty_rows():
+def faulty_scripts():
     """The stored runs of chanrun on standard input alone, most of which end with a fault."""
     for case in sorted(CASES.iterdir()):
         if (case / "args").exists() or (case / "stdout_to").exists():
             continue
         script, output, error = ((case / it).read_bytes() for it in ("stdin", "stdout", "stderr"))
-        status = int((case / "status").read_text())
-        yield Script(case.name.replace("_", " "), script, output, status, error)
+        ending = (int((case / "status").read_text()), error)
+        name = case.name.replace("_", " ")
+        yield Row("program_chanrun", name, output, script=script, ending=ending)
 
 
-def long_rows():
+def long_scripts():
     """Scripts at the limit of their length, and past it."""
     longest = b"bounded 10\n" + b"len s0\n" * 149_795
-    yield Script("the longest script", longest, b"0\n" * 149_795, is_long=True)
-    error = b"input is too long\n"
-    yield Script("one byte more", longest + b"l", b"", status=1, error=error, is_long=True)
+    for name, script, output, ending in [
+        ("the longest script", longest, b"0\n" * 149_795, (0, b"")),
+        ("one byte more", longest + b"l", b"", (1, b"input is too long\n")),
+    ]:
+        yield Row("program_chanrun", name, output, (), script, ending, is_long=True)
 
 
-def run_rows():
-    """The rows in script form, step by step and, if they are steps alone, as one list."""
-    for name, lines in worked_rows():
-        script, replies = parted(lines)
-        output = ["row step by step", "new => a run", *lines[1:], "drop of the run => done"]
-        yield Calls(
-            f"{name}, step by step", ["step by step"], as_lines(output), script, is_marked=False
-        )
-        if not re.search(rb"^(notice|settle)\b", script, re.MULTILINE):
-            output = ["row as a list", f"run_all => {len(replies)}"]
-            output += [f"=> {reply}" for reply in replies]
-            yield Calls(f"{name}, as a list", ["as a list"], as_lines(output), script, False)
+def other_rows():
+    """The rows of test_memory, as its stored run names them."""
+    for name in (CRATES / "test_memory" / "stdout").read_text("utf-8").splitlines():
+        output, is_by_threads = as_lines([name]).encode(), name.startswith("a map ")
+        yield Row("test_memory", name, output, (name,), is_by_threads=is_by_threads)
 
 
-def own_rows():
-    """The rows that test_memory makes by itself, as its stored run has them."""
-    text = (CRATES / "test_memory" / "stdout").read_text(encoding="utf-8")
-    for row in re.split(r"^(?=row )", text, flags=re.MULTILINE)[1:]:
-        name = row.splitlines()[0].removeprefix("row ")
-        yield (Threads if name in BY_THREADS else Calls)(name, [name], row)
+def numbered(rows):
+    """The rows, of which each further one of a name has a number."""
+    seen = Counter()
+    for row in rows:
+        seen[str(row)] += 1
+        if seen[str(row)] > 1:
+            row.name += f" {seen[str(row)]}"
+        yield row
 
 
-def stored_requests():
-    """How many requests each row makes, as it is stored, by the row's name."""
+def text_of(made, outcomes):
+    """What is stored of a row."""
+    came = Counter(outcomes.values())
+    parts = [f"{came[it]} {it}" for it in ("again", "ended", "unchanged")]
+    return f"{made} requests, {', '.join(parts)}"
+
+
+def faults_of(row, outcomes):
+    """What is wrong with a row, whatever is stored of it."""
+    wrong = [f"{row}: request {it} differs" for it, what in outcomes.items() if what == "different"]
+    return wrong if outcomes else [f"{row}: no request is made"]
+
+
+def stored():
+    """What is stored of each row, by the row's name."""
     lines = STORED.read_text("utf-8").splitlines() if STORED.is_file() else []
-    return {name: int(number) for number, _, name in (line.partition(" ") for line in lines)}
+    return {name: text for name, _, text in (line.rpartition(": ") for line in lines)}
 
 
-def differences(stored, made):
-    """What is to say if the rows make other numbers of requests than are stored."""
-    names = {**stored, **made}
+def differences(before, now):
+    """What is to say if something else is stored of the rows."""
     return [
-        f"{name}: {made.get(name, 'no')} requests, and {stored.get(name, 'none')} stored"
-        for name in names if stored.get(name) != made.get(name)
+        f"{name}: {now.get(name, 'no row')}; stored is: {before.get(name, 'nothing')}"
+        for name in {**before, **now} if before.get(name) != now.get(name)
     ]
-
-
-def sweep_row(sweep, pool, row):
-    """Refuses each request of the row. It answers how many, what came of them, and the faults."""
-    counts = sweep.counts(row)
-    numbers = row.numbers(counts)
-    ran = pool.map(lambda number: sweep.run(row, number), numbers)
-    outcomes = {number: row.outcome(counts, number, *it) for number, it in zip(numbers, ran)}
-    given = list(outcomes.values())
-    faults = row.faults(counts)
-    faults += [f"never refused: {call}" for call in row.never_refused(counts, outcomes)]
-    faults += [f"request {it} differs" for it, what in outcomes.items() if what == "different"]
-    if not numbers:
-        faults.append("no request is made")
-    print(
-        f"refused: {row.name}: {len(numbers)} requests, {given.count('refused')} refused, "
-        f"{given.count('unchanged')} unchanged, {given.count('different')} different"
-    )
-    for fault in faults:
-        print(f"refused: {row.name}: {fault}")
-    return row.made(counts), given, faults
 
 
 def main():
     is_written = sys.argv[1:] == ["--write"]
     if sys.argv[1:] and not is_written:
         raise SystemExit(__doc__)
-    rows = [*own_rows(), *run_rows(), *script_rows(), *faulty_rows(), *long_rows()]
-    made, names, given, faults = {}, set(), [], []
+    now, total, faults = {}, Counter(), []
     with tempfile.TemporaryDirectory() as folder, ThreadPoolExecutor(os.cpu_count()) as pool:
         sweep = Sweep(pathlib.Path(folder))
-        for row in rows:
-            name = f"{row.program}: {row.name}"
-            faults += [f"two rows are {name}"] if name in names else []
-            names.add(name)
-            count, of_row, wrong = sweep_row(sweep, pool, row)
-            if row.is_counted:
-                made[name] = count
-            given += of_row
-            faults += wrong
+        rows = [*other_rows(), *rows_of_handles(), *scripts(), *faulty_scripts(), *long_scripts()]
+        for row in numbered(rows):
+            made, outcomes = sweep.outcomes(row, pool)
+            total.update(outcomes.values())
+            text = text_of(made, outcomes)
+            print(f"refused: {row}: {text}")
+            if not row.is_by_threads:
+                now[str(row)] = text
+            faults += faults_of(row, outcomes)
     if is_written:
-        STORED.write_text("".join(f"{made[name]} {name}\n" for name in made), "utf-8")
-    wrong = differences(stored_requests(), made)
-    for line in wrong:
-        print(f"refused: {line}")
-    faults += wrong
-    print(
-        f"refused: {len(rows)} rows, {len(given)} requests refused in turn: "
-        f"{given.count('refused')} refused, {given.count('unchanged')} unchanged, "
-        f"{given.count('different')} different; {sum(made.values())} made; {len(faults)} faults"
-    )
-    return 0 if rows and not faults else 1
+        STORED.write_text(as_lines(f"{name}: {text}" for name, text in now.items()), "utf-8")
+    faults += differences(stored(), now)
+    for fault in faults:
+        print(f"refused: {fault}")
+    parts = ", ".join(f"{count} {what}" for what, count in sorted(total.items()))
+    print(f"refused: {len(rows)} rows, {total.total()} requests refused in turn: {parts}; "
+          f"{len(faults)} faults")
+    return 1 if faults else 0
 
 
 if __name__ == "__main__":

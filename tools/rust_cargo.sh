@@ -1,4 +1,4 @@
-# Has cargo at hand for the Rust crate in rust/: to be sourced at the top of the repository.
+# Has cargo at hand for the other Rust tools. To be sourced at the top of the repository.
 #
 # If cargo's registry can't be reached it takes Debian's packaged crates in its place, and installs
 # those that are missing.
@@ -6,7 +6,10 @@
 # What the tests need from Debian, if the registry can't be reached.
 packages='librust-async-executor-dev librust-futures-core-dev librust-futures-lite-dev
 librust-parking-lot-dev librust-slab-dev librust-tokio-dev'
+# What loom needs, which the models are made with.
+packages="$packages librust-generator-dev librust-scoped-tls-dev librust-tracing-subscriber-dev"
 debian=/usr/share/cargo/registry
+. tools/debian_release.sh
 target=${CARGO_TARGET_DIR:-$PWD/rust/target}
 export CARGO_TARGET_DIR="$target"
 
@@ -29,19 +32,27 @@ install_missing() {
     apt-get install -y -qq --no-install-recommends $missing > /dev/null
 }
 
-# A home of cargo's in which Debian's folder stands for the registry.
+# The crates of the machine's release, and of Debian 13's loom if that hasn't it.
+gather() {
+    mkdir -p "$target/debian/registry"
+    ln -sfn "$debian"/* "$target/debian/registry"
+    for loom in "$debian"/loom-0.5.*; do
+        [ -d "$loom" ] && return
+    done
+    loom="$target/debian/trixie/tree$debian"
+    [ -d "$loom" ] || {
+        step "loom of Debian 13"
+        use_release trixie "$target/debian/trixie"
+        unpack librust-loom-dev
+    }
+    ln -sfn "$loom"/loom-* "$target/debian/registry"
+}
+
+# Debian's crates stand for the registry.
 use_debian() {
     install_missing
-    mkdir -p "$target/debian"
-    cat > "$target/debian/config.toml" <<END
-[source.crates-io]
-replace-with = "debian"
-[source.debian]
-directory = "$debian"
-[net]
-offline = true
-END
-    export CARGO_HOME="$target/debian"
+    gather
+    source_from "$target/debian" "$target/debian/registry"
     # A lock that the registry made has other versions.
     rm -f rust/Cargo.lock rust/*/Cargo.lock
 }

@@ -1,5 +1,5 @@
 #!/usr/bin/env python3
-"""How long the proved chanrun takes for scripts with many names, next to a cheap one of its size.
+"""How long the built chanrun takes for scripts with many names, to a cheap one of its size.
 
     tools/script_times.py [PROGRAM]
 

@@ -1,20 +1,34 @@
 //! A thread that waits for a future, by a waker of its own.
+//!
+//! It doesn't sleep by its `park`: an `unpark` that comes meanwhile is its caller's, and stays.
 
-use crate::primitives::{current, park, turns, AtomicBool, Thread};
+use crate::primitives::{thread_local, turns, AtomicUsize, Condvar, StdMutex};
 use std::cell::Cell;
 use std::future::Future;
 use std::pin::Pin;
 use std::sync::atomic::Ordering;
-use std::sync::Arc;
+use std::sync::{Arc, PoisonError};
 use std::task::{Context, Poll, Wake, Waker};
 
 /// How often a thread looks again before it sleeps.
 const LOOKS: u32 = turns(40);
 
-/// What wakes a thread: a word that says so, and the thread to be unparked.
+/// What a thread does, or what was done to it.
+const AWAKE: usize = 0;
+const ASLEEP: usize = 1;
+const WOKEN: usize = 2;
+
+/// How a state is read and written. Whoever wakes a thread has had the channel's lock before, and the
+/// thread takes it next, so it needs no other order.
+const ORDER: Ordering = Ordering::Relaxed;
+
+/// What wakes a thread.
 struct Parker {
-    thread: Thread,
-    woken: AtomicBool,
+    /// One of the three above.
+    state: AtomicUsize,
+    /// The thread has it from when it says that it is asleep until it is.
+    bed: StdMutex<()>,
+    bell: Condvar,
 }
 
 impl Wake for Parker {
@@ -23,28 +37,38 @@ impl Wake for Parker {
     }
 
     fn wake_by_ref(self: &Arc<Self>) {
-        if !self.woken.swap(true, Ordering::Release) {
-            self.thread.unpark();
+        if self.state.swap(WOKEN, ORDER) == ASLEEP {
+            drop(self.bed.lock());
+            self.bell.notify_one();
         }
     }
 }
 
 impl Parker {
     fn new() -> Arc<Self> {
-        Arc::new(Parker { thread: current(), woken: AtomicBool::new(false) })
+        let (bed, bell) = (StdMutex::new(()), Condvar::new());
+        Arc::new(Parker { state: AtomicUsize::new(AWAKE), bed, bell })
     }
 
     /// Waits until somebody wakes this thread.
     fn wait(&self) {
         for _look in 0..LOOKS {
-            if self.woken.swap(false, Ordering::Acquire) {
+            if self.take_wake() {
                 return;
             }
             std::hint::spin_loop();
         }
-        while !self.woken.swap(false, Ordering::Acquire) {
-            park();
+        let mut bed = self.bed.lock().unwrap_or_else(PoisonError::into_inner);
+        let _ = self.state.compare_exchange(AWAKE, ASLEEP, ORDER, ORDER);
+        while self.state.load(ORDER) == ASLEEP {
+            bed = self.bell.wait(bed).unwrap_or_else(PoisonError::into_inner);
         }
+        self.take_wake();
+    }
+
+    /// Whether somebody woke this thread since it asked last. It is awake from then on.
+    fn take_wake(&self) -> bool {
+        self.state.swap(AWAKE, ORDER) == WOKEN
     }
 }
 
@@ -54,9 +78,9 @@ thread_local! {
 }
 
 /// Polls a future until it is ready, and sleeps whenever it is pending until it is woken.
-pub(crate) fn block_on<F: Future + Unpin>(mut future: F) -> F::Output {
+pub fn block_on<F: Future + Unpin>(mut future: F) -> F::Output {
     let parker = PARKER.try_with(Cell::take).ok().flatten().unwrap_or_else(Parker::new);
-    parker.woken.store(false, Ordering::Relaxed);
+    parker.state.store(AWAKE, ORDER);
     let waker = Waker::from(parker.clone());
     let mut context = Context::from_waker(&waker);
     loop {

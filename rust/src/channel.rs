@@ -16,6 +16,7 @@ mod batches;
 
 use crate::lock::Lock;
 use crate::marks::{Mark, Marks, Told};
+use crate::operations::Wait;
 use crate::primitives::{abort, pause, turns, AtomicUsize};
 use crate::proved::channel_core::{Core as ProvedCore, Group, Upgrade, HANDLE_LIMIT};
 use crate::proved::event_list::Ticket;
@@ -23,6 +24,7 @@ use crate::shim::Global;
 use crate::{RecvError, SendError, TryRecvError, TrySendError};
 use std::num::NonZeroUsize;
 use std::sync::atomic::Ordering;
+use std::sync::{Arc, Weak};
 use std::task::{Context, Poll};
 
 type Core<T> = ProvedCore<T, Mark>;
@@ -33,10 +35,23 @@ const LOOKS: u32 = turns(20);
 /// How long it pauses between two looks.
 const PAUSES: u32 = 20;
 
+/// How `seen` is written: in the one order of all calls on all channels. Who sends on one channel and
+/// then reads of another, while somebody does so the other way round, may count on that. On x86 the
+/// unlock after it does as much.
+const SEEN: Ordering = if cfg!(any(target_arch = "x86", target_arch = "x86_64")) {
+    Ordering::Release
+} else {
+    Ordering::SeqCst
+};
+
+/// The way of a waiting operation to its channel, which it doesn't keep.
+pub(crate) type Link<T> = Option<Weak<Channel<T>>>;
+
 /// What the handles of a channel share.
 pub(crate) struct Channel<T> {
-    /// The proved state.
-    core: Lock<Core<T>>,
+    /// The proved state, and the link of an operation that ended: the next one that waits takes it,
+    /// for less than a new one costs.
+    locked: Lock<(Core<T>, Link<T>)>,
     /// The most messages that it may hold, which never changes.
     capacity: Option<NonZeroUsize>,
     /// Twice the number of messages, and one more if the channel is closed.
@@ -55,7 +70,7 @@ impl<T> Channel<T> {
             None => Core::unbounded(Global),
         };
         Channel {
-            core: Lock::new(core),
+            locked: Lock::new((core, None)),
             capacity: capacity.and_then(NonZeroUsize::new),
             seen: AtomicUsize::new(0),
             senders: AtomicUsize::new(1),
@@ -66,13 +81,20 @@ impl<T> Channel<T> {
     /// Makes a step under the lock, and then wakes those whom it told.
     #[inline]
     fn step<A>(&self, step: impl FnOnce(&mut Core<T>, &mut Told) -> A) -> A {
+        self.step_beside(|core, _spare, told| step(core, told))
+    }
+
+    /// Makes a step that may take the spare link, or leave one.
+    #[inline]
+    fn step_beside<A>(&self, step: impl FnOnce(&mut Core<T>, &mut Link<T>, &mut Told) -> A) -> A {
         let mut told = Told::default();
         let answer = {
-            let mut core = self.core.lock();
-            let answer = step(&mut core, &mut told);
+            let mut locked = self.locked.lock();
+            let (core, spare) = &mut *locked;
+            let answer = step(core, spare, &mut told);
             let seen = 2 * core.len() + usize::from(core.is_closed());
             if seen != self.seen.load(Ordering::Relaxed) {
-                self.seen.store(seen, Ordering::Release);
+                self.seen.store(seen, SEEN);
             }
             answer
         };
@@ -89,18 +111,20 @@ impl<T> Channel<T> {
     /// again.
     #[inline]
     fn poll<A>(
-        &self,
+        self: &Arc<Self>,
         group: Group,
         ticket: &mut Option<Ticket>,
+        mut link: Option<&mut Link<T>>,
         context: &Context<'_>,
         mut poll: impl FnMut(&mut Core<T>, &mut Option<Ticket>, &mut Marks, &mut Told) -> Poll<A>,
     ) -> Poll<A> {
         let will_wait = ticket.is_none() && group != Group::Closeds;
         let mut marks = Marks { own: will_wait.then(|| Mark::of(context)), back: None };
         loop {
-            let answer = self.step(|core, told| {
+            let answer = self.step_beside(|core, spare, told| {
                 let only_looks = marks.own.is_none();
                 let answer = poll(core, ticket, &mut marks, told);
+                self.settle(ticket, link.as_deref_mut(), spare);
                 let is_done = answer.is_ready() || !only_looks || {
                     let left = ticket.as_ref().and_then(|ticket| core.payload(group, ticket));
                     left.map_or(false, |left| left.will_wake(context))
@@ -134,11 +158,12 @@ impl<T> Channel<T> {
 
     #[inline]
     pub(crate) fn poll_send(
-        &self,
+        self: &Arc<Self>,
         message: &mut Option<T>,
-        ticket: &mut Option<Ticket>,
+        wait: &mut Wait<T>,
         context: &Context<'_>,
     ) -> Poll<Result<(), SendError<T>>> {
+        let Wait { ticket, link, .. } = wait;
         let may_go_on = ticket.is_none() && self.has_room();
         if let Some(sent) = may_go_on.then(|| message.take()).flatten() {
             match self.try_send(sent) {
@@ -147,7 +172,7 @@ impl<T> Channel<T> {
                 Err(TrySendError::Full(sent)) => *message = Some(sent),
             }
         }
-        self.poll(Group::Sends, ticket, context, |core, ticket, marks, told| {
+        self.poll(Group::Sends, ticket, Some(link), context, |core, ticket, marks, told| {
             let Marks { own, back } = marks;
             with_memory(core.poll_send_with(message, ticket, own, told, back))
         })
@@ -155,10 +180,11 @@ impl<T> Channel<T> {
 
     #[inline]
     pub(crate) fn poll_recv(
-        &self,
-        ticket: &mut Option<Ticket>,
+        self: &Arc<Self>,
+        wait: &mut Wait<T>,
         context: &Context<'_>,
     ) -> Poll<Result<T, RecvError>> {
+        let Wait { ticket, link, .. } = wait;
         if ticket.is_none() && self.has_message() {
             match self.try_recv() {
                 Ok(message) => return Poll::Ready(Ok(message)),
@@ -166,7 +192,7 @@ impl<T> Channel<T> {
                 Err(TryRecvError::Empty) => {}
             }
         }
-        self.poll(Group::Receives, ticket, context, |core, ticket, marks, told| {
+        self.poll(Group::Receives, ticket, Some(link), context, |core, ticket, marks, told| {
             let Marks { own, back } = marks;
             with_memory(core.poll_recv_with(ticket, own, told, back))
         })
@@ -174,7 +200,7 @@ impl<T> Channel<T> {
 
     #[inline]
     pub(crate) fn poll_next(
-        &self,
+        self: &Arc<Self>,
         ticket: &mut Option<Ticket>,
         context: &Context<'_>,
     ) -> Poll<Option<T>> {
@@ -185,35 +211,62 @@ impl<T> Channel<T> {
                 Err(TryRecvError::Empty) => {}
             }
         }
-        self.poll(Group::Streams, ticket, context, |core, ticket, marks, told| {
+        self.poll(Group::Streams, ticket, None, context, |core, ticket, marks, told| {
             let Marks { own, back } = marks;
             with_memory(core.poll_next_with(ticket, own, told, back))
         })
     }
 
     pub(crate) fn poll_closed(
-        &self,
-        ticket: &mut Option<Ticket>,
+        self: &Arc<Self>,
+        wait: &mut Wait<T>,
         context: &Context<'_>,
     ) -> Poll<()> {
-        self.poll(Group::Closeds, ticket, context, |core, ticket, marks, _told| {
+        let Wait { ticket, link, .. } = wait;
+        self.poll(Group::Closeds, ticket, Some(link), context, |core, ticket, marks, _told| {
             let Marks { own, back } = marks;
             with_memory(core.poll_closed_with(ticket, own, back))
         })
     }
 
-    /// Gives the wait of an operation up, if it waits.
+    /// Gives the wait of an operation or a stream up, if it waits.
     #[inline]
-    pub(crate) fn cancel(&self, group: Group, ticket: &mut Option<Ticket>) {
+    pub(crate) fn cancel(
+        self: &Arc<Self>,
+        group: Group,
+        ticket: &mut Option<Ticket>,
+        link: Option<&mut Link<T>>,
+    ) {
         if ticket.is_none() {
             return;
         }
-        let _left = self.step(|core, told| match group {
-            Group::Sends => core.withdraw_send(ticket, told),
-            Group::Receives => core.withdraw_recv(ticket, told),
-            Group::Streams => core.withdraw_stream(ticket),
-            Group::Closeds => core.withdraw_closed(ticket),
+        let _left = self.step_beside(|core, spare, told| {
+            let left = match group {
+                Group::Sends => core.withdraw_send(ticket, told),
+                Group::Receives => core.withdraw_recv(ticket, told),
+                Group::Streams => core.withdraw_stream(ticket),
+                Group::Closeds => core.withdraw_closed(ticket),
+            };
+            self.settle(ticket, link, spare);
+            left
         });
+    }
+
+    /// An operation has a link exactly while it has a ticket. A stream has its handle.
+    #[inline]
+    fn settle(
+        self: &Arc<Self>,
+        ticket: &Option<Ticket>,
+        link: Option<&mut Link<T>>,
+        spare: &mut Link<T>,
+    ) {
+        match (ticket, link) {
+            (Some(_), Some(link @ None)) => {
+                *link = spare.take().or_else(|| Some(Arc::downgrade(self)));
+            }
+            (None, Some(link @ Some(_))) => *spare = link.take(),
+            _ => {}
+        }
     }
 
     #[inline]
@@ -359,7 +412,7 @@ impl<T> Channel<T> {
 
     /// Gives a receiver up, and its stream's wait with it. The core is told of the last one.
     #[inline]
-    pub(crate) fn drop_receiver(&self, stream: &mut Option<Ticket>) {
+    pub(crate) fn drop_receiver(self: &Arc<Self>, stream: &mut Option<Ticket>) {
         if self.receivers.fetch_sub(1, Ordering::SeqCst) == 1 {
             let _left = self.step(|core, told| {
                 let left = core.withdraw_stream(stream);
@@ -367,7 +420,7 @@ impl<T> Channel<T> {
                 left
             });
         } else {
-            self.cancel(Group::Streams, stream);
+            self.cancel(Group::Streams, stream, None);
         }
     }
 }
@@ -419,3 +472,6 @@ fn with_memory<A, E>(answer: Result<A, E>) -> A {
         Err(_) => unreachable!("memory isn't refused"),
     }
 }
+
+#[cfg(test)]
+mod tests;

@@ -37,10 +37,15 @@
 //! - What a message type borrows has to live as long as the futures of its channel.
 //! - One lock guards a channel, whose queue is lock-free in async-channel. A call may wait for
 //!   another's step, which moves at most [`ROUND_LIMIT`] messages.
-//! - `std` is needed. The feature `std` is there by name alone, and `portable-atomic` isn't.
+//! - A new call hides a method of its name that a trait of yours gives a handle: that is called as
+//!   `Trait::method(&handle)` then.
+//! - `std` is needed. The feature `std` is there by name alone, and `portable-atomic` isn't. The
+//!   feature `parking_lot`, which isn't a default, takes that crate's lock in place of std's.
 
 #![forbid(unsafe_code)]
 #![warn(missing_docs, missing_debug_implementations, rust_2018_idioms)]
+// No thread blocks there, so nothing needs what blocking calls do.
+#![cfg_attr(target_family = "wasm", allow(dead_code, unused_imports))]
 
 #[cfg(not(target_family = "wasm"))]
 mod blocking;
@@ -50,10 +55,7 @@ mod channel;
 #[allow(dead_code, missing_docs)]
 #[rustfmt::skip]
 mod errors;
-#[cfg(test)]
-mod explorer;
 mod lock;
-mod many;
 mod marks;
 mod operations;
 mod primitives;
@@ -65,6 +67,10 @@ mod primitives;
 mod proved;
 mod receiver;
 mod sender;
+
+// After those whose handles it gives new calls, so that these stand last in the pages.
+mod many;
+
 #[allow(dead_code, missing_docs, missing_debug_implementations)]
 mod shim;
 
@@ -151,6 +157,11 @@ pub mod run {
     pub use crate::proved::channel_run::{Run, Settled};
     pub use crate::shim::{Global, Over};
 }
+
+/// How a thread blocks, for the package in `models`. It is no part of the interface.
+#[cfg(vamorilesh_loom)]
+#[doc(hidden)]
+pub use blocking::block_on;
 
 /// Makes a channel that holds at most `cap` messages.
 ///

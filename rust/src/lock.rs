@@ -2,19 +2,19 @@
 
 use std::panic::{RefUnwindSafe, UnwindSafe};
 
-#[cfg(any(not(feature = "parking_lot"), test))]
+#[cfg(not(feature = "parking_lot"))]
 use crate::primitives::{pause, turns};
 use crate::primitives::{Mutex, MutexGuard};
-#[cfg(any(not(feature = "parking_lot"), test))]
+#[cfg(not(feature = "parking_lot"))]
 use std::sync::{PoisonError, TryLockError};
 
 /// How often a thread looks at a taken lock before it sleeps until it is free.
-#[cfg(any(not(feature = "parking_lot"), test))]
+#[cfg(not(feature = "parking_lot"))]
 const LOOKS: u32 = turns(5);
 
 /// How long it pauses before each look: so long that whoever has the lock can take it many times, and
 /// its cache lines stay where they are.
-#[cfg(any(not(feature = "parking_lot"), test))]
+#[cfg(not(feature = "parking_lot"))]
 const PAUSES: u32 = 300;
 
 /// A value that one thread at a time can reach.
@@ -28,19 +28,19 @@ impl<V> Lock<V> {
         Lock(Mutex::new(value))
     }
 
-    #[cfg(all(feature = "parking_lot", not(test)))]
+    #[cfg(feature = "parking_lot")]
     #[inline]
     pub(crate) fn lock(&self) -> MutexGuard<'_, V> {
         self.0.lock()
     }
 
-    #[cfg(any(not(feature = "parking_lot"), test))]
+    #[cfg(not(feature = "parking_lot"))]
     #[inline]
     pub(crate) fn lock(&self) -> MutexGuard<'_, V> {
         self.try_lock().unwrap_or_else(|| self.wait())
     }
 
-    #[cfg(any(not(feature = "parking_lot"), test))]
+    #[cfg(not(feature = "parking_lot"))]
     #[inline]
     fn try_lock(&self) -> Option<MutexGuard<'_, V>> {
         match self.0.try_lock() {
@@ -50,7 +50,7 @@ impl<V> Lock<V> {
         }
     }
 
-    #[cfg(any(not(feature = "parking_lot"), test))]
+    #[cfg(not(feature = "parking_lot"))]
     #[cold]
     fn wait(&self) -> MutexGuard<'_, V> {
         for _look in 0..LOOKS {

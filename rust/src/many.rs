@@ -340,7 +340,7 @@ impl<T> Future for SendMany<'_, T> {
         let SendMany { sender, left, count, done, wait } = self.get_mut();
         assert!(!*done, "a send was polled after it had finished");
         let channel = sender.channel();
-        let polled = wait.poll(channel, |ticket| channel.poll_send_many(left, ticket, cx));
+        let polled = channel.poll_send_many(left, wait, cx);
         *done = polled.is_ready();
         polled.map_err(|SendError(())| {
             *count -= left.len();
@@ -390,7 +390,7 @@ impl<T> Future for RecvMany<'_, T> {
     fn poll(self: Pin<&mut Self>, cx: &mut Context<'_>) -> Poll<usize> {
         let RecvMany { receiver, into, limit, wait } = self.get_mut();
         let channel = receiver.channel();
-        wait.poll(channel, |ticket| channel.poll_recv_many(into, *limit, ticket, cx))
+        channel.poll_recv_many(into, *limit, wait, cx)
     }
 }
 
@@ -416,6 +416,7 @@ impl<T> fmt::Debug for RecvMany<'_, T> {
 /// s.try_send(2).unwrap();
 /// assert_eq!(messages.next(), Some(2));
 /// ```
+#[must_use = "iterators are lazy and do nothing unless consumed"]
 pub struct TryIter<'a, T> {
     /// Whose messages they are.
     receiver: &'a Receiver<T>,

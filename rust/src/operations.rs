@@ -2,14 +2,14 @@
 //! operation of its own that isn't polled any more. So no future here is dropped by code of its
 //! own. What has to be done then is done by its [`Wait`], which borrows nothing.
 
-use crate::channel::Channel;
+use crate::channel::Link;
 use crate::proved::channel_core::Group;
 use crate::proved::event_list::Ticket;
 use crate::{Receiver, RecvError, SendError, Sender};
 use std::fmt;
 use std::future::Future;
 use std::pin::Pin;
-use std::sync::Arc;
+use std::sync::Weak;
 use std::task::{Context, Poll};
 
 /// The place of an operation in a waiting list. It is given up when it is dropped.
@@ -17,37 +17,24 @@ pub(crate) struct Wait<T> {
     /// Whose list it is.
     group: Group,
     /// The place, while the operation waits.
-    ticket: Option<Ticket>,
-    /// The channel, while the operation waits: it may be all that is left of it.
-    channel: Option<Arc<Channel<T>>>,
+    pub(crate) ticket: Option<Ticket>,
+    /// The channel, while the operation waits. Once all handles are gone there is no list to leave.
+    pub(crate) link: Link<T>,
 }
 
 impl<T> Wait<T> {
     #[inline]
     pub(crate) fn new(group: Group) -> Self {
-        Wait { group, ticket: None, channel: None }
-    }
-
-    /// Polls the operation on its channel.
-    #[inline]
-    pub(crate) fn poll<A>(
-        &mut self,
-        channel: &Arc<Channel<T>>,
-        poll: impl FnOnce(&mut Option<Ticket>) -> Poll<A>,
-    ) -> Poll<A> {
-        let answer = poll(&mut self.ticket);
-        if self.ticket.is_some() != self.channel.is_some() {
-            self.channel = self.ticket.is_some().then(|| channel.clone());
-        }
-        answer
+        Wait { group, ticket: None, link: None }
     }
 }
 
 impl<T> Drop for Wait<T> {
     #[inline]
     fn drop(&mut self) {
-        if let Some(channel) = &self.channel {
-            channel.cancel(self.group, &mut self.ticket);
+        let Wait { group, ticket, link } = self;
+        if let Some(channel) = link.as_ref().and_then(Weak::upgrade) {
+            channel.cancel(*group, ticket, Some(link));
         }
     }
 }
@@ -105,7 +92,7 @@ impl<T> Future for Send<'_, T> {
         let Send { sender, message, wait } = self.get_mut();
         assert!(message.is_some(), "a send was polled after it had finished");
         let channel = sender.channel();
-        wait.poll(channel, |ticket| channel.poll_send(message, ticket, cx))
+        channel.poll_send(message, wait, cx)
     }
 }
 
@@ -156,7 +143,7 @@ impl<T> Future for Recv<'_, T> {
     fn poll(self: Pin<&mut Self>, cx: &mut Context<'_>) -> Poll<Self::Output> {
         let Recv { receiver, wait } = self.get_mut();
         let channel = receiver.channel();
-        wait.poll(channel, |ticket| channel.poll_recv(ticket, cx))
+        channel.poll_recv(wait, cx)
     }
 }
 
@@ -205,7 +192,7 @@ impl<T> Future for Closed<'_, T> {
     fn poll(self: Pin<&mut Self>, cx: &mut Context<'_>) -> Poll<()> {
         let Closed { sender, wait } = self.get_mut();
         let channel = sender.channel();
-        wait.poll(channel, |ticket| channel.poll_closed(ticket, cx))
+        channel.poll_closed(wait, cx)
     }
 }
 

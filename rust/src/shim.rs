@@ -2,11 +2,9 @@
 //! say what the proofs rely on.
 //!
 //! Memory isn't refused here. If there is none the program ends, as with every collection of
-//! `std`, so that an answer which tells of a refusal can't be made. A slab that gets empty gives its
-//! memory back if that is more than [`KEPT`] bytes: no place is visited for that, and it takes as
-//! much anew only after as many insertions.
+//! `std`, so that an answer which tells of a refusal can't be made.
 
-use std::mem::{size_of, ManuallyDrop};
+use std::collections::HashMap;
 
 /// Where memory comes from: the one allocator of a program.
 #[derive(Clone, Copy)]
@@ -36,12 +34,12 @@ impl<L> Book<L> {
     pub fn add(&mut self, _share: &mut Share<L>, _amount: u64) {}
 }
 
-/// How many bytes an empty slab keeps at the most, if one value doesn't take more.
-const KEPT: usize = 4096;
+/// How many values a slab keeps room for in any case.
+const KEPT: usize = 64;
 
-/// How many values an empty slab keeps room for.
-fn kept<V>() -> usize {
-    KEPT.checked_div(size_of::<V>()).map_or(usize::MAX, |count| count.max(1))
+/// Whether so much room for so few values is to be given back.
+fn is_sparse(values: usize, room: usize) -> bool {
+    room > KEPT && values <= room / 4
 }
 
 /// A collection, and what is kept with it. It has all calls of the collection; those below are
@@ -108,13 +106,21 @@ impl<T> std::ops::DerefMut for Box<T> {
     }
 }
 /// Values under keys. It takes no memory before the first one, and the key that was left last is
-/// the next one's. Beside them stands the key of the first place. A place that was left has nothing
-/// to drop, so that all of them can be given back at once.
-pub struct Slab<V>(usize, slab::Slab<ManuallyDrop<V>>);
+/// the next one's. Once a quarter of its places is used they go back: what is in them moves to a
+/// map, and new places begin behind all keys. So a value moves once, and only after three others
+/// have left.
+pub struct Slab<V> {
+    /// The key of the first place. Those in the map are below it.
+    first: usize,
+    places: slab::Slab<V>,
+    moved: HashMap<usize, V>,
+    /// The key that was left last, if it has no place.
+    left: Option<usize>,
+}
 
 impl<V> Slab<V> {
     pub fn new(_: Global) -> Self {
-        Slab(0, slab::Slab::new())
+        Slab { first: 0, places: slab::Slab::new(), moved: HashMap::new(), left: None }
     }
     /// An insertion takes the room that it needs, so none is made before.
     pub fn reserve(&mut self, _more: usize) -> Result<(), Refused<()>> {
@@ -122,35 +128,56 @@ impl<V> Slab<V> {
     }
     #[inline]
     pub fn insert_reserved(&mut self, value: V) -> usize {
-        self.0.wrapping_add(self.1.insert(ManuallyDrop::new(value)))
+        match self.left.take() {
+            None => self.first + self.places.insert(value),
+            Some(key) => {
+                self.moved.insert(key, value);
+                key
+            }
+        }
     }
     #[inline]
     pub fn try_remove(&mut self, key: usize) -> Option<V> {
-        let value = self.1.try_remove(key.wrapping_sub(self.0))?;
-        if self.1.is_empty() && self.1.capacity() > kept::<V>() {
-            // The next key is this one still.
-            *self = Slab(key, slab::Slab::new());
+        let Some(value) = self.places.try_remove(key.wrapping_sub(self.first)) else {
+            return self.remove_moved(key);
+        };
+        self.left = None;
+        if is_sparse(self.places.len(), self.places.capacity()) {
+            self.give_places_back(key);
         }
-        Some(ManuallyDrop::into_inner(value))
+        Some(value)
+    }
+    fn remove_moved(&mut self, key: usize) -> Option<V> {
+        let value = self.moved.remove(&key)?;
+        self.left = Some(key);
+        if self.moved.is_empty() || is_sparse(self.moved.len(), self.moved.capacity()) {
+            self.moved.shrink_to(2 * self.moved.len());
+        }
+        Some(value)
+    }
+    fn give_places_back(&mut self, left: usize) {
+        let (first, places) = (self.first, std::mem::take(&mut self.places));
+        self.first += places.capacity();
+        self.moved.extend(places.into_iter().map(|(place, value)| (first + place, value)));
+        self.left = Some(left);
     }
     #[inline]
     pub fn get(&self, key: usize) -> Option<&V> {
-        self.1.get(key.wrapping_sub(self.0)).map(|value| &**value)
+        let value = self.places.get(key.wrapping_sub(self.first));
+        value.or_else(|| self.moved.get(&key))
     }
     #[inline]
     pub fn get_mut(&mut self, key: usize) -> Option<&mut V> {
-        self.1.get_mut(key.wrapping_sub(self.0)).map(|value| &mut **value)
+        let value = self.places.get_mut(key.wrapping_sub(self.first));
+        value.or_else(|| self.moved.get_mut(&key))
     }
     #[inline]
     pub fn len(&self) -> usize {
-        self.1.len()
+        self.places.len() + self.moved.len()
     }
-}
-impl<V> Drop for Slab<V> {
-    fn drop(&mut self) {
-        if !self.1.is_empty() {
-            self.1.drain().map(ManuallyDrop::into_inner).for_each(drop);
-        }
+    #[inline]
+    pub fn capacity(&self) -> usize {
+        self.places.capacity() + self.moved.capacity()
     }
 }
 impl<T> Vec<T> {

@@ -135,23 +135,59 @@ fn the_last_sender_goes_before_its_closed_operation() {
 }
 
 #[test]
-fn a_pending_operation_is_all_that_keeps_its_channel_and_a_finished_one_keeps_nothing() {
-    let (message, (waker, _told)) = (Arc::new(0), counting());
-    for polls in 1..=2 {
-        let (s, r) = unbounded();
-        {
-            let mut receive = pin!(r.recv());
-            assert!(poll_pinned(&mut receive, &waker).is_pending());
-            for _ in 0..2 {
-                assert_eq!(s.try_send(message.clone()), Ok(()));
-            }
-            if polls == 2 {
-                assert!(poll_pinned(&mut receive, &waker).is_ready());
-            }
-            drop((s, r));
-            let kept = if polls == 2 { 0 } else { 2 };
-            assert_eq!(Arc::strong_count(&message), 1 + kept);
-        }
-        assert_eq!(Arc::strong_count(&message), 1);
+fn messages_go_with_the_last_handle_whatever_operation_is_pending() {
+    let (message, (waker, told)) = (Arc::new(0), counting());
+    let (s, r) = bounded(2);
+    let mut receive = pin!(r.recv());
+    assert!(poll_pinned(&mut receive, &waker).is_pending());
+    let mut closed = pin!(s.closed());
+    assert!(poll_pinned(&mut closed, &waker).is_pending());
+    for _ in 0..2 {
+        assert_eq!(s.try_send(message.clone()), Ok(()));
     }
+    let mut send = pin!(s.send(message.clone()));
+    assert!(poll_pinned(&mut send, &waker).is_pending());
+    drop(r);
+    assert_eq!((Arc::strong_count(&message), told.woken()), (4, 3));
+    drop(s);
+    // The send has its message still.
+    assert_eq!((Arc::strong_count(&message), told.woken()), (2, 3));
+}
+
+#[test]
+fn messages_of_a_channel_with_a_weak_handle_stay() {
+    let (message, (waker, _told)) = (Arc::new(0), counting());
+    let (s, r) = unbounded();
+    let mut receive = pin!(r.recv());
+    assert!(poll_pinned(&mut receive, &waker).is_pending());
+    assert_eq!(s.try_send(message.clone()), Ok(()));
+    let weak = s.downgrade();
+    drop((s, r));
+    assert_eq!(Arc::strong_count(&message), 2);
+    drop(weak);
+    assert_eq!(Arc::strong_count(&message), 1);
+}
+
+#[test]
+fn a_reply_that_cannot_come_is_not_waited_for() {
+    let (waker, _told) = counting();
+    let (requests, server) = unbounded();
+    let (reply, answer) = bounded::<u8>(1);
+    let mut receive = pin!(server.recv());
+    assert!(poll_pinned(&mut receive, &waker).is_pending());
+    assert!(requests.try_send(reply).is_ok());
+    drop((requests, server));
+    assert_eq!(answer.try_recv(), Err(TryRecvError::Closed));
+}
+
+#[test]
+fn a_forgotten_operation_keeps_no_message() {
+    let (message, (waker, _told)) = (Arc::new(0), counting());
+    let (s, r) = unbounded();
+    let mut receive = Box::pin(r.recv());
+    assert!(poll_pinned(&mut receive.as_mut(), &waker).is_pending());
+    assert_eq!(s.try_send(message.clone()), Ok(()));
+    std::mem::forget(receive);
+    drop((s, r));
+    assert_eq!(Arc::strong_count(&message), 1);
 }

@@ -88,6 +88,75 @@ fn a_poll_again_with_the_same_waker_copies_nothing() {
     assert_eq!((poll_copied(&mut closed), poll_copied(&mut s.closed())), ((true, 0), (true, 0)));
 }
 
+thread_local! {
+    /// What the wakers below were when they were woken.
+    static WOKEN: RefCell<Vec<usize>> = const { RefCell::new(Vec::new()) };
+}
+
+/// Each copy of this waker is told from the others by its data: the number of the copy.
+fn numbered(_: *const ()) -> RawWaker {
+    let copy = COPIES.with(|copies| copies.replace(copies.get() + 1)) + 1;
+    assert!(copy < 10, "it is copied again and again");
+    RawWaker::new(ptr::null::<u8>().wrapping_add(copy).cast(), &NUMBERED)
+}
+
+fn note_data(data: *const ()) {
+    WOKEN.with(|woken| woken.borrow_mut().push(data as usize));
+}
+
+static NUMBERED: RawWakerVTable = RawWakerVTable::new(numbered, note_data, note_data, |_| {});
+
+/// These two wakers have one data, and are told apart by their tables.
+static FIRST: RawWakerVTable = RawWakerVTable::new(
+    |data| RawWaker::new(data, &FIRST),
+    |_| WOKEN.with(|woken| woken.borrow_mut().push(1)),
+    |_| WOKEN.with(|woken| woken.borrow_mut().push(1)),
+    |_| {},
+);
+static SECOND: RawWakerVTable = RawWakerVTable::new(
+    |data| RawWaker::new(data, &SECOND),
+    |_| WOKEN.with(|woken| woken.borrow_mut().push(2)),
+    |_| WOKEN.with(|woken| woken.borrow_mut().push(2)),
+    |_| {},
+);
+
+/// Whom a message wakes after a receive was polled with a waker of each of these tables.
+fn woken_of(tables: &[&'static RawWakerVTable]) -> Vec<usize> {
+    let (s, r) = unbounded();
+    let mut receive = r.recv();
+    for table in tables {
+        // SAFETY: the functions of the tables never look behind the data.
+        let waker = unsafe { Waker::from_raw(RawWaker::new(ptr::null(), table)) };
+        assert!(Pin::new(&mut receive).poll(&mut Context::from_waker(&waker)).is_pending());
+    }
+    assert_eq!(s.try_send(1), Ok(()));
+    WOKEN.with(RefCell::take)
+}
+
+#[test]
+fn the_waker_of_the_last_poll_is_woken_whatever_its_copies_look_like() {
+    assert_eq!(woken_of(&[&NUMBERED; 3]), [3]);
+    assert_eq!(woken_of(&[&FIRST, &SECOND]), [2]);
+    assert_eq!(woken_of(&[&FIRST, &SECOND, &FIRST]), [1]);
+}
+
+#[test]
+fn what_goes_by_a_panic_is_given_up_like_all_else() {
+    let (s, r) = unbounded();
+    let log = support::Log::default();
+    let mut second = Box::pin(r.recv());
+    let panics = || {
+        let (s, r) = (s.clone(), r.clone());
+        let mut first = Box::pin(r.recv());
+        assert!(support::poll_with(&mut first, &log.waker(1)).is_pending());
+        assert!(support::poll_with(&mut second, &log.waker(2)).is_pending());
+        assert_eq!((s.try_send(7), log.take()), (Ok(()), vec![1]));
+        panic!("with a notice");
+    };
+    assert!(catch_unwind(AssertUnwindSafe(panics)).is_err());
+    assert_eq!((s.sender_count(), s.receiver_count(), log.take()), (1, 1, vec![2]));
+}
+
 /// A waker that panics when it is woken, and when it is dropped if it says so.
 struct Fails {
     dropped: bool,

@@ -375,12 +375,12 @@ fn nothing_happens_before_the_first_poll() {
     assert_eq!((block_on(send), r.try_recv()), (Ok(()), Ok(1)));
 }
 
-/// A waker that sends a message when it is woken.
+/// A waker that sends a message when it is woken, if there is room.
 struct Sends(Sender<usize>);
 
 impl Wake for Sends {
     fn wake(self: Arc<Self>) {
-        self.0.try_send(usize::MAX).unwrap();
+        let _ = self.0.try_send(usize::MAX);
     }
 }
 
@@ -393,6 +393,20 @@ fn a_round_of_a_send_of_many_ends_before_its_wakers_are_woken() {
     let mut from = numbers(ROUND_LIMIT + 2);
     assert_eq!(s.try_send_many(&mut from), Ok(ROUND_LIMIT + 2));
     assert!(r.try_iter().eq((0..ROUND_LIMIT).chain([usize::MAX, ROUND_LIMIT, ROUND_LIMIT + 1])));
+}
+
+#[test]
+fn try_recv_many_goes_on_with_what_those_whom_it_wakes_send() {
+    let (s, r) = bounded(1);
+    let waker = Waker::from(Arc::new(Sends(s.clone())));
+    assert_eq!(s.try_send(1), Ok(()));
+    let mut sends: Vec<_> = (0..5).map(|_| Box::pin(s.send(2))).collect();
+    for send in &mut sends {
+        assert!(support::poll_with(send, &waker).is_pending());
+    }
+    let mut into = Vec::new();
+    assert_eq!(r.try_recv_many(&mut into, 4), Ok(4));
+    assert_eq!(into, [1, usize::MAX, usize::MAX, usize::MAX]);
 }
 
 /// A waker that closes the channel when it is woken.
@@ -648,4 +662,10 @@ fn traits_and_texts() {
     assert_eq!(texts, "SendMany { .. } RecvMany { .. } TryIter { .. }");
     assert_eq!(format!("{send:#?} {receive:#?} {iter:#?}"), texts);
     assert_eq!(format!("{send:>30?} {receive:>30?} {iter:>30?}"), texts);
+    /// A message that isn't asked for a text or a copy.
+    struct Plain;
+    let ((s, r), mut into) = (unbounded(), Vec::new());
+    let texts = (format!("{:?}", s.send_many([Plain])), format!("{:?}", r.try_iter()));
+    assert_eq!(texts, ("SendMany { .. }".to_owned(), "TryIter { .. }".to_owned()));
+    assert_eq!(format!("{:?}", r.recv_many(&mut into, 1)), "RecvMany { .. }");
 }

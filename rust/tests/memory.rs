@@ -1,4 +1,5 @@
-//! Memory is given back: a queue that was drained and a list in which nobody waits keep a few KB.
+//! Memory is given back while a channel is in use: a queue and a list hold little beside what is in
+//! them.
 
 mod support;
 
@@ -111,11 +112,30 @@ fn a_drained_queue_gives_back_what_is_more_than_it_keeps() {
     let before = taken().0;
     for count in [10_000, 600, 513] {
         (0..count).for_each(|message: u64| s.try_send(message).unwrap());
-        assert!((0..count - 1).all(|message| r.try_recv() == Ok(message)));
         assert!(taken().0 - before >= 8 * count as isize);
-        assert_eq!(r.try_recv(), Ok(count - 1));
-        assert_eq!(taken().0, before);
+        assert!((0..count).all(|message| r.try_recv() == Ok(message)));
+        assert!(taken().0 - before <= FEW_KB / 2);
     }
+}
+
+#[test]
+fn a_queue_that_isn_t_empty_gives_memory_back_and_seldom_asks_for_some() {
+    const MESSAGES: u64 = 1_000_000;
+    let (s, r) = unbounded();
+    let before = taken();
+    for left in [1, 10_000] {
+        (0..MESSAGES).for_each(|message| s.try_send(message).unwrap());
+        assert!((0..MESSAGES - left).all(|message| r.try_recv() == Ok(message)));
+        assert!(taken().0 - before.0 <= FEW_KB / 2 + 4 * 8 * left as isize);
+        let full = taken();
+        for message in MESSAGES..2 * MESSAGES {
+            s.try_send(message).unwrap();
+            assert_eq!(r.try_recv(), Ok(message - left));
+        }
+        assert!(taken().1 - full.1 <= 1);
+        assert!((0..left).all(|_| r.try_recv().is_ok()));
+    }
+    assert!(taken().1 - before.1 <= 100);
 }
 
 #[test]
@@ -132,7 +152,7 @@ fn a_drained_queue_keeps_room_for_four_large_messages_or_any_number_without_a_si
     let kept = taken();
     round(3);
     assert_eq!(taken(), kept);
-    assert_eq!(round(5), 0);
+    assert_eq!(round(5), 4 * LARGE as isize);
     let (s, r) = unbounded();
     (0..10_000).for_each(|_| s.try_send(()).unwrap());
     assert!((0..10_000).all(|_| r.try_recv() == Ok(())));
@@ -154,16 +174,25 @@ fn a_queue_that_fills_and_drains_a_little_asks_for_no_memory() {
     assert_eq!(taken(), before);
 }
 
+#[test]
+fn a_queue_that_grows_asks_for_memory_seldom() {
+    let (s, _r) = unbounded();
+    let before = taken().1;
+    (0..100_000).for_each(|message: u64| s.try_send(message).unwrap());
+    assert!((10..=20).contains(&(taken().1 - before)));
+}
+
 /// Each of `waits` is polled once and waits, and then all are given up.
 fn waited<W>(waits: impl Fn() -> W, poll: impl Fn(&mut W, &Waker)) {
-    const WAITS: usize = 20_000;
     let waker = Waker::from(Count::new());
-    let before = taken().0;
-    let mut waiting: Vec<W> = (0..WAITS).map(|_| waits()).collect();
-    waiting.iter_mut().for_each(|wait| poll(wait, &waker));
-    assert!(taken().0 - before >= 16 * WAITS as isize);
-    drop(waiting);
-    assert!(taken().0 - before <= FEW_KB);
+    for count in [20_000, 1_000] {
+        let before = taken().0;
+        let mut waiting: Vec<W> = (0..count).map(|_| waits()).collect();
+        waiting.iter_mut().for_each(|wait| poll(wait, &waker));
+        assert!(taken().0 - before >= 16 * count);
+        drop(waiting);
+        assert!(taken().0 - before <= FEW_KB);
+    }
 }
 
 #[test]
@@ -177,6 +206,25 @@ fn a_list_in_which_nobody_waits_any_more_keeps_a_few_kilobytes() {
     waited(|| r.clone(), next);
     s.try_send(1).unwrap();
     waited(|| Box::pin(s.send(2)), |wait, waker| assert!(poll_with(wait, waker).is_pending()));
+}
+
+#[test]
+fn a_list_in_which_one_of_many_still_waits_holds_little() {
+    const WAITS: usize = 200_000;
+    let (_s, r) = unbounded::<u64>();
+    let waker = Waker::from(Count::new());
+    for stays in [0, WAITS / 2, WAITS - 1] {
+        let before = taken().0;
+        let mut waiting: Vec<_> = (0..WAITS).map(|_| Box::pin(r.recv())).collect();
+        for wait in &mut waiting {
+            assert!(poll_with(wait, &waker).is_pending());
+        }
+        assert!(taken().0 - before >= 16 * WAITS as isize);
+        let stays = waiting.swap_remove(stays);
+        drop(waiting);
+        assert!(taken().0 - before <= 2 * FEW_KB);
+        drop(stays);
+    }
 }
 
 #[test]

@@ -3,7 +3,7 @@
 use std::any::type_name;
 use std::error::Error;
 
-use vamorilesh::{bounded, RecvError, SendError, TryRecvError, TrySendError};
+use vamorilesh::{bounded, unbounded, RecvError, SendError, TryRecvError, TrySendError};
 
 /// A message without any text.
 #[derive(Clone, Copy, PartialEq)]
@@ -91,4 +91,24 @@ fn the_errors_have_short_names() {
         type_name::<TryRecvError>(),
     ];
     assert!(names.iter().all(|name| name.starts_with("vamorilesh::errors::")), "{names:?}");
+}
+
+/// Of each statement the compiler has to warn: without `must_use` this doesn't build.
+#[deny(unfulfilled_lint_expectations)]
+#[test]
+fn what_does_nothing_unless_it_is_used_is_warned_of() {
+    let (s, r) = unbounded::<u8>();
+    #[expect(unused_must_use)]
+    s.send(1);
+    #[expect(unused_must_use)]
+    s.closed();
+    #[expect(unused_must_use)]
+    s.send_many([1]);
+    #[expect(unused_must_use)]
+    r.recv();
+    #[expect(unused_must_use)]
+    r.recv_many(&mut Vec::new(), 1);
+    #[expect(unused_must_use)]
+    r.try_iter();
+    assert!(r.is_empty());
 }

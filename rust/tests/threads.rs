@@ -335,6 +335,22 @@ fn force_send_keeps_the_newest() {
     assert!((0..4).all(|_| r.try_recv().is_ok()));
 }
 
+#[test]
+fn an_unpark_that_comes_during_a_blocking_call_is_its_callers() {
+    let (s, r) = unbounded();
+    let waiting = thread::spawn(move || {
+        assert_eq!(r.recv_blocking(), Ok(1));
+        let start = std::time::Instant::now();
+        thread::park_timeout(Duration::from_secs(20));
+        start.elapsed()
+    });
+    let_others_run();
+    waiting.thread().unpark();
+    let_others_run();
+    s.try_send(1).unwrap();
+    assert!(waiting.join().unwrap() < Duration::from_secs(10));
+}
+
 /// Returns once the thread of this name sleeps and goes on doing so. It fails if the thread works for
 /// half a second.
 #[cfg(target_os = "linux")]

@@ -2,8 +2,8 @@
 import re
 
 from eraser.known import (
-    BEFORE_NOT, BOUNDS, CLAUSES, CRATES, DERIVES, EVERYWHERE, FIRST, FORMATTER, GHOST_WORDS,
-    ITEM_WORDS, LEFT_OUT, MACROS, NAMED, PATHS, REQUIRES, TAKEN, TEXT_TRAITS, TRAITS, WRITER,
+    BEFORE_NOT, BOUNDS, CLAUSES, CONDITIONS, CRATES, DERIVES, EVERYWHERE, FIRST, FORMATTER,
+    GHOST_WORDS, ITEM_WORDS, LEFT_OUT, MACROS, NAMED, PATHS, REQUIRES, TAKEN, TEXT_TRAITS, TRAITS, WRITER,
 )
 from eraser.source import CLOSING
 
@@ -70,7 +70,13 @@ class Eraser:
             return None
         if word.text == 'fn' and text.endswith('}') and '#[inline' not in attributes:
             attributes += f'#[inline]\n{self.indent(word.start)}'
-        return f'{attributes}{visibility}{text}'
+        return f'{attributes}{self.condition(word.text, text)}{visibility}{text}'
+
+    def condition(self, word, text):
+        """The cfg that wants a module, or a use of its names."""
+        name = re.match(rf'{word} (\w+)', text) if word in {'mod', 'use'} else None
+        wanted = CONDITIONS.get(self.path_of(name[1])) if name else None
+        return f'#[cfg({wanted})]\n' if wanted else ''
 
     def indent(self, at):
         """The spaces before the line on which a place is."""
@@ -113,7 +119,11 @@ class Eraser:
         return name, text
 
     def visibility(self):
-        """A crate of the source is a module in Rust: what only it may see stays within it."""
+        """A crate of the source is a module in Rust: what only it may see stays within it.
+
+        A type is said to be public all the same. Before Rust 1.74 no public call's signature may
+        name another one, and nobody sees more of it: the modules round it are seen no further.
+        """
         if not self.source.take_if('pub'):
             return ''
         if not self.source.take_if('('):
@@ -124,6 +134,8 @@ class Eraser:
             self.source.refuse(f'`pub({within})` in a file of another module', start)
         if within == 'super':
             return 'pub(super) '
+        if self.source.sees('enum', 'struct'):
+            return 'pub '
         ups = ['super'] * len(self.source.module) or ['self']
         return f'pub({"in " * (len(ups) > 1)}{"::".join(ups)}) '
 

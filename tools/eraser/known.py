@@ -2,6 +2,8 @@
 
 # The crates that are erased, lowest first, each with the cfg that wants it, if any.
 CRATES = {'event_list': None, 'channel_model': None, 'channel_core': None, 'channel_run': 'vamorilesh_run'}
+# Modules that a cfg alone wants, and their names with them.
+CONDITIONS = {'channel_model::step': 'vamorilesh_run'}
 # Modules in which no line runs.
 LEFT_OUT = {'channel_model::laws'}
 # Modules whose files the crate names itself, so that a user never meets a type under the path of its

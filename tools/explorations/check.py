@@ -278,11 +278,14 @@ def main():
     names = ("program_chanexplore", "program_chanrun")
     programs = {name: built(name, b"unbounded\n") for name in names}
     failed = cases = 0
-    for example in sorted(EXAMPLES.glob("*.explore")):
+    examples, listed = sorted(EXAMPLES.glob("*.explore")), list(reports())
+    if not examples or not listed:
+        sys.exit("chanexplore: there is no example, or no report to compare with")
+    for example in examples:
         wrong = wrong_with(example, programs, write)
         cases, failed = cases + 1, failed + bool(wrong)
         print(f"chanexplore: {example.name}: {'; '.join(wrong) or 'ok'}")
-    for name, arguments, given, report, whole in reports():
+    for name, arguments, given, report, whole in listed:
         ran = run(programs["program_chanexplore"], given.encode(), arguments)
         got = (ran.returncode, ran.stdout.decode(), ran.stderr)
         right = got == (0 if whole else 3, report, b"")

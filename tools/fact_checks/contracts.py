@@ -1,4 +1,4 @@
-"""The index of contracts in docs/PROOFS.md, and what its tables cite.
+"""The contracts that the tables of docs/PROOFS.md and of each CALLING.md cite.
 
 A citation is a call, as `Core::len` or `run_all`; a call with names of its clauses, as
 `Core::try_send: reply, after`; the same of the calls of a type, as `Core::*: rung`, where each
@@ -10,55 +10,21 @@ that call; `..` leaves something out of it.
 """
 import re
 
+from .pages import for_callers
 from .sources import ROOT, Crate, listed_crates
 
 PROOFS = ROOT / 'docs' / 'PROOFS.md'
 NAMES = re.compile(r'`([^`]+)`')
 CITATION = re.compile(r'[\w:]+(::\*)?(: \w+(, \w+)*)?|\w+ for \w+')
-UNNAMED = 'ensures'
-
-
-def all_crates():
-    return {name: Crate(name) for name in listed_crates()}
-
-
-def words(clauses):
-    """The names of a call's clauses, as a table has them."""
-    return ', '.join(f'`{name}`' if name else UNNAMED for name in clauses)
-
-
-def index(crates):
-    """The index: each public call of a crate that is no test, if it has a clause.
-
-    Those of one type with the same clauses share a line. So do all of a crate whose clauses have
-    no name.
-    """
-    lines = []
-    for crate in crates.values():
-        if crate.name.startswith('test_'):
-            continue
-        shared = {}
-        for call in crate.public_calls():
-            owner = call.owner if any(call.clauses) else ''
-            shared.setdefault((owner, tuple(call.clauses)), []).append(call)
-        if shared:
-            lines += ['', f'**`{crate.name}`**', '']
-        for (_, clauses), calls in shared.items():
-            places = ', '.join(f'`{call.place()}`' for call in calls)
-            lines.append(f'- {places}: {words(clauses)}')
-    return lines[1:]
 
 
 def cited_rows(text):
     """Each row or point below a heading that names crates: its line, the crates, what it cites."""
     crates, listed, rows = [], listed_crates(), []
-    is_generated = False
     for number, line in enumerate(text.split('\n'), 1):
         if line.startswith('#'):
             crates = [name for name in NAMES.findall(line) if name in listed]
-        if line.startswith('<!--'):
-            is_generated = 'facts' in line and 'end' not in line
-        if not crates or is_generated:
+        if not crates:
             continue
         if line.startswith('| '):
             rows.append((number, crates, line.rstrip(' |').rpartition(' | ')[2]))
@@ -102,11 +68,13 @@ def cell_faults(cell, crates, named):
             yield cited
 
 
-def faults(crates):
-    """The citations of docs/PROOFS.md that no source has."""
-    for number, named, cell in cited_rows(PROOFS.read_text('utf-8')):
-        for cited in cell_faults(cell, crates, named):
-            yield (
-                f'docs/PROOFS.md:{number}: `{cited}` is no contract of {" or ".join(named)}: '
-                'cite a call and its clauses as the index has them'
-            )
+def faults():
+    """The citations of docs/PROOFS.md and of the pages for callers that no source has."""
+    crates = {name: Crate(name) for name in listed_crates()}
+    for path in [PROOFS, *for_callers()]:
+        for number, named, cell in cited_rows(path.read_text('utf-8')):
+            for cited in cell_faults(cell, crates, named):
+                yield (
+                    f'{path.relative_to(ROOT)}:{number}: `{cited}` is no contract of '
+                    f'{" or ".join(named)}: cite a call and its clauses as they stand there'
+                )

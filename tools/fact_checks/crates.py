@@ -1,11 +1,13 @@
-"""The tables of crates: from crates.txt, and the first line of each crate."""
+"""The tables of crates and of tools: from crates.txt, and the first line of each."""
+import re
+
 from .sources import ROOT, listed_crates
 
-# The rooms, by what the names of their crates begin with. Any other crate is a library.
-ROOMS = {
-    'Libraries': None, 'Programs': 'program_', 'Examples': 'example_', 'Tests': 'test_',
-    'Measurements': 'bench_',
-}
+# The sentence with which a tool says what it is.
+SENTENCE = re.compile(r'(?:"""|(?:\A|\n)# )(.+?)\.(?:"""|\s)', re.DOTALL)
+
+# What the names of crates begin with that are no libraries.
+OTHERS = ('program_', 'example_', 'test_', 'bench_')
 
 
 def root_file(name):
@@ -40,31 +42,26 @@ def faults():
     return [line for line in lines if line]
 
 
-def room_of(name):
-    """The room of a crate: by its prefix, and `trysend` by what it is."""
-    for room, prefix in ROOMS.items():
-        if prefix and name.startswith(prefix):
-            return room
+def is_library(name):
+    """Whether a crate is a library: `trysend` is a program by what it is."""
     is_program = (ROOT / 'crates' / name / 'src' / 'main.rt').is_file()
-    return 'Programs' if is_program else 'Libraries'
-
-
-def quoted(names):
-    return ', '.join(f'`{name}`' for name in names)
-
-
-def rooms():
-    """The short table: each room with its crates."""
-    lines = ['| Room | Crates, lowest first |', '|---|---|']
-    for room, prefix in ROOMS.items():
-        names = [name for name in listed_crates() if room_of(name) == room]
-        title = f'{room}, `{prefix}*`' if prefix else room
-        lines.append(f'| {title} | {quoted(names)} |')
-    return lines
+    return not is_program and not name.startswith(OTHERS)
 
 
 def table():
     """The libraries, and what each is."""
-    lines = ['| Library | What it is |', '|---|---|']
-    names = [name for name in listed_crates() if room_of(name) == 'Libraries']
-    return lines + [f'| `{name}` | {first_line(name)[0]} |' for name in names]
+    names = filter(is_library, listed_crates())
+    return [f'- `{name}`: {first_line(name)[0]}' for name in names]
+
+
+def tools():
+    """What each tool is, by the sentence with which it begins. Tests of tools have no line."""
+    lines = []
+    top = ROOT / 'tools'
+    for path in sorted([*top.iterdir(), *top.glob('*/check.py')]):
+        is_tool = path.is_file() and path.suffix != '.txt' and not path.name.endswith('_tests')
+        text = path.read_text('utf-8') if is_tool else ''
+        if found := SENTENCE.search(text):
+            said = ' '.join(found[1].replace('\n# ', ' ').split())
+            lines.append(f'    {str(path.relative_to(top)):24} {said}')
+    return lines

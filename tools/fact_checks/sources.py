@@ -1,49 +1,56 @@
 """The calls of the crates, as the sources have them, with the clauses that stand at each."""
-import importlib.machinery
-import importlib.util
 import itertools
 import re
 from pathlib import Path
 
 ROOT = Path(__file__).resolve().parent.parent.parent
-FUNCTION = re.compile(r'( *)(pub(?:\([^)]*\))? )?(?:const )?fn (\w+)')
+FUNCTION = re.compile(r'( *)(?:pub(?:\([^)]*\))? )?(?:const )?fn (\w+)')
 LAW = re.compile(r'    ghost (\w+)(?: =|:)')
 CLAUSE = re.compile(r'ensures(?: (\w+))? \{')
-
-
-def examples():
-    """The script tools/examples, which knows what is public, as a module."""
-    path = str(ROOT / 'tools' / 'examples')
-    spec = importlib.util.spec_from_loader(
-        'examples', importlib.machinery.SourceFileLoader('examples', path)
-    )
-    module = importlib.util.module_from_spec(spec)
-    spec.loader.exec_module(module)
-    return module
-
-
-EXAMPLES = examples()
+# The files whose functions are in no module of the crate.
+ROOTS = ('lib', 'main')
 
 
 class Owner:
     """What a block of functions belongs to: a type or a trait, or a trait of a type."""
 
-    def __init__(self, name, trait, is_trait):
-        self.name, self.trait, self.is_trait = name, trait, is_trait
+    def __init__(self, name, trait, arguments=''):
+        self.name, self.trait = name, trait
+        # The types that the trait is given, in one word.
+        self.arguments = arguments
 
 
 class Call:
     """A function or method, the line of its first attribute, and the clauses that it ensures."""
 
-    def __init__(self, path, line, owner, name, is_said_public):
+    def __init__(self, path, line, owner, name):
         self.path, self.line, self.name = path, line, name
         self.owner = owner.name if owner else ''
         self.trait = owner.trait if owner else None
-        self.is_open = is_said_public or bool(owner and (owner.is_trait or owner.trait))
+        self.arguments = owner.arguments if owner else ''
         self.clauses, self.text = [], ''
 
     def place(self):
         return f'{self.owner}::{self.name}' if self.owner else self.name
+
+    def name_in_proofs(self):
+        """What the prover calls it, without its module. Of a trait, but for `Drop`, the type and the
+        trait with its types are one word."""
+        trait = self.trait + self.arguments if self.trait and self.trait != 'Drop' else ''
+        return f'{self.owner}{trait}::{self.name}' if self.owner else self.name
+
+    def path_in_proofs(self):
+        """What the prover calls it: a function with its modules, a method by its type, which may be
+        of another module."""
+        if self.owner:
+            return self.name_in_proofs()
+        modules = self.path.with_suffix('').parts
+        modules = modules[len(modules) - modules[::-1].index('src') :]
+        return '::'.join([*(it for it in modules if it not in ROOTS), self.name])
+
+    def is_named(self, name):
+        """Whether the end of its name in proofs is this name."""
+        return f'::{self.path_in_proofs()}'.endswith(f'::{name}')
 
 
 class Crate:
@@ -73,19 +80,9 @@ class Crate:
             found = FUNCTION.match(line)
             if found and bool(found[1]) == bool(owner):
                 begin = number - len(attributes(lines[: number - 1]))
-                call = Call(path, begin, owner, found[3], found[2] == 'pub ')
+                call = Call(path, begin, owner, found[2])
                 call.clauses, call.text = contract(lines[number - 1 :], found[1])
                 self.calls.append(call)
-
-    def public_calls(self):
-        """The calls with a clause that another crate can name."""
-        if not (self.folder / 'src' / 'lib.rt').is_file():
-            return []
-        names = EXAMPLES.public_names(self.name)
-        return [
-            call for call in self.calls
-            if call.clauses and call.is_open and (call.owner or call.name) in names
-        ]
 
     def at(self, path, line):
         """The call whose text stands at this line of a file, or None."""
@@ -103,14 +100,16 @@ def owner_of(lines):
     last = next(at for at, line in enumerate(lines) if line.endswith(('{', '{}')))
     head = ' '.join(lines[: last + 1])
     if not head.startswith('impl'):
-        return Owner(re.search(r'trait (\w+)', head)[1], None, True)
+        return Owner(re.search(r'trait (\w+)', head)[1], None)
     rest = without_generics(head.removeprefix('impl')).strip()
     trait, is_for, type_name = rest.partition(' for ')
     first = re.match(r'[\w:]+', trait)[0].split('::')[-1]
     if not is_for:
-        return Owner(first, None, False)
+        return Owner(first, None)
     name = re.search(r'\w+', type_name)
-    return Owner(name[0] if name else '()', first, False)
+    types = re.findall(r"(?<!')\b[A-Za-z]\w*|\(\)", trait.partition('<')[2])
+    arguments = ''.join('Unit' if it == '()' else it for it in types)
+    return Owner(name[0] if name else '()', first, arguments)
 
 
 def without_generics(text):

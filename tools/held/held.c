@@ -1,5 +1,5 @@
-// Laid in front of a built program: writes how many bytes of the heap it holds to the file that HELD
-// names, with each line of its standard output.
+// Laid in front of a built program: writes how many bytes of the heap it holds, and how often it asked
+// for some, to the file that HELD names, with each line of its standard output.
 #define _GNU_SOURCE
 #include <fcntl.h>
 #include <malloc.h>
@@ -17,8 +17,10 @@ void *__libc_memalign(size_t alignment, size_t size);
 void __libc_free(void *place);
 
 static atomic_long held = 0;
+static atomic_long requests = 0;
 
 static void *taken(void *place) {
+    atomic_fetch_add(&requests, 1);
     atomic_fetch_add(&held, (long)malloc_usable_size(place));
     return place;
 }
@@ -51,8 +53,9 @@ void free(void *place) {
 ssize_t write(int file, const void *bytes, size_t size) {
     static int report = -1;
     if (file == STDOUT_FILENO) {
-        char text[32];
-        int length = snprintf(text, sizeof text, "%ld\n", atomic_load(&held));
+        char text[64];
+        long bytes = atomic_load(&held), times = atomic_load(&requests);
+        int length = snprintf(text, sizeof text, "%ld %ld\n", bytes, times);
         const char *path = getenv("HELD");
         if (report < 0 && path) report = open(path, O_WRONLY | O_CREAT | O_TRUNC, 0600);
         if (report >= 0) syscall(SYS_write, report, text, (size_t)length);

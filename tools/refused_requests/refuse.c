@@ -1,7 +1,7 @@
 // Laid in front of a built program: the request for memory with the number REFUSED is answered by
 // nothing, all others by the C library. Each call of it that gives memory is a request, from
-// whichever thread. Where COUNTED names a file, the number of requests that the program has made is
-// written there with each line of its standard output, and when it ends.
+// whichever thread. Where COUNTED names a file, the number of requests that the program made is
+// written there when it ends.
 #define _GNU_SOURCE
 #include <errno.h>
 #include <fcntl.h>
@@ -65,21 +65,11 @@ void *pvalloc(size_t size) {
     return valloc((size + page - 1) / page * page);
 }
 
-static void tell(void) {
-    static int file = -2;
+__attribute__((destructor)) static void tell(void) {
     const char *path = getenv("COUNTED");
-    char text[32];
-    int size = snprintf(text, sizeof text, "%ld\n", atomic_load(&made));
-    if (file == -2) file = path ? open(path, O_WRONLY | O_CREAT | O_TRUNC, 0600) : -1;
-    if (file >= 0) syscall(SYS_write, file, text, (size_t)size);
+    int file = path ? open(path, O_WRONLY | O_CREAT | O_TRUNC, 0600) : -1;
+    if (file >= 0) dprintf(file, "%ld\n", atomic_load(&made));
 }
-
-ssize_t write(int file, const void *bytes, size_t size) {
-    if (file == STDOUT_FILENO && size > 0 && ((const char *)bytes)[size - 1] == '\n') tell();
-    return syscall(SYS_write, file, bytes, size);
-}
-
-__attribute__((destructor)) static void tell_at_the_end(void) { tell(); }
 
 // How a program ends that may have threads: no destructor runs.
 void _exit(int status) {

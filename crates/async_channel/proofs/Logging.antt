@@ -1,6 +1,5 @@
 -- What is rung at a bell that keeps a log stands behind what was there.
-use Rattle.std.proofs.Common.{◌≡◌, sym, ap, ◌∙◌, ℕ, List, [], ◌∷◌, ◌++◌, true, false, Option, Some, None, Result, Ok, Err, OnOk, refl}
-use Rattle.std.specs.Prelude.{slice_get, is_some}
+use Rattle.std.proofs.Common.{◌≡◌, sym, ap, ◌∙◌, ℕ, List, [], ◌∷◌, ◌++◌, Result, Ok, Err, OnOk}
 use Rattle.std.proofs.lemmas.List.{append_assoc, append-nil}
 use Rattle.event_list.specs.Waiting.{RingsEach}
 use Rattle.futures.specs.declared.task.Poll.{Poll}

@@ -204,7 +204,7 @@ fn links<T: Drop, R: Wait + Clone + Drop>(
     ensures { IfOk result (λ links. arc_value links.0.shared ≡ arc_value links.1.shared) }
 {
     let link = Link {
-        shared: Arc::new(alloc, Shared::new(alloc, core)).map_err(|_| OutOfMemory)?,
+        shared: Arc::new(alloc, Shared::new(alloc, core)?).map_err(|_| OutOfMemory)?,
         rt: rt.clone().map_err(|_| OutOfMemory)?,
     };
     let other = link.try_clone()?;

@@ -34,6 +34,7 @@ mod iter;
 mod locked;
 mod many;
 mod ops;
+mod owned;
 mod polls;
 mod shared;
 mod stream;

@@ -11,6 +11,7 @@ ghost use Rattle.channel_core.specs.Channel.{is_channel_full, list_of, oldest, G
 ghost use Rattle.channel_core.specs.Batches.{CanSendNoMore, counted, moved_count, received_many, sent_many, taken_count};
 ghost use Rattle.channel_core.specs.Counts.{may_add, count_added, upgrade_answer, count_upgraded};
 ghost use Rattle.channel_core.specs.Tickets.{left};
+ghost use Rattle.ruled_mutex.specs.Passes.{Holds};
 ghost use Rattle.async_channel.specs.Held.{then, send_cancelled, recv_cancelled};
 
 use crate::inspect::Waiters;
@@ -19,46 +20,49 @@ use channel_core::{
     Core, Group, NoMemory, OutOfMemory, SendError, Ticket, TryRecvError, TrySendError, Upgrade,
 };
 use channel_wakers::{Mark, Ringer};
+use ruled_mutex::{Held, Pass, Unruled};
 use std::alloc::Global;
 use std::collections::VecDeque;
 use std::marker::Model;
-use std::sync::{MutexGuard, Wait};
+use std::sync::Wait;
 
 /// A channel while its lock is held, and those to be woken after it.
 pub(crate) struct Locked<'a, T: Drop, R: Wait> {
-    pub(crate) core: MutexGuard<'a, Core<T, Mark>>,
+    pub(crate) pass: Pass<Core<T, Mark>, ()>,
+    pub(crate) held: Held<Core<T, Mark>>,
     pub(crate) bell: Ringer<'a, R>,
     // Where its memory comes from, and what its tasks wait for.
     pub(crate) shared: &'a Shared<T>,
+    ghost holds: { Holds shared.now.core held pass },
 }
 
 /// The channel, the marks that were rung since the lock was taken, in order, and the source that
 /// tasks wait for.
 impl<'a, T: Drop, R: Wait> Model for Locked<'a, T, R> {
-    ghost use Rattle.std.specs.Sync.Mutex.{mutex_guard_value};
+    ghost use Rattle.ruled_mutex.specs.Passes.{made};
     ghost use Rattle.async_channel.specs.Held.{Held};
 
     ghost Value = { Held T };
 
     ghost view = { λ locked. record {
-      channel = mutex_guard_value locked.core;
+      channel = made locked.held locked.pass;
       rung = locked.bell;
       source = locked.shared.now.source.id;
     } };
 }
 
 impl<'a, T: Drop, R: Wait> Locked<'a, T, R> {
+    /// The channel of a handle. Each call of it is one step of the channel.
     #[inline(always)]
-    pub(crate) fn new(
-        core: MutexGuard<'a, Core<T, Mark>>,
-        shared: &'a Shared<T>,
-        rt: &'a R,
-    ) -> Locked<'a, T, R>
+    pub(crate) fn new(shared: &'a Shared<T>, rt: &'a R) -> Locked<'a, T, R>
         ensures silent { result.rung ≡ [] }
         ensures source { result.source ≡ shared.now.source.id }
     {
+        let mut pass = shared.core.pass();
+        let held = shared.core.lock(rt, &mut pass);
         Locked {
-            core,
+            pass,
+            held,
             bell: Ringer::new(rt),
             shared,
         }
@@ -76,7 +80,8 @@ impl<T: Drop, R: Wait> Locked<'_, T, R> {
         ensures unchanged { OnErr result (self.new ≡ self.old) }
         ensures wanted { OnErr result (GrowsWithMessages self.old.channel) }
     {
-        self.core.try_send(m, &mut self.bell)
+        let core = self.pass.value_mut(&self.shared.core, &self.held);
+        core.try_send(m, &mut self.bell)
     }
 
     #[inline]
@@ -91,7 +96,8 @@ impl<T: Drop, R: Wait> Locked<'_, T, R> {
         ensures unchanged { OnErr result (self.new ≡ self.old) }
         ensures wanted { OnErr result (GrowsWithMessages self.old.channel) }
     {
-        self.core.force_send(m, &mut self.bell)
+        let core = self.pass.value_mut(&self.shared.core, &self.held);
+        core.force_send(m, &mut self.bell)
     }
 
     #[inline]
@@ -100,7 +106,8 @@ impl<T: Drop, R: Wait> Locked<'_, T, R> {
         ensures reply { result ≡ try_recv_answer (oldest self.old.channel) self.old.channel.closed }
         ensures after { self.new ≡ then received self.old }
     {
-        self.core.try_recv(&mut self.bell)
+        let core = self.pass.value_mut(&self.shared.core, &self.held);
+        core.try_recv(&mut self.bell)
     }
 
     pub(crate) fn try_send_many(
@@ -121,7 +128,8 @@ impl<T: Drop, R: Wait> Locked<'_, T, R> {
             → CanSendNoMore from.new.items self.new.channel }
         ensures wanted { OnErr result (GrowsWithMessages self.old.channel) }
     {
-        self.core.try_send_many(from, limit, &mut self.bell)
+        let core = self.pass.value_mut(&self.shared.core, &self.held);
+        core.try_send_many(from, limit, &mut self.bell)
     }
 
     pub(crate) fn try_recv_many(
@@ -140,21 +148,24 @@ impl<T: Drop, R: Wait> Locked<'_, T, R> {
         ensures wanted { OnErr result
             (vec_capacity into.old < vec_len into.old + taken_count limit self.old.channel) }
     {
-        self.core.try_recv_many(into, limit, &mut self.bell)
+        let core = self.pass.value_mut(&self.shared.core, &self.held);
+        core.try_recv_many(into, limit, &mut self.bell)
     }
 
     pub(crate) fn close(&mut self) -> bool
         ensures reply { result ≡ not self.old.channel.closed }
         ensures after { self.new ≡ then closing self.old }
     {
-        self.core.close(&mut self.bell)
+        let core = self.pass.value_mut(&self.shared.core, &self.held);
+        core.close(&mut self.bell)
     }
 
     pub(crate) fn drop_sender(&mut self) -> bool
         ensures reply { result ≡ ((self.old.channel.senders == 1) && not self.old.channel.closed) }
         ensures after { self.new ≡ then sender_dropped self.old }
     {
-        self.core.drop_sender(&mut self.bell)
+        let core = self.pass.value_mut(&self.shared.core, &self.held);
+        core.drop_sender(&mut self.bell)
     }
 
     pub(crate) fn drop_receiver(&mut self, stream: &mut Option<Ticket>) -> bool
@@ -163,7 +174,8 @@ impl<T: Drop, R: Wait> Locked<'_, T, R> {
         ensures after { self.new ≡ then (receiver_dropped_by stream.old) self.old }
         ensures ticket { stream.new ≡ None }
     {
-        self.core.drop_receiver(stream, &mut self.bell)
+        let core = self.pass.value_mut(&self.shared.core, &self.held);
+        core.drop_receiver(stream, &mut self.bell)
     }
 
     #[tactic(auto, using(crate::proofs::Logging::logs))]
@@ -171,7 +183,8 @@ impl<T: Drop, R: Wait> Locked<'_, T, R> {
         ensures after { self.new ≡ then (send_cancelled t.old) self.old }
         ensures ticket { t.new ≡ None }
     {
-        self.core.cancel_send(t, &mut self.bell);
+        let core = self.pass.value_mut(&self.shared.core, &self.held);
+        core.cancel_send(t, &mut self.bell);
     }
 
     #[tactic(auto, using(crate::proofs::Logging::logs))]
@@ -179,7 +192,8 @@ impl<T: Drop, R: Wait> Locked<'_, T, R> {
         ensures after { self.new ≡ then (recv_cancelled t.old) self.old }
         ensures ticket { t.new ≡ None }
     {
-        self.core.cancel_recv(t, &mut self.bell);
+        let core = self.pass.value_mut(&self.shared.core, &self.held);
+        core.cancel_recv(t, &mut self.bell);
     }
 }
 
@@ -194,7 +208,8 @@ impl<T: Drop, R: Wait> Locked<'_, T, R> {
         } }
         ensures ticket { t.new ≡ None }
     {
-        self.core.cancel_closed(t);
+        let core = self.pass.value_mut(&self.shared.core, &self.held);
+        core.cancel_closed(t);
     }
 
     pub(crate) fn add_sender(&mut self) -> bool
@@ -206,7 +221,8 @@ impl<T: Drop, R: Wait> Locked<'_, T, R> {
           };
         } }
     {
-        self.core.add_sender()
+        let core = self.pass.value_mut(&self.shared.core, &self.held);
+        core.add_sender()
     }
 
     pub(crate) fn add_receiver(&mut self) -> bool
@@ -218,7 +234,8 @@ impl<T: Drop, R: Wait> Locked<'_, T, R> {
           };
         } }
     {
-        self.core.add_receiver()
+        let core = self.pass.value_mut(&self.shared.core, &self.held);
+        core.add_receiver()
     }
 
     pub(crate) fn upgrade_sender(&mut self) -> Upgrade
@@ -230,7 +247,8 @@ impl<T: Drop, R: Wait> Locked<'_, T, R> {
           };
         } }
     {
-        self.core.upgrade_sender()
+        let core = self.pass.value_mut(&self.shared.core, &self.held);
+        core.upgrade_sender()
     }
 
     pub(crate) fn upgrade_receiver(&mut self) -> Upgrade
@@ -242,65 +260,87 @@ impl<T: Drop, R: Wait> Locked<'_, T, R> {
           };
         } }
     {
-        self.core.upgrade_receiver()
+        let core = self.pass.value_mut(&self.shared.core, &self.held);
+        core.upgrade_receiver()
     }
 }
 
 // ## Questions
 impl<T: Drop, R: Wait> Locked<'_, T, R> {
     #[inline]
-    pub(crate) fn is_closed(&self) -> bool
-        ensures { result ≡ self.now.channel.closed }
+    pub(crate) fn is_closed(&mut self) -> bool
+        ensures reply { result ≡ self.old.channel.closed }
+        ensures kept { self.new ≡ self.old }
     {
-        self.core.is_closed()
+        let core = self.pass.value_mut(&self.shared.core, &self.held);
+        core.is_closed()
     }
 
     #[inline]
-    pub(crate) fn is_empty(&self) -> bool
-        ensures { result ≡ (length self.now.channel.messages == 0) }
+    pub(crate) fn is_empty(&mut self) -> bool
+        ensures reply { result ≡ (length self.old.channel.messages == 0) }
+        ensures kept { self.new ≡ self.old }
     {
-        self.core.is_empty()
+        let core = self.pass.value_mut(&self.shared.core, &self.held);
+        core.is_empty()
     }
 
     #[inline]
-    pub(crate) fn is_full(&self) -> bool
-        ensures { result ≡ is_channel_full self.now.channel }
+    pub(crate) fn is_full(&mut self) -> bool
+        ensures reply { result ≡ is_channel_full self.old.channel }
+        ensures kept { self.new ≡ self.old }
     {
-        self.core.is_full()
+        let core = self.pass.value_mut(&self.shared.core, &self.held);
+        core.is_full()
     }
 
-    pub(crate) fn is_terminated(&self) -> bool
-        ensures { result ≡ (self.now.channel.closed && (length self.now.channel.messages == 0)) }
+    pub(crate) fn is_terminated(&mut self) -> bool
+        ensures reply { result ≡ (self.old.channel.closed && (length self.old.channel.messages == 0)) }
+        ensures kept { self.new ≡ self.old }
     {
-        self.core.is_terminated()
+        let core = self.pass.value_mut(&self.shared.core, &self.held);
+        core.is_terminated()
     }
 
     #[inline]
-    pub(crate) fn len(&self) -> usize
-        ensures { result ≡ length self.now.channel.messages }
+    pub(crate) fn len(&mut self) -> usize
+        ensures reply { result ≡ length self.old.channel.messages }
+        ensures kept { self.new ≡ self.old }
     {
-        self.core.len()
+        let core = self.pass.value_mut(&self.shared.core, &self.held);
+        core.len()
     }
 
-    pub(crate) fn sender_count(&self) -> usize
-        ensures { result ≡ self.now.channel.senders }
+    pub(crate) fn sender_count(&mut self) -> usize
+        ensures reply { result ≡ self.old.channel.senders }
+        ensures kept { self.new ≡ self.old }
     {
-        self.core.sender_count()
+        let core = self.pass.value_mut(&self.shared.core, &self.held);
+        core.sender_count()
     }
 
-    pub(crate) fn receiver_count(&self) -> usize
-        ensures { result ≡ self.now.channel.receivers }
+    pub(crate) fn receiver_count(&mut self) -> usize
+        ensures reply { result ≡ self.old.channel.receivers }
+        ensures kept { self.new ≡ self.old }
     {
-        self.core.receiver_count()
+        let core = self.pass.value_mut(&self.shared.core, &self.held);
+        core.receiver_count()
     }
 
-    pub(crate) fn who_waits(&self, group: Group) -> Waiters
-        ensures waiting { result.waiting ≡ length (keys (list_of group self.now.channel)) }
-        ensures told { result.told ≡ told_count (list_of group self.now.channel) }
+    pub(crate) fn who_waits(&mut self, group: Group) -> Waiters
+        ensures waiting { result.waiting ≡ length (keys (list_of group self.old.channel)) }
+        ensures kept { self.new ≡ self.old }
+        ensures told { result.told ≡ told_count (list_of group self.old.channel) }
     {
         Waiters {
-            waiting: self.core.waiting(group),
-            told: self.core.told(group),
+            waiting: self
+                .pass
+                .value_mut(&self.shared.core, &self.held)
+                .waiting(group),
+            told: self
+                .pass
+                .value_mut(&self.shared.core, &self.held)
+                .told(group),
         }
     }
 }
@@ -309,10 +349,12 @@ impl<T: Drop, R: Wait> Drop for Locked<'_, T, R> {
     #[inline]
     fn drop(self) {
         let Self {
-            core,
+            mut pass,
+            held,
             bell,
-            shared: _,
+            shared,
         } = self;
-        let _woken = bell.wake_after(MutexGuard::unlock(core));
+        shared.core.unlock_as::<Unruled>(&mut pass, held);
+        let _woken = bell.wake_after(&shared.core);
     }
 }

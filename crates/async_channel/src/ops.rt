@@ -1,6 +1,7 @@
-//! The operations: futures that borrow a handle.
+//! The operations: futures that borrow a handle, or own it.
 ghost use Rattle.std.specs.Prelude.{◌≡◌, ⊤, true, false, Some, None, IsTrue, IsSome, ◌↔◌, OnOk, OnErr};
 ghost use Rattle.async_channel.specs.Operations.{MayGive};
+ghost use Rattle.async_channel.specs.Owned.{handle_in};
 ghost use Rattle.futures.specs.Poll.{IfReady, OnPending};
 ghost use Rattle.futures.specs.Task.{Covers, Keeps};
 ghost use Rattle.std.specs.Prelude.{Result};
@@ -8,6 +9,7 @@ ghost use Rattle.channel_model.specs.declared.errors.RecvError.{RecvError};
 ghost use Rattle.channel_model.specs.declared.errors.OutOfMemory.{OutOfMemory};
 
 use crate::handles::{Receiver, Sender};
+use crate::owned::OwnedOrRef;
 use channel_core::{OutOfMemory, RecvError, SendError, Ticket};
 use channel_wakers::Marker;
 use futures::Future;
@@ -35,7 +37,7 @@ use std::sync::Wait;
 /// assert!(rt; send.is_terminated());
 /// ```
 pub struct Send<'a, T: Drop, R: Wait + Clone + Drop> {
-    sender: &'a Sender<T, R>,
+    sender: OwnedOrRef<'a, Sender<T, R>>,
     message: Option<T>,
     ticket: Option<Ticket>,
     marker: Marker,
@@ -60,7 +62,7 @@ pub struct Send<'a, T: Drop, R: Wait + Clone + Drop> {
 /// assert!(rt; recv.is_terminated());
 /// ```
 pub struct Recv<'a, T: Drop, R: Wait + Clone + Drop> {
-    receiver: &'a Receiver<T, R>,
+    receiver: OwnedOrRef<'a, Receiver<T, R>>,
     ticket: Option<Ticket>,
     marker: Marker,
     finished: bool,
@@ -84,7 +86,7 @@ pub struct Recv<'a, T: Drop, R: Wait + Clone + Drop> {
 /// assert!(rt; closed.is_terminated());
 /// ```
 pub struct Closed<'a, T: Drop, R: Wait + Clone + Drop> {
-    sender: &'a Sender<T, R>,
+    sender: OwnedOrRef<'a, Sender<T, R>>,
     ticket: Option<Ticket>,
     marker: Marker,
     finished: bool,
@@ -93,12 +95,13 @@ pub struct Closed<'a, T: Drop, R: Wait + Clone + Drop> {
 /// The message of an unfinished send, the source that its task waits for, and the key of its entry.
 impl<'a, T: Drop, R: Wait + Clone + Drop> Model for Send<'a, T, R> {
     ghost use Rattle.async_channel.specs.Operations.{SendView};
+    ghost use Rattle.async_channel.specs.Owned.{handle_in};
 
     ghost Value = { SendView T };
 
     ghost view = { λ op. record {
       message = op.message;
-      source = op.sender.now.source;
+      source = (handle_in op.sender).source;
       ticket = op.ticket;
     } };
 }
@@ -106,12 +109,13 @@ impl<'a, T: Drop, R: Wait + Clone + Drop> Model for Send<'a, T, R> {
 /// Whether the last poll finished it, the source that its task waits for, and the key of its entry.
 impl<'a, T: Drop, R: Wait + Clone + Drop> Model for Recv<'a, T, R> {
     ghost use Rattle.async_channel.specs.Operations.{OperationView};
+    ghost use Rattle.async_channel.specs.Owned.{handle_in};
 
     ghost Value = { OperationView };
 
     ghost view = { λ op. record {
       finished = op.finished;
-      source = op.receiver.now.source;
+      source = (handle_in op.receiver).source;
       ticket = op.ticket;
     } };
 }
@@ -119,12 +123,13 @@ impl<'a, T: Drop, R: Wait + Clone + Drop> Model for Recv<'a, T, R> {
 /// Whether the last poll finished it, the source that its task waits for, and the key of its entry.
 impl<'a, T: Drop, R: Wait + Clone + Drop> Model for Closed<'a, T, R> {
     ghost use Rattle.async_channel.specs.Operations.{OperationView};
+    ghost use Rattle.async_channel.specs.Owned.{handle_in};
 
     ghost Value = { OperationView };
 
     ghost view = { λ op. record {
       finished = op.finished;
-      source = op.sender.now.source;
+      source = (handle_in op.sender).source;
       ticket = op.ticket;
     } };
 }
@@ -147,12 +152,7 @@ impl<T: Drop, R: Wait + Clone + Drop> Sender<T, R> {
     pub fn send(&self, msg: T) -> Send<'_, T, R>
         ensures { result ≡ record { message = Some msg; source = self.now.source; ticket = None } }
     {
-        Send {
-            sender: self,
-            message: Some(msg),
-            ticket: None,
-            marker: Marker::new(),
-        }
+        Send::new(OwnedOrRef::Ref(self), msg)
     }
 
     /// Completes when all receivers have dropped.
@@ -170,12 +170,7 @@ impl<T: Drop, R: Wait + Clone + Drop> Sender<T, R> {
     pub fn closed(&self) -> Closed<'_, T, R>
         ensures { result ≡ record { finished = false; source = self.now.source; ticket = None } }
     {
-        Closed {
-            sender: self,
-            ticket: None,
-            marker: Marker::new(),
-            finished: false,
-        }
+        Closed::new(OwnedOrRef::Ref(self))
     }
 }
 
@@ -199,16 +194,27 @@ impl<T: Drop, R: Wait + Clone + Drop> Receiver<T, R> {
     pub fn recv(&self) -> Recv<'_, T, R>
         ensures { result ≡ record { finished = false; source = self.now.source; ticket = None } }
     {
-        Recv {
-            receiver: self,
-            ticket: None,
-            marker: Marker::new(),
-            finished: false,
-        }
+        Recv::new(OwnedOrRef::Ref(self))
     }
 }
 
-impl<T: Drop, R: Wait + Clone + Drop> Send<'_, T, R> {
+impl<'a, T: Drop, R: Wait + Clone + Drop> Send<'a, T, R> {
+    // One that wasn't polled yet.
+    pub(crate) fn new(sender: OwnedOrRef<'a, Sender<T, R>>, msg: T) -> Self
+        ensures { result ≡ record {
+          message = Some msg;
+          source = (handle_in sender.entry).source;
+          ticket = None;
+        } }
+    {
+        Send {
+            sender,
+            message: Some(msg),
+            ticket: None,
+            marker: Marker::new(),
+        }
+    }
+
     /// Whether it is finished: a poll was ready, and not for want of memory.
     pub fn is_terminated(&self) -> bool
         ensures { IsTrue result ↔ (self.now.message ≡ None) }
@@ -256,7 +262,7 @@ impl<T: Drop, R: Wait + Clone + Drop> Future for Send<'_, T, R> {
         ensures holds { OnPending result (IsSome self.old.message → IsSome self.new.ticket) }
         ensures rests { OnPending result (self.old.message ≡ None → self.new ≡ self.old) }
     {
-        let sender = self.sender;
+        let sender = self.sender.get();
         let mut locked = sender.link.lock();
         match locked.poll_send(&mut self.message, &mut self.ticket, &mut self.marker, cx) {
             Ok(Poll::Ready(answer)) => Poll::Ready(Ok(answer)),
@@ -275,13 +281,30 @@ impl<T: Drop, R: Wait + Clone + Drop> Drop for Send<'_, T, R> {
             mut ticket,
             marker: _,
         } = self;
+        let sender = sender.get();
         if ticket.is_some() {
             sender.link.lock().cancel_send(&mut ticket);
         }
     }
 }
 
-impl<T: Drop, R: Wait + Clone + Drop> Recv<'_, T, R> {
+impl<'a, T: Drop, R: Wait + Clone + Drop> Recv<'a, T, R> {
+    // One that wasn't polled yet.
+    pub(crate) fn new(receiver: OwnedOrRef<'a, Receiver<T, R>>) -> Self
+        ensures { result ≡ record {
+          finished = false;
+          source = (handle_in receiver.entry).source;
+          ticket = None;
+        } }
+    {
+        Recv {
+            receiver,
+            ticket: None,
+            marker: Marker::new(),
+            finished: false,
+        }
+    }
+
     /// Whether the last poll finished it: it was ready, and not for want of memory.
     pub fn is_terminated(&self) -> bool
         ensures { result ≡ self.now.finished }
@@ -315,7 +338,7 @@ impl<T: Drop, R: Wait + Clone + Drop> Future for Recv<'_, T, R> {
         }) }
         ensures holds { OnPending result (IsSome self.new.ticket) }
     {
-        let receiver = self.receiver;
+        let receiver = self.receiver.get();
         let mut locked = receiver.link.lock();
         match locked.poll_recv(&mut self.ticket, &mut self.marker, cx) {
             Ok(Poll::Ready(answer)) => {
@@ -340,13 +363,30 @@ impl<T: Drop, R: Wait + Clone + Drop> Drop for Recv<'_, T, R> {
             marker: _,
             finished: _,
         } = self;
+        let receiver = receiver.get();
         if ticket.is_some() {
             receiver.link.lock().cancel_recv(&mut ticket);
         }
     }
 }
 
-impl<T: Drop, R: Wait + Clone + Drop> Closed<'_, T, R> {
+impl<'a, T: Drop, R: Wait + Clone + Drop> Closed<'a, T, R> {
+    // One that wasn't polled yet.
+    pub(crate) fn new(sender: OwnedOrRef<'a, Sender<T, R>>) -> Self
+        ensures { result ≡ record {
+          finished = false;
+          source = (handle_in sender.entry).source;
+          ticket = None;
+        } }
+    {
+        Closed {
+            sender,
+            ticket: None,
+            marker: Marker::new(),
+            finished: false,
+        }
+    }
+
     /// Whether the last poll finished it: it was ready, and not for want of memory.
     pub fn is_terminated(&self) -> bool
         ensures { result ≡ self.now.finished }
@@ -379,7 +419,7 @@ impl<T: Drop, R: Wait + Clone + Drop> Future for Closed<'_, T, R> {
         }) }
         ensures holds { OnPending result (IsSome self.new.ticket) }
     {
-        let sender = self.sender;
+        let sender = self.sender.get();
         let mut locked = sender.link.lock();
         match locked.poll_closed(&mut self.ticket, &mut self.marker, cx) {
             Ok(Poll::Ready(())) => {
@@ -403,6 +443,7 @@ impl<T: Drop, R: Wait + Clone + Drop> Drop for Closed<'_, T, R> {
             marker: _,
             finished: _,
         } = self;
+        let sender = sender.get();
         if ticket.is_some() {
             sender.link.lock().cancel_closed(&mut ticket);
         }

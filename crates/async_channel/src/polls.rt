@@ -48,10 +48,12 @@ impl<T: Drop, R: Wait> Locked<'_, T, R> {
         ensures wanted { OnErr result (GrowsWithMessages self.old.channel ⊎ (send_reply m.old
             self.old.channel ≡ Pending)) }
     {
-        let Ok(mark) = self.mark(self.is_send_ready(m), waiter, cx) else {
+        let is_ready = self.is_send_ready(m);
+        let Ok(mark) = self.mark(is_ready, waiter, cx) else {
             return Err(OutOfMemory);
         };
-        self.core.poll_send(m, t, mark, &mut self.bell)
+        let core = self.pass.value_mut(&self.shared.core, &self.held);
+        core.poll_send(m, t, mark, &mut self.bell)
     }
 
     #[inline(always)]
@@ -75,10 +77,12 @@ impl<T: Drop, R: Wait> Locked<'_, T, R> {
         ensures unpolled { OnErr result (t.new ≡ t.old) }
         ensures wanted { OnErr result (recv_reply self.old.channel ≡ Pending) }
     {
-        let Ok(mark) = self.mark(self.is_recv_ready(), waiter, cx) else {
+        let is_ready = self.is_recv_ready();
+        let Ok(mark) = self.mark(is_ready, waiter, cx) else {
             return Err(OutOfMemory);
         };
-        self.core.poll_recv(t, mark, &mut self.bell)
+        let core = self.pass.value_mut(&self.shared.core, &self.held);
+        core.poll_recv(t, mark, &mut self.bell)
     }
 
     #[tactic(auto, using(crate::proofs::Logging::logs))]
@@ -101,10 +105,12 @@ impl<T: Drop, R: Wait> Locked<'_, T, R> {
         ensures unpolled { OnErr result (t.new ≡ t.old) }
         ensures wanted { OnErr result (next_reply self.old.channel ≡ Pending) }
     {
-        let Ok(mark) = self.mark(self.is_recv_ready(), waiter, cx) else {
+        let is_ready = self.is_recv_ready();
+        let Ok(mark) = self.mark(is_ready, waiter, cx) else {
             return Err(OutOfMemory);
         };
-        self.core.poll_next(t, mark, &mut self.bell)
+        let core = self.pass.value_mut(&self.shared.core, &self.held);
+        core.poll_next(t, mark, &mut self.bell)
     }
 
     pub(crate) fn poll_closed<C, W: Waiter<C>>(
@@ -129,10 +135,12 @@ impl<T: Drop, R: Wait> Locked<'_, T, R> {
         ensures unpolled { OnErr result (t.new ≡ t.old) }
         ensures wanted { OnErr result (closed_reply self.old.channel ≡ Pending) }
     {
-        let Ok(mark) = self.mark(self.is_closed_ready(), waiter, cx) else {
+        let is_ready = self.is_closed_ready();
+        let Ok(mark) = self.mark(is_ready, waiter, cx) else {
             return Err(OutOfMemory);
         };
-        self.core.poll_closed(t, mark)
+        let core = self.pass.value_mut(&self.shared.core, &self.held);
+        core.poll_closed(t, mark)
     }
 }
 
@@ -292,29 +300,43 @@ impl<T: Drop, R: Wait> Locked<'_, T, R> {
     // Whether a send is ready. A finished one never is.
     #[inline(always)]
     #[tactic(auto, using(crate::proofs::Ready::send_ready))]
-    fn is_send_ready(&self, m: &Option<T>) -> bool
-        ensures { result ≡ not (is_pending (send_reply m.now self.now.channel)) }
+    fn is_send_ready(&mut self, m: &Option<T>) -> bool
+        ensures kept { self.new ≡ self.old }
+        ensures reply { result ≡ not (is_pending (send_reply m.now self.old.channel)) }
     {
-        m.is_some() && (self.core.is_closed() || !self.core.is_full())
+        m.is_some()
+            && (self
+                .pass
+                .value_mut(&self.shared.core, &self.held)
+                .is_closed()
+                || !self.pass.value_mut(&self.shared.core, &self.held).is_full())
     }
 
     // Whether a receive is ready, and a stream.
     #[inline(always)]
     #[tactic(auto, using(crate::proofs::Ready::recv_ready, crate::proofs::Ready::next_ready))]
-    fn is_recv_ready(&self) -> bool
-        ensures recv { result ≡ not (is_pending (recv_reply self.now.channel)) }
-        ensures next { result ≡ not (is_pending (next_reply self.now.channel)) }
+    fn is_recv_ready(&mut self) -> bool
+        ensures kept { self.new ≡ self.old }
+        ensures recv { result ≡ not (is_pending (recv_reply self.old.channel)) }
+        ensures next { result ≡ not (is_pending (next_reply self.old.channel)) }
     {
-        self.core.is_closed() || !self.core.is_empty()
+        let core = self.pass.value_mut(&self.shared.core, &self.held);
+        core.is_closed()
+            || !self
+                .pass
+                .value_mut(&self.shared.core, &self.held)
+                .is_empty()
     }
 
     // Whether a closed operation is ready.
     #[inline]
     #[tactic(auto, using(crate::proofs::Ready::closed_ready))]
-    fn is_closed_ready(&self) -> bool
-        ensures { result ≡ not (is_pending (closed_reply self.now.channel)) }
+    fn is_closed_ready(&mut self) -> bool
+        ensures kept { self.new ≡ self.old }
+        ensures reply { result ≡ not (is_pending (closed_reply self.old.channel)) }
     {
-        self.core.receiver_count() == 0
+        let core = self.pass.value_mut(&self.shared.core, &self.held);
+        core.receiver_count() == 0
     }
 
     // The mark of a poll. One that is ready needs none.

@@ -6,9 +6,10 @@ use crate::locked::Locked;
 use channel_core::{Core, OutOfMemory};
 use channel_wakers::Mark;
 use futures::task::Source;
+use ruled_mutex::{RuledMutex, Unruled};
 use std::alloc::Global;
 use std::hint;
-use std::sync::{Arc, Mutex, MutexGuard, Wait};
+use std::sync::{Arc, Wait};
 
 /// How often a blocking call looks at the channel before its thread sleeps.
 ///
@@ -21,34 +22,21 @@ pub(crate) const LOOKS: u32 = 40;
 // How many of the processor's pauses are between two looks at the channel.
 const PAUSES: u32 = 20;
 
-// How often a thread looks at a taken lock before it sleeps.
-const LOCK_LOOKS: u32 = 5;
-
-// How many pauses are before each look at a taken lock: so many that whoever has it can take several
-// steps, and its cache lines stay where they are. With 60, four producers and four consumers at 128
-// places took twice as long.
-const LOCK_PAUSES: u32 = 150;
-
-fn pause(pauses: u32) {
-    for _ in 0..pauses {
+/// Lets some time go by between two looks at the channel.
+pub(crate) fn pause_between_looks() {
+    for _ in 0..PAUSES {
         hint::spin_loop();
     }
 }
 
-/// Lets some time go by between two looks at the channel.
-pub(crate) fn pause_between_looks() {
-    pause(PAUSES);
-}
-
 /// What all handles of a channel share.
-#[derive(Drop)]
 pub(crate) struct Shared<T> {
     // Where the memory of its marks comes from.
     pub(crate) alloc: Global,
     // What tasks wait for, by its name.
     pub(crate) source: Source,
     // The channel itself, on which each call is one step.
-    core: Mutex<Core<T, Mark>>,
+    pub(crate) core: RuledMutex<Core<T, Mark>, (), Unruled>,
 }
 
 /// What each handle has of its channel: the shared part, and the runtime by which it takes the
@@ -60,32 +48,26 @@ pub(crate) struct Link<T, R> {
 }
 
 impl<T: Drop> Shared<T> {
-    pub(crate) fn new(alloc: Global, core: Core<T, Mark>) -> Shared<T> {
-        Shared {
+    pub(crate) fn new(alloc: Global, core: Core<T, Mark>) -> Result<Shared<T>, OutOfMemory> {
+        let Ok((core, _pass)) = RuledMutex::new(alloc, core) else {
+            return Err(OutOfMemory);
+        };
+        Ok(Shared {
             alloc,
             source: Source::new(),
-            core: Mutex::new(core),
-        }
+            core,
+        })
     }
+}
 
-    // The lock, which is mostly free.
-    #[inline(always)]
-    fn lock<R: Wait>(&self, rt: &R) -> MutexGuard<'_, Core<T, Mark>> {
-        match self.core.try_lock() {
-            Some(guard) => guard,
-            None => self.lock_taken(rt),
-        }
-    }
-
-    // The lock, if somebody has it.
-    fn lock_taken<R: Wait>(&self, rt: &R) -> MutexGuard<'_, Core<T, Mark>> {
-        for _ in 0..LOCK_LOOKS {
-            pause(LOCK_PAUSES);
-            if let Some(guard) = self.core.try_lock() {
-                return guard;
-            }
-        }
-        self.core.lock(rt)
+impl<T: Drop> Drop for Shared<T> {
+    fn drop(self) {
+        let Self {
+            alloc: _,
+            source: _,
+            core,
+        } = self;
+        drop(core);
     }
 }
 
@@ -96,8 +78,7 @@ impl<T: Drop, R: Wait> Link<T, R> {
         ensures silent { result.rung ≡ [] }
         ensures source { result.source ≡ (arc_value self.now.shared).source.id }
     {
-        let shared = &*self.shared;
-        Locked::new(shared.lock(&self.rt), shared, &self.rt)
+        Locked::new(&self.shared, &self.rt)
     }
 }
 

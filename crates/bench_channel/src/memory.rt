@@ -1,7 +1,7 @@
 //! What memory a channel takes, and what of it goes back.
 //!
-//! `held` prints a line at each moment at which the bytes that the program holds are counted, by an
-//! allocator that is laid in front of it.
+//! `held` prints a line at each moment at which the bytes that the program holds are counted, and how
+//! often it asked for some, by an allocator that is laid in front of it.
 use crate::report::channel;
 use anyhow::Result;
 use async_channel::{Receiver, Sender};
@@ -18,6 +18,9 @@ const PLACES: u64 = 10_000_000;
 
 /// How many messages go in and out.
 const MESSAGES: u64 = 10_000_000;
+
+/// How many messages are held while others go through, and how many a batch has.
+const FEW: u64 = 100;
 
 /// How many receives wait and are given up.
 const RECEIVES: u64 = 1_000_000;
@@ -57,10 +60,37 @@ where
     Ok(all)
 }
 
-/// Sends messages, and receives them.
-fn fill_and_drain<R: Wait + Clone + Drop>(s: &Sender<u64, R>, r: &Receiver<u64, R>) -> bool {
-    let sent = (0..MESSAGES).all(|message| matches!(s.try_send(message), Ok(Ok(()))));
-    sent && (0..MESSAGES).all(|_| r.try_recv().is_ok())
+/// Sends so many messages.
+fn fill<R: Wait + Clone + Drop>(s: &Sender<u64, R>, count: u64) -> bool {
+    (0..count).all(|message| matches!(s.try_send(message), Ok(Ok(()))))
+}
+
+/// Receives so many messages.
+fn drain<R: Wait + Clone + Drop>(r: &Receiver<u64, R>, count: u64) -> bool {
+    (0..count).all(|_| r.try_recv().is_ok())
+}
+
+/// Prints what a channel without a capacity holds of the messages that went through it.
+fn held_of_messages<R>(rt: &R, s: &Sender<u64, R>, r: &Receiver<u64, R>) -> Result<()>
+where
+    R: Wait + Clone + Drop + AllocGlobal + Print,
+{
+    let lost = "a message was lost";
+    anyhow::ensure!(fill(s, MESSAGES) && drain(r, MESSAGES), lost);
+    println!(rt; "ten million messages went in and out")?;
+    anyhow::ensure!(fill(s, MESSAGES) && drain(r, MESSAGES - 1), lost);
+    println!(rt; "ten million messages went in, and all but one out")?;
+    anyhow::ensure!(fill(s, FEW) && drain(r, 1), lost);
+    println!(rt; "a hundred messages are held")?;
+    anyhow::ensure!((0..MESSAGES).all(|_| fill(s, 1) && drain(r, 1)), lost);
+    println!(rt; "ten million messages went through beside them")?;
+    let mut into = Vec::new(rt.alloc());
+    anyhow::ensure!(
+        r.try_recv_many(&mut into, FEW as usize)? == Ok(FEW as usize),
+        lost
+    );
+    println!(rt; "a batch of a hundred was received")?;
+    Ok(())
 }
 
 /// Prints a line at each moment that counts.
@@ -71,9 +101,8 @@ pub fn held<R: Wait + Clone + Drop + AllocGlobal + RandomSource + Print>(rt: &R)
     drop(ends);
     let (s, r) = channel(rt, None)?;
     println!(rt; "idle, unbounded")?;
-    anyhow::ensure!(fill_and_drain(&s, &r), "a message was lost");
-    println!(rt; "unbounded, ten million messages in and out")?;
+    held_of_messages(rt, &s, &r)?;
     anyhow::ensure!(wait_and_give_up(rt, &r)?, "a receive didn't wait");
-    println!(rt; "a million receives that waited and were given up")?;
+    println!(rt; "a million receives waited and were given up")?;
     Ok(())
 }

@@ -106,15 +106,17 @@ fn time(rt: &(impl AllocGlobal + Clock), waiters: usize) -> Result<Times> {
     })
 }
 
-/// Prints a line for each number of waiters.
+/// Prints the table: a row for each number of waiters.
 pub fn report(rt: &(impl AllocGlobal + Clock + Print)) -> Result<()> {
+    println!(rt; "| Waiters | register, ns | tell | cancel the middle one |")?;
+    println!(rt; "|---|---|---|---|")?;
     for waiters in [10, 1_000, 100_000] {
         let mut best = time(rt, waiters)?;
         for _ in 1..RUNS {
             best = best.best(time(rt, waiters)?);
         }
         println!(rt;
-            "{waiters} waiters: register {} ns, tell {} ns, cancel the middle one {} ns",
+            "| {waiters} | {} | {} | {} |",
             best.register, best.tell, best.cancel
         )?;
     }

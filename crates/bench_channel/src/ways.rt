@@ -21,7 +21,7 @@ const CAPACITY: usize = 64;
 pub enum Way {
     /// One input after the other, on one thread.
     Plain,
-    /// By the kit's rayon, on as many threads as it takes.
+    /// By the kit's rayon, on as many threads as it takes, in pieces as small as it likes.
     Rayon,
     /// By `map_all`, with this number of workers.
     Map {
@@ -53,6 +53,7 @@ fn by_rayon<const STEPS: u64, R: AllocGlobal + Threads + Sync>(
 ) -> Result<Vec<u64>> {
     let answers = inputs
         .par_iter()
+        .with_min_len(1)
         .map(|input: &u64| -> u64 { stir_number::<STEPS>(*input) })
         .collect(rt, rt.alloc())?;
     Ok(answers)

@@ -1,5 +1,7 @@
 //! The queue of a channel's messages.
-ghost use Rattle.std.specs.Prelude.{◌≡◌, ◌<◌, [], drop, length, slice_get, Some, None, IfOk, IfErr, OnOk, OnErr};
+ghost use Rattle.std.specs.Prelude.{◌≡◌, ◌⊎◌, ◌<◌, ◌≤◌, ◌*◌, [], drop, min, length, slice_get, Some, None, IfOk, IfErr, OnOk, OnErr};
+ghost use Rattle.std.specs.Option.{option_copied};
+ghost use Rattle.std.specs.VecDeque.{deque_capacity};
 ghost use prog.Memory.{size, capped};
 ghost use denote.Param.{layout};
 ghost use Rattle.channel_core.specs.Queue.{contents, push_reply, pushed, force_push_reply, force_pushed, popped, IsWithin};
@@ -11,7 +13,7 @@ use std::collections::VecDeque;
 use std::marker::Model;
 use std::mem::size_of;
 
-/// How many bytes a drained queue without a bound keeps at the most, for the messages to come.
+/// How many bytes a queue without a bound keeps in any case, for the messages to come.
 const KEPT_BYTES: usize = 4096;
 
 /// How many messages it keeps room for in any case, so that large ones don't ask for memory at each
@@ -27,8 +29,8 @@ enum Store<T> {
 /// Messages in order, the oldest first.
 ///
 /// A bounded queue has all its memory from the start, so that a push into it never asks for any. An
-/// unbounded one grows as messages come. Once it is drained it gives its memory back, but for a few
-/// KB that it keeps for the messages to come.
+/// unbounded one grows as messages come, and gives memory back as they go: once a quarter of its
+/// room is used it keeps half of it. A few KB stay for the messages to come.
 ///
 /// # Examples
 ///
@@ -55,19 +57,21 @@ impl<T> Model for Queue<T> {
     ghost invariant = { λ queue. HasPlaces queue.store };
 }
 
-/// Takes the oldest message of a queue without a bound. If it was the last one, more memory than
-/// is kept goes back. Nothing is moved for that, and there is as much again only once as many
-/// messages are held.
+/// Gives room back once a quarter of it is used, or none, and keeps twice what is used. So a message
+/// is moved for it only after as many have left. If memory is refused for that all stays as it is.
 #[inline(always)]
-fn pop_and_shrink<T: Drop>(deque: &mut VecDeque<T, Global>) -> Option<T>
-    ensures message { result ≡ slice_get deque.old.items 0 }
-    ensures rest { deque.new.items ≡ drop 1 deque.old.items }
+fn give_room_back<T>(deque: &mut VecDeque<T, Global>)
+    ensures same { deque.new.items ≡ deque.old.items }
+    ensures no_more { deque_capacity deque.new ≤ deque_capacity deque.old }
+    ensures twice { min (2 * length deque.old.items) (deque_capacity deque.old)
+        ≤ deque_capacity deque.new }
+    ensures at_a_quarter { (deque_capacity deque.new ≡ deque_capacity deque.old)
+        ⊎ (4 * length deque.old.items ≤ deque_capacity deque.old) }
 {
-    let message = deque.pop_front();
-    if deque.is_empty() && is_large::<T>(deque.capacity()) {
-        *deque = VecDeque::new(*deque.allocator());
+    let (used, room) = (deque.len(), deque.capacity());
+    if (used == room / 4 || used == 0) && is_large::<T>(room) {
+        deque.shrink_to(used.saturating_mul(2));
     }
-    message
 }
 
 /// Whether so many messages take more memory than is kept.
@@ -197,7 +201,30 @@ impl<T: Drop> Queue<T> {
     {
         match &mut self.store {
             Store::Ring(ring) => ring.pop_front(),
-            Store::Deque(deque) => pop_and_shrink(deque),
+            Store::Deque(deque) => {
+                let message = deque.pop_front();
+                give_room_back(deque);
+                message
+            }
+        }
+    }
+
+    /// The message in this place, from 0 for the oldest.
+    ///
+    /// # Examples
+    ///
+    /// ```
+    /// let mut queue = Queue::unbounded(rt.alloc());
+    /// assert_eq!(rt; queue.push(7)?, Ok(()));
+    /// assert_eq!(rt; queue.get(0).copied(), Some(7));
+    /// assert_eq!(rt; queue.get(1).copied(), None);
+    /// ```
+    pub fn get(&self, place: usize) -> Option<&T>
+        ensures { option_copied result ≡ slice_get self.now.messages place }
+    {
+        match &self.store {
+            Store::Ring(ring) => ring.get(place),
+            Store::Deque(deque) => deque.get(place),
         }
     }
 

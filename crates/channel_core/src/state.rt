@@ -269,6 +269,21 @@ impl<T: Drop, W: Drop> Core<T, W> {
         self.closed && self.is_empty()
     }
 
+    /// The message in this place, from 0 for the oldest.
+    ///
+    /// # Examples
+    ///
+    /// ```
+    /// let mut core: Core<u64, ()> = Core::unbounded(rt.alloc());
+    /// assert_eq!(rt; core.try_send(7, &mut Quiet)?, Ok(()));
+    /// assert_eq!(rt; core.message(0).copied(), Some(7));
+    /// ```
+    pub fn message(&self, place: usize) -> Option<&T>
+        ensures { option_copied result ≡ slice_get self.now.messages place }
+    {
+        self.queue.get(place)
+    }
+
     /// The number of messages.
     pub fn len(&self) -> usize
         ensures { result ≡ length self.now.messages }

@@ -182,20 +182,27 @@ polls_within-stay {T} kind past polls n made quiet (suc k) (suc m) is =
     (polls_within-stay kind past polls n made quiet k m less)
     ∙ ap (λ (told : List (Step T)). with_poll kind past polls (slice_get told 0)) quiet
 
--- Polls that settled the channel are the ones that are computed.
-pub settling_polls-Settles : {T : Type 0} (kind : Kind) (past polls : Past T) (count : ℕ)
-    (finished : List (Who × Reply T)) → IsLegal kind past → Settles kind past polls count finished
+-- Polls of settling after which nobody is told are the ones that are computed.
+pub settling_polls-IsSettling : {T : Type 0} (kind : Kind) (past polls : Past T) → IsLegal kind past
+    → IsSettling kind past polls → told_polls {T = T} (rosters (polls ++ past)) ≡ []
     → settling_polls kind past ≡ polls
-settling_polls-Settles {T} kind past polls count finished legal settles =
+settling_polls-IsSettling {T} kind past polls legal each quiet =
     sym (polls_within-stay kind past computed (length computed)
     (polls_within-IsSettling kind past computed complete.each)
     (nobody_polled (rosters (computed ++ past)) complete.quiet)
     (length polls) (length polls + length computed) refl)
-    ∙ polls_within-stay kind past polls (length polls) (polls_within-IsSettling kind past polls settles.each)
-    settles.quiet (length computed) (length polls + length computed) (omega arith)
+    ∙ polls_within-stay kind past polls (length polls) (polls_within-IsSettling kind past polls each)
+    quiet (length computed) (length polls + length computed) (omega arith)
   where
     computed : Past T
     computed = settling_polls kind past
 
     complete : IsComplete kind past computed
     complete = IsComplete-IsLegal kind past legal
+
+-- So are polls that settled the channel.
+pub settling_polls-Settles : {T : Type 0} (kind : Kind) (past polls : Past T) (count : ℕ)
+    (finished : List (Who × Reply T)) → IsLegal kind past → Settles kind past polls count finished
+    → settling_polls kind past ≡ polls
+settling_polls-Settles kind past polls count finished legal settles =
+    settling_polls-IsSettling kind past polls legal settles.each settles.quiet

@@ -16,7 +16,8 @@
 //! ask whether a name was told is to look its ticket up in the list of its kind. To find whom to
 //! poll next is to take the first told key of a list, and to look for the ticket that has it. A
 //! settling that takes a second poll notes who holds which ticket, and looks for no further one.
-ghost use Rattle.std.specs.Prelude.{◌≡◌, [], length, IfOk, IfErr};
+ghost use Rattle.std.specs.Prelude.{◌≡◌, [], length, IfOk, IfErr, slice_get};
+ghost use Rattle.std.specs.Option.{option_copied};
 ghost use Rattle.identity.specs.Keys.{is_among};
 ghost use Rattle.channel_model.specs.declared.step.Kind.{Kind};
 ghost use Rattle.channel_model.specs.Past.{Past};
@@ -181,6 +182,36 @@ impl<T: Drop> Run<T> {
                 None => Notice::Absent,
             },
         }
+    }
+
+    /// The message that is held in this place, from 0 for the oldest.
+    ///
+    /// # Examples
+    ///
+    /// ```
+    /// let mut run = Run::new(rt.alloc(), Kind::Unbounded)?;
+    /// assert_eq!(rt; run.step(Step::TrySend(0, 7)), Reply::TrySent(Ok(())));
+    /// assert_eq!(rt; run.message(0).copied(), Some(7));
+    /// assert_eq!(rt; run.message(1).copied(), None);
+    /// ```
+    pub fn message(&self, place: usize) -> Option<&T>
+        ensures { option_copied result ≡ slice_get self.now.messages place }
+    {
+        self.core.message(place)
+    }
+
+    /// How many messages are held.
+    ///
+    /// # Examples
+    ///
+    /// ```
+    /// let run: Run<u64> = Run::new(rt.alloc(), Kind::Unbounded)?;
+    /// assert_eq!(rt; run.message_count(), 0);
+    /// ```
+    pub fn message_count(&self) -> usize
+        ensures { result ≡ length self.now.messages }
+    {
+        self.core.len()
     }
 
     // The step that was asked for.

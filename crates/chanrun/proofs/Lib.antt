@@ -5,3 +5,4 @@ pub mod Known
 pub mod SettlingPolls
 pub mod LinesDone
 pub mod LegalScripts
+pub mod Traced

@@ -7,3 +7,4 @@ pub mod Parsed
 pub mod Replayed
 pub mod Outcome
 pub mod Stages
+pub mod Trace

@@ -23,3 +23,4 @@ pub mod reply_text;
 pub mod script;
 pub mod standard;
 pub mod tell;
+pub mod trace;

@@ -1,6 +1,6 @@
 //! A script's lines as values: each is read once, before the first one is done.
 ghost use Rattle.std.specs.Prelude.{◌≡◌, ◌≤◌, length, map, IfOk};
-ghost use Rattle.chanrun.specs.Parsed.{IsCut, IsParsed};
+ghost use Rattle.chanrun.specs.Parsed.{IsCut, IsParsed, lines_said};
 ghost use Rattle.chanrun.specs.Script.{commands_of, fault_from};
 
 use crate::grammar::{Fault, command_of, kind_of, lines_of, split_line};
@@ -48,6 +48,8 @@ fn commands_in<'a>(
     requires { length texts.now ≤ SCRIPT_LIMIT }
     ensures commands { IfOk result (λ read. map (λ line. line.command) read.0.items
         ≡ commands_of (map (λ text. text.now) texts.now)) }
+    ensures said { IfOk result (λ read. map (λ line. (line.text.now, line.command)) read.0.items
+        ≡ lines_said (map (λ text. text.now) texts.now)) }
     ensures fault { IfOk result (λ read.
         read.1 ≡ fault_from 2 (map (λ text. text.now) texts.now)) }
 {

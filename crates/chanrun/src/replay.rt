@@ -180,7 +180,7 @@ fn settled_texts(alloc: Global, settled: Settled<u64>) -> Result<Vec<String>, Al
 }
 
 // The reply to a step.
-fn reply_text(alloc: Global, reply: Reply<u64>) -> Result<String, AllocError>
+pub(crate) fn reply_text(alloc: Global, reply: Reply<u64>) -> Result<String, AllocError>
     ensures { IfOk result (λ text. string_bytes text ≡ reply_text reply) }
 {
     let reply = ReplyText(reply);
@@ -188,7 +188,7 @@ fn reply_text(alloc: Global, reply: Reply<u64>) -> Result<String, AllocError>
 }
 
 // Whether somebody waits and was told.
-fn notice_text(alloc: Global, notice: Notice) -> Result<String, AllocError>
+pub(crate) fn notice_text(alloc: Global, notice: Notice) -> Result<String, AllocError>
     ensures { IfOk result (λ text. string_bytes text ≡ notice_text notice) }
 {
     let notice = NoticeText(notice);

@@ -252,7 +252,7 @@ fn answer_lines<W: Sink>(alloc: Global, script: &Script, writer: &mut W) -> Resu
 }
 
 // The end of a script with this fault, if it has one.
-fn ended(fault: Option<(u64, Fault)>) -> Result<(), ScriptError>
+pub(crate) fn ended(fault: Option<(u64, Fault)>) -> Result<(), ScriptError>
     ensures { ending result ≡ Some fault }
 {
     match fault {

@@ -1,4 +1,5 @@
 pub mod Waiting
+pub mod Calls
 pub mod Opens
 pub mod Entries
 pub mod Chain

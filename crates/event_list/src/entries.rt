@@ -104,6 +104,13 @@ impl<W: Drop> Entries<W> {
         }
     }
 
+    /// How many entries there is room for.
+    pub fn capacity(&self) -> usize
+        ensures { result ≡ self.now.capacity }
+    {
+        self.slab.capacity()
+    }
+
     /// Makes room for one more entry. The answer is whether there is room.
     pub fn reserve<L: Ledger>(&mut self, lookups: &mut Lookups<L>) -> bool
         ensures room { OnTrue result (HasRoomFor self.new 1) }

@@ -8,10 +8,12 @@
 //!
 //! Each look-up is counted on the ledger that a call is handed. No other can be opened here, and no
 //! entry is reached without one: see `steps`.
-ghost use Rattle.std.specs.Prelude.{◌≡◌, ◌+◌, ◌<◌, ◌≤◌, ◌↔◌, length, take, is_ok, is_some, IsTrue, IfNone, IfOk, IfErr, OnOk, OnErr, slice_get, false};
-ghost use Rattle.std.specs.Option.{option_map, option_and_then, option_copied};
-ghost use Rattle.identity.specs.Keys.{is_among, AreDifferent};
-ghost use Rattle.event_list.specs.Waiting.{LosesOne, IsWaiting, nobody, keys, told_count, payloads, is_told, payload_of, told_flag, payload_in, joined, without, renewed, told_one, told_all, cancelled, rung_by_cancelling, RingsEach};
+ghost use Rattle.std.specs.Prelude.{◌≡◌, ◌+◌, ◌<◌, ◌≤◌, ◌↔◌, length, take, IsTrue, slice_get};
+ghost use Rattle.std.specs.Bool.{OnTrue};
+ghost use Rattle.std.specs.Option.{option_copied};
+ghost use Rattle.identity.specs.Keys.{AreDifferent};
+ghost use Rattle.event_list.specs.Waiting.{nobody, keys, told_count, payloads, told_flag, payload_in};
+ghost use Rattle.event_list.specs.Calls.{Listens, Renews, Unregisters, TellsOne, TellsAll, Withdraws};
 
 use crate::bell::Bell;
 use crate::ends::Ends;
@@ -22,6 +24,9 @@ use crate::ticket::Ticket;
 use std::alloc::Global;
 use std::marker::Model;
 use std::sync::ledger::Ledger;
+
+/// How many entries there is room for in any case once nobody waits any more.
+const KEPT_ENTRIES: usize = 64;
 
 /// The entries in order of arrival, of which the first `told` are told.
 #[derive(Drop)]
@@ -71,12 +76,7 @@ impl<W: Drop> Links<W> {
         w: W,
         lookups: &mut Lookups<L>,
     ) -> Result<Ticket, NoRoom<W>>
-        ensures fresh { IfOk result (λ ticket. is_among ticket (keys self.old) ≡ false) }
-        ensures after { IfOk result (λ ticket. self.new ≡ joined self.old ticket w) }
-        ensures waits { IfOk result (λ ticket. IsWaiting self.new ticket w) }
-        ensures handed_back { IfErr result (λ error. error.0 ≡ w) }
-        ensures unchanged { OnErr result (self.new ≡ self.old) }
-        ensures different { AreDifferent (keys self.new) }
+        ensures does { Listens self.old w result self.new }
         ensures counted { lookups.new ≤ lookups.old + 6 }
         ensures on_this_ledger { lookups.old < lookups.new }
     {
@@ -95,14 +95,7 @@ impl<W: Drop> Links<W> {
         w: W,
         lookups: &mut Lookups<L>,
     ) -> Result<Option<W>, W>
-        ensures found { is_ok result ≡ is_some (told_flag self.old t.now) }
-        ensures replaced { IfOk result (λ payload. payload ≡ payload_in t.now self.old.untold) }
-        ensures handed_back { IfErr result (λ payload. payload ≡ w) }
-        ensures after { self.new ≡ renewed self.old t.now w }
-        ensures waits { OnOk result (IsWaiting self.new t.now w) }
-        ensures unchanged { OnErr result (self.new ≡ self.old) }
-        ensures different { AreDifferent (keys self.new) }
-        ensures sizes { LosesOne self.old t.now }
+        ensures does { Renews self.old t.now w result self.new }
         ensures counted { lookups.new ≤ lookups.old + 6 }
         ensures on_this_ledger { lookups.old < lookups.new }
     {
@@ -124,10 +117,7 @@ impl<W: Drop> Links<W> {
         bell: &mut B,
         lookups: &mut Lookups<L>,
     ) -> bool
-        ensures told { IsTrue result ↔ (0 < length (payloads self.old)) }
-        ensures after { self.new ≡ told_one self.old }
-        ensures rung { RingsEach B.rings bell.old (take 1 (payloads self.old)) bell.new }
-        ensures different { AreDifferent (keys self.new) }
+        ensures does { TellsOne B.rings self.old bell.old result self.new bell.new }
         ensures counted { lookups.new ≡ lookups.old + length (take 1 (payloads self.old)) }
     {
         let Some(key) = self.ends.cursor else {
@@ -148,10 +138,7 @@ impl<W: Drop> Links<W> {
         bell: &mut B,
         lookups: &mut Lookups<L>,
     ) -> usize
-        ensures told { result ≡ length (payloads self.old) }
-        ensures after { self.new ≡ told_all self.old }
-        ensures rung { RingsEach B.rings bell.old (payloads self.old) bell.new }
-        ensures different { AreDifferent (keys self.new) }
+        ensures does { TellsAll B.rings self.old bell.old result self.new bell.new }
         ensures counted { lookups.new ≡ lookups.old + length (payloads self.old) }
     {
         let untold = self.len() - self.told();
@@ -167,12 +154,7 @@ impl<W: Drop> Links<W> {
         t: Ticket,
         lookups: &mut Lookups<L>,
     ) -> Option<EntryState<W>>
-        ensures was_told { option_map is_told result ≡ told_flag self.old t }
-        ensures payload { option_and_then payload_of result ≡ payload_in t self.old.untold }
-        ensures after { self.new ≡ without self.old t }
-        ensures unchanged { IfNone result (self.new ≡ self.old) }
-        ensures different { AreDifferent (keys self.new) }
-        ensures sizes { LosesOne self.old t }
+        ensures does { Unregisters self.old t result self.new }
         ensures counted { lookups.new ≤ lookups.old + 6 }
         ensures on_this_ledger { lookups.old < lookups.new }
     {
@@ -192,11 +174,7 @@ impl<W: Drop> Links<W> {
         bell: &mut B,
         lookups: &mut Lookups<L>,
     ) -> Option<W>
-        ensures payload { result ≡ payload_in t self.old.untold }
-        ensures after { self.new ≡ cancelled self.old t }
-        ensures rung { RingsEach B.rings bell.old (rung_by_cancelling self.old t) bell.new }
-        ensures different { AreDifferent (keys self.new) }
-        ensures sizes { LosesOne self.old t }
+        ensures does { Withdraws B.rings self.old t bell.old result self.new bell.new }
         ensures counted { lookups.new ≤ lookups.old + 12 }
         ensures on_this_ledger { lookups.old < lookups.new }
     {
@@ -227,7 +205,6 @@ impl<W: Drop> Links<W> {
     #[inline(always)]
     pub(crate) fn has_untold(&self) -> bool
         ensures answer { IsTrue result ↔ (0 < length (payloads self.now)) }
-        ensures different { AreDifferent (keys self.now) }
     {
         self.ends.cursor.is_some()
     }
@@ -238,6 +215,13 @@ impl<W: Drop> Links<W> {
         ensures different { AreDifferent (keys self.now) }
     {
         self.len
+    }
+
+    /// Whether nobody waits, and there is more room than is kept.
+    pub(crate) fn is_left(&self) -> bool
+        ensures { OnTrue result (self.now ≡ nobody) }
+    {
+        self.len == 0 && self.entries.capacity() > KEPT_ENTRIES
     }
 
     /// How many are told.

@@ -19,13 +19,14 @@
 //! A counted call hands the ledger that it is given to the call of the same name of `links`, where
 //! the work is done. A call of the plain name opens a ledger and runs the counted one on it.
 //!
-//! The first who waits takes the memory in which `links` stand. Until then a list is a pointer, and
-//! a call that looks for an entry counts one look-up and finds none.
-ghost use Rattle.std.specs.Prelude.{◌≡◌, ◌+◌, ◌<◌, ◌≤◌, ◌↔◌, length, take, is_ok, is_some, IsTrue, IfNone, IfSome, IfOk, IfErr, OnOk, OnErr, slice_get, false};
-ghost use Rattle.std.specs.Bool.{OnTrue, OnFalse};
-ghost use Rattle.std.specs.Option.{option_map, option_and_then, option_copied};
-ghost use Rattle.identity.specs.Keys.{is_among, AreDifferent};
-ghost use Rattle.event_list.specs.Waiting.{LosesOne, IsWaiting, nobody, keys, told_count, payloads, is_told, payload_of, told_flag, payload_in, joined, without, renewed, told_one, told_all, cancelled, rung_by_cancelling, RingsEach};
+//! The first who waits takes the memory in which `links` stand, and who leaves last gives it back
+//! if it is much. Without it a list is a pointer, and a call that looks for an entry counts one
+//! look-up and finds none.
+ghost use Rattle.std.specs.Prelude.{◌≡◌, ◌+◌, ◌<◌, ◌≤◌, ◌↔◌, length, take, is_some, IsTrue, IfNone, IfSome, slice_get};
+ghost use Rattle.std.specs.Option.{option_copied};
+ghost use Rattle.identity.specs.Keys.{AreDifferent};
+ghost use Rattle.event_list.specs.Waiting.{nobody, keys, told_count, payloads, told_flag, payload_in};
+ghost use Rattle.event_list.specs.Calls.{Listens, WaitsAgain, Renews, Removes, Unregisters, TellsOne, TellsAll, Cancels, Withdraws};
 ghost use Rattle.event_list.specs.Opens.{Opens};
 ghost use Rattle.event_list.specs.Chain.{kept_list};
 
@@ -59,10 +60,11 @@ pub struct NoRoom<W>(pub W);
 /// names, which run them on a ledger of their own. Each counts on the ledger that it is handed, at
 /// most that number and at least one if it reaches an entry.
 ///
-/// A list takes memory with the first who waits, and keeps it for those who come later.
+/// A list takes memory with the first who waits. Who leaves last gives it back, if there is room
+/// for more than 64.
 ///
-/// `renew`, `unregister` and `withdraw` are `again`, `remove` and `cancel` that give back the payload
-/// which these drop: for payloads whose drop runs a caller's code, as that of a waker does.
+/// `renew`, `unregister` and `withdraw` are `again`, `remove` and `cancel` that give back the
+/// payload which these drop: for payloads whose drop runs a caller's code, as that of a waker does.
 ///
 /// # Examples
 ///
@@ -124,12 +126,7 @@ impl<W: Drop> WaitList<W> {
     /// assert_eq!(rt; list.is_told(&ticket), Some(false));
     /// ```
     pub fn listen(&mut self, w: W) -> Result<Ticket, NoRoom<W>>
-        ensures fresh { IfOk result (λ ticket. is_among ticket (keys self.old) ≡ false) }
-        ensures after { IfOk result (λ ticket. self.new ≡ joined self.old ticket w) }
-        ensures waits { IfOk result (λ ticket. IsWaiting self.new ticket w) }
-        ensures handed_back { IfErr result (λ error. error.0 ≡ w) }
-        ensures unchanged { OnErr result (self.new ≡ self.old) }
-        ensures different { AreDifferent (keys self.new) }
+        ensures { Listens self.old w result self.new }
     {
         self.listen_from::<Brand>(w, Blank::new(1))
     }
@@ -152,12 +149,7 @@ impl<W: Drop> WaitList<W> {
     /// assert_eq!(rt; list.is_told(&second), Some(true));
     /// ```
     pub fn again(&mut self, t: &Ticket, w: W) -> bool
-        ensures found { result ≡ is_some (told_flag self.old t.now) }
-        ensures after { self.new ≡ renewed self.old t.now w }
-        ensures waits { OnTrue result (IsWaiting self.new t.now w) }
-        ensures unchanged { OnFalse result (self.new ≡ self.old) }
-        ensures different { AreDifferent (keys self.new) }
-        ensures sizes { LosesOne self.old t.now }
+        ensures { WaitsAgain self.old t.now w result self.new }
     {
         self.again_from::<Brand>(t, w, Blank::new(1))
     }
@@ -178,10 +170,7 @@ impl<W: Drop> WaitList<W> {
     /// ```
     #[inline(always)]
     pub fn tell_one<B: Bell<W>>(&mut self, bell: &mut B) -> bool
-        ensures told { IsTrue result ↔ (0 < length (payloads self.old)) }
-        ensures after { self.new ≡ told_one self.old }
-        ensures rung { RingsEach B.rings bell.old (take 1 (payloads self.old)) bell.new }
-        ensures different { AreDifferent (keys self.new) }
+        ensures { TellsOne B.rings self.old bell.old result self.new bell.new }
     {
         if !self.has_untold() {
             return false;
@@ -205,10 +194,7 @@ impl<W: Drop> WaitList<W> {
     /// ```
     #[inline(always)]
     pub fn tell_all<B: Bell<W>>(&mut self, bell: &mut B) -> usize
-        ensures told { result ≡ length (payloads self.old) }
-        ensures after { self.new ≡ told_all self.old }
-        ensures rung { RingsEach B.rings bell.old (payloads self.old) bell.new }
-        ensures different { AreDifferent (keys self.new) }
+        ensures { TellsAll B.rings self.old bell.old result self.new bell.new }
     {
         if !self.has_untold() {
             return 0;
@@ -228,11 +214,7 @@ impl<W: Drop> WaitList<W> {
     /// assert_eq!(rt; list.len(), 0);
     /// ```
     pub fn remove(&mut self, t: Ticket) -> Option<bool>
-        ensures was_told { result ≡ told_flag self.old t }
-        ensures after { self.new ≡ without self.old t }
-        ensures unchanged { IfNone result (self.new ≡ self.old) }
-        ensures different { AreDifferent (keys self.new) }
-        ensures sizes { LosesOne self.old t }
+        ensures { Removes self.old t result self.new }
     {
         self.remove_from::<Brand>(t, Blank::new(1))
     }
@@ -251,10 +233,7 @@ impl<W: Drop> WaitList<W> {
     /// assert_eq!(rt; bell.0, Some(11));
     /// ```
     pub fn cancel<B: Bell<W>>(&mut self, t: Ticket, bell: &mut B)
-        ensures after { self.new ≡ cancelled self.old t }
-        ensures rung { RingsEach B.rings bell.old (rung_by_cancelling self.old t) bell.new }
-        ensures different { AreDifferent (keys self.new) }
-        ensures sizes { LosesOne self.old t }
+        ensures { Cancels B.rings self.old t bell.old self.new bell.new }
     {
         self.cancel_from::<B, Brand>(t, bell, Blank::new(1));
     }
@@ -274,14 +253,7 @@ impl<W: Drop> WaitList<W> {
     /// assert_eq!(rt; list.renew(&ticket, 12), Ok(None));
     /// ```
     pub fn renew(&mut self, t: &Ticket, w: W) -> Result<Option<W>, W>
-        ensures found { is_ok result ≡ is_some (told_flag self.old t.now) }
-        ensures replaced { IfOk result (λ payload. payload ≡ payload_in t.now self.old.untold) }
-        ensures handed_back { IfErr result (λ payload. payload ≡ w) }
-        ensures after { self.new ≡ renewed self.old t.now w }
-        ensures waits { OnOk result (IsWaiting self.new t.now w) }
-        ensures unchanged { OnErr result (self.new ≡ self.old) }
-        ensures different { AreDifferent (keys self.new) }
-        ensures sizes { LosesOne self.old t.now }
+        ensures { Renews self.old t.now w result self.new }
     {
         self.renew_from::<Brand>(t, w, Blank::new(1))
     }
@@ -297,12 +269,7 @@ impl<W: Drop> WaitList<W> {
     /// assert_eq!(rt; entry.into_payload(), Some(10));
     /// ```
     pub fn unregister(&mut self, t: Ticket) -> Option<EntryState<W>>
-        ensures was_told { option_map is_told result ≡ told_flag self.old t }
-        ensures payload { option_and_then payload_of result ≡ payload_in t self.old.untold }
-        ensures after { self.new ≡ without self.old t }
-        ensures unchanged { IfNone result (self.new ≡ self.old) }
-        ensures different { AreDifferent (keys self.new) }
-        ensures sizes { LosesOne self.old t }
+        ensures { Unregisters self.old t result self.new }
     {
         self.unregister_from::<Brand>(t, Blank::new(1))
     }
@@ -327,11 +294,7 @@ impl<W: Drop> WaitList<W> {
     /// assert_eq!(rt; list.is_told(&second), Some(true));
     /// ```
     pub fn withdraw<B: Bell<W>>(&mut self, t: Ticket, bell: &mut B) -> Option<W>
-        ensures payload { result ≡ payload_in t self.old.untold }
-        ensures after { self.new ≡ cancelled self.old t }
-        ensures rung { RingsEach B.rings bell.old (rung_by_cancelling self.old t) bell.new }
-        ensures different { AreDifferent (keys self.new) }
-        ensures sizes { LosesOne self.old t }
+        ensures { Withdraws B.rings self.old t bell.old result self.new bell.new }
     {
         self.withdraw_from::<B, Brand>(t, bell, Blank::new(1))
     }
@@ -357,12 +320,7 @@ impl<W: Drop> WaitList<W> {
         w: W,
         steps: &mut Steps<L>,
     ) -> Result<Ticket, NoRoom<W>>
-        ensures fresh { IfOk result (λ ticket. is_among ticket (keys self.old) ≡ false) }
-        ensures after { IfOk result (λ ticket. self.new ≡ joined self.old ticket w) }
-        ensures waits { IfOk result (λ ticket. IsWaiting self.new ticket w) }
-        ensures handed_back { IfErr result (λ error. error.0 ≡ w) }
-        ensures unchanged { OnErr result (self.new ≡ self.old) }
-        ensures different { AreDifferent (keys self.new) }
+        ensures does { Listens self.old w result self.new }
         ensures counted { steps.new ≤ steps.old + 6 }
         ensures on_this_ledger { steps.old < steps.new }
     {
@@ -377,12 +335,7 @@ impl<W: Drop> WaitList<W> {
 
     /// `again`, which counts its look-ups: at most 6.
     pub fn again_counted<L: Ledger>(&mut self, t: &Ticket, w: W, steps: &mut Steps<L>) -> bool
-        ensures found { result ≡ is_some (told_flag self.old t.now) }
-        ensures after { self.new ≡ renewed self.old t.now w }
-        ensures waits { OnTrue result (IsWaiting self.new t.now w) }
-        ensures unchanged { OnFalse result (self.new ≡ self.old) }
-        ensures different { AreDifferent (keys self.new) }
-        ensures sizes { LosesOne self.old t.now }
+        ensures does { WaitsAgain self.old t.now w result self.new }
         ensures counted { steps.new ≤ steps.old + 6 }
         ensures on_this_ledger { steps.old < steps.new }
     {
@@ -395,10 +348,7 @@ impl<W: Drop> WaitList<W> {
         bell: &mut B,
         steps: &mut Steps<L>,
     ) -> bool
-        ensures told { IsTrue result ↔ (0 < length (payloads self.old)) }
-        ensures after { self.new ≡ told_one self.old }
-        ensures rung { RingsEach B.rings bell.old (take 1 (payloads self.old)) bell.new }
-        ensures different { AreDifferent (keys self.new) }
+        ensures does { TellsOne B.rings self.old bell.old result self.new bell.new }
         ensures counted { steps.new ≡ steps.old + length (take 1 (payloads self.old)) }
     {
         match &mut self.links {
@@ -413,10 +363,7 @@ impl<W: Drop> WaitList<W> {
         bell: &mut B,
         steps: &mut Steps<L>,
     ) -> usize
-        ensures told { result ≡ length (payloads self.old) }
-        ensures after { self.new ≡ told_all self.old }
-        ensures rung { RingsEach B.rings bell.old (payloads self.old) bell.new }
-        ensures different { AreDifferent (keys self.new) }
+        ensures does { TellsAll B.rings self.old bell.old result self.new bell.new }
         ensures counted { steps.new ≡ steps.old + length (payloads self.old) }
     {
         match &mut self.links {
@@ -427,11 +374,7 @@ impl<W: Drop> WaitList<W> {
 
     /// `remove`, which counts its look-ups: at most 6.
     pub fn remove_counted<L: Ledger>(&mut self, t: Ticket, steps: &mut Steps<L>) -> Option<bool>
-        ensures was_told { result ≡ told_flag self.old t }
-        ensures after { self.new ≡ without self.old t }
-        ensures unchanged { IfNone result (self.new ≡ self.old) }
-        ensures different { AreDifferent (keys self.new) }
-        ensures sizes { LosesOne self.old t }
+        ensures does { Removes self.old t result self.new }
         ensures counted { steps.new ≤ steps.old + 6 }
         ensures on_this_ledger { steps.old < steps.new }
     {
@@ -445,17 +388,14 @@ impl<W: Drop> WaitList<W> {
         bell: &mut B,
         steps: &mut Steps<L>,
     )
-        ensures after { self.new ≡ cancelled self.old t }
-        ensures rung { RingsEach B.rings bell.old (rung_by_cancelling self.old t) bell.new }
-        ensures different { AreDifferent (keys self.new) }
-        ensures sizes { LosesOne self.old t }
+        ensures does { Cancels B.rings self.old t bell.old self.new bell.new }
         ensures counted { steps.new ≤ steps.old + 12 }
         ensures on_this_ledger { steps.old < steps.new }
     {
         self.withdraw_by(t, bell, &mut steps.lookups);
     }
 
-    /// How many wait.
+    /// How many wait. All have different keys.
     pub fn len(&self) -> usize
         ensures count { result ≡ length (keys self.now) }
         ensures different { AreDifferent (keys self.now) }
@@ -525,7 +465,6 @@ impl<W: Drop> WaitList<W> {
     #[inline(always)]
     fn has_untold(&self) -> bool
         ensures answer { IsTrue result ↔ (0 < length (payloads self.now)) }
-        ensures different { AreDifferent (keys self.now) }
     {
         match &self.links {
             Some(links) => links.has_untold(),
@@ -539,14 +478,7 @@ impl<W: Drop> WaitList<W> {
         w: W,
         lookups: &mut Lookups<L>,
     ) -> Result<Option<W>, W>
-        ensures found { is_ok result ≡ is_some (told_flag self.old t.now) }
-        ensures replaced { IfOk result (λ payload. payload ≡ payload_in t.now self.old.untold) }
-        ensures handed_back { IfErr result (λ payload. payload ≡ w) }
-        ensures after { self.new ≡ renewed self.old t.now w }
-        ensures waits { OnOk result (IsWaiting self.new t.now w) }
-        ensures unchanged { OnErr result (self.new ≡ self.old) }
-        ensures different { AreDifferent (keys self.new) }
-        ensures sizes { LosesOne self.old t.now }
+        ensures does { Renews self.old t.now w result self.new }
         ensures counted { lookups.new ≤ lookups.old + 6 }
         ensures on_this_ledger { lookups.old < lookups.new }
     {
@@ -562,12 +494,7 @@ impl<W: Drop> WaitList<W> {
         t: Ticket,
         lookups: &mut Lookups<L>,
     ) -> Option<EntryState<W>>
-        ensures was_told { option_map is_told result ≡ told_flag self.old t }
-        ensures payload { option_and_then payload_of result ≡ payload_in t self.old.untold }
-        ensures after { self.new ≡ without self.old t }
-        ensures unchanged { IfNone result (self.new ≡ self.old) }
-        ensures different { AreDifferent (keys self.new) }
-        ensures sizes { LosesOne self.old t }
+        ensures does { Unregisters self.old t result self.new }
         ensures counted { lookups.new ≤ lookups.old + 6 }
         ensures on_this_ledger { lookups.old < lookups.new }
     {
@@ -575,7 +502,9 @@ impl<W: Drop> WaitList<W> {
             lookups.raise();
             return None;
         };
-        links.unregister(t, lookups)
+        let entry = links.unregister(t, lookups);
+        self.give_room_back();
+        entry
     }
 
     fn withdraw_by<B: Bell<W>, L: Ledger>(
@@ -584,11 +513,7 @@ impl<W: Drop> WaitList<W> {
         bell: &mut B,
         lookups: &mut Lookups<L>,
     ) -> Option<W>
-        ensures payload { result ≡ payload_in t self.old.untold }
-        ensures after { self.new ≡ cancelled self.old t }
-        ensures rung { RingsEach B.rings bell.old (rung_by_cancelling self.old t) bell.new }
-        ensures different { AreDifferent (keys self.new) }
-        ensures sizes { LosesOne self.old t }
+        ensures does { Withdraws B.rings self.old t bell.old result self.new bell.new }
         ensures counted { lookups.new ≤ lookups.old + 12 }
         ensures on_this_ledger { lookups.old < lookups.new }
     {
@@ -596,7 +521,21 @@ impl<W: Drop> WaitList<W> {
             lookups.raise();
             return None;
         };
-        links.withdraw(t, bell, lookups)
+        let payload = links.withdraw(t, bell, lookups);
+        self.give_room_back();
+        payload
+    }
+
+    /// Gives the memory back of a list in which nobody waits any more, if it is more than is kept.
+    fn give_room_back(&mut self)
+        ensures { self.new ≡ self.old }
+    {
+        let Some(links) = &self.links else {
+            return;
+        };
+        if links.is_left() {
+            self.links = None;
+        }
     }
 }
 
@@ -616,79 +555,49 @@ fn made<W: Drop>(alloc: Global, links: Option<Box<Links<W>>>) -> Option<Box<Link
 impl<W: Drop> WaitList<W> {
     fn listen_from<L: Ledger>(&mut self, w: W, blank: Blank) -> Result<Ticket, NoRoom<W>>
         requires { Opens blank.name blank.parts L.name L.parts }
-        ensures fresh { IfOk result (λ ticket. is_among ticket (keys self.old) ≡ false) }
-        ensures after { IfOk result (λ ticket. self.new ≡ joined self.old ticket w) }
-        ensures waits { IfOk result (λ ticket. IsWaiting self.new ticket w) }
-        ensures handed_back { IfErr result (λ error. error.0 ≡ w) }
-        ensures unchanged { OnErr result (self.new ≡ self.old) }
-        ensures different { AreDifferent (keys self.new) }
+        ensures { Listens self.old w result self.new }
     {
         self.listen_counted(w, &mut Steps::<L>::of(blank))
     }
 
     fn again_from<L: Ledger>(&mut self, t: &Ticket, w: W, blank: Blank) -> bool
         requires { Opens blank.name blank.parts L.name L.parts }
-        ensures found { result ≡ is_some (told_flag self.old t.now) }
-        ensures after { self.new ≡ renewed self.old t.now w }
-        ensures waits { OnTrue result (IsWaiting self.new t.now w) }
-        ensures unchanged { OnFalse result (self.new ≡ self.old) }
-        ensures different { AreDifferent (keys self.new) }
-        ensures sizes { LosesOne self.old t.now }
+        ensures { WaitsAgain self.old t.now w result self.new }
     {
         self.again_counted(t, w, &mut Steps::<L>::of(blank))
     }
 
     fn tell_one_from<B: Bell<W>, L: Ledger>(&mut self, bell: &mut B, blank: Blank) -> bool
         requires { Opens blank.name blank.parts L.name L.parts }
-        ensures told { IsTrue result ↔ (0 < length (payloads self.old)) }
-        ensures after { self.new ≡ told_one self.old }
-        ensures rung { RingsEach B.rings bell.old (take 1 (payloads self.old)) bell.new }
-        ensures different { AreDifferent (keys self.new) }
+        ensures { TellsOne B.rings self.old bell.old result self.new bell.new }
     {
         self.tell_one_counted(bell, &mut Steps::<L>::of(blank))
     }
 
     fn tell_all_from<B: Bell<W>, L: Ledger>(&mut self, bell: &mut B, blank: Blank) -> usize
         requires { Opens blank.name blank.parts L.name L.parts }
-        ensures told { result ≡ length (payloads self.old) }
-        ensures after { self.new ≡ told_all self.old }
-        ensures rung { RingsEach B.rings bell.old (payloads self.old) bell.new }
-        ensures different { AreDifferent (keys self.new) }
+        ensures { TellsAll B.rings self.old bell.old result self.new bell.new }
     {
         self.tell_all_counted(bell, &mut Steps::<L>::of(blank))
     }
 
     fn remove_from<L: Ledger>(&mut self, t: Ticket, blank: Blank) -> Option<bool>
         requires { Opens blank.name blank.parts L.name L.parts }
-        ensures was_told { result ≡ told_flag self.old t }
-        ensures after { self.new ≡ without self.old t }
-        ensures unchanged { IfNone result (self.new ≡ self.old) }
-        ensures different { AreDifferent (keys self.new) }
-        ensures sizes { LosesOne self.old t }
+        ensures { Removes self.old t result self.new }
     {
         self.remove_counted(t, &mut Steps::<L>::of(blank))
     }
 
     fn cancel_from<B: Bell<W>, L: Ledger>(&mut self, t: Ticket, bell: &mut B, blank: Blank)
         requires { Opens blank.name blank.parts L.name L.parts }
-        ensures after { self.new ≡ cancelled self.old t }
-        ensures rung { RingsEach B.rings bell.old (rung_by_cancelling self.old t) bell.new }
-        ensures different { AreDifferent (keys self.new) }
-        ensures sizes { LosesOne self.old t }
+        ensures { Cancels B.rings self.old t bell.old self.new bell.new }
     {
         self.cancel_counted(t, bell, &mut Steps::<L>::of(blank));
     }
 
     fn renew_from<L: Ledger>(&mut self, t: &Ticket, w: W, blank: Blank) -> Result<Option<W>, W>
         requires { Opens blank.name blank.parts L.name L.parts }
-        ensures found { is_ok result ≡ is_some (told_flag self.old t.now) }
-        ensures replaced { IfOk result (λ payload. payload ≡ payload_in t.now self.old.untold) }
-        ensures handed_back { IfErr result (λ payload. payload ≡ w) }
-        ensures after { self.new ≡ renewed self.old t.now w }
-        ensures waits { OnOk result (IsWaiting self.new t.now w) }
-        ensures unchanged { OnErr result (self.new ≡ self.old) }
-        ensures different { AreDifferent (keys self.new) }
-        ensures sizes { LosesOne self.old t.now }
+        ensures { Renews self.old t.now w result self.new }
     {
         let mut steps = Steps::<L>::of(blank);
         self.renew_by(t, w, &mut steps.lookups)
@@ -696,12 +605,7 @@ impl<W: Drop> WaitList<W> {
 
     fn unregister_from<L: Ledger>(&mut self, t: Ticket, blank: Blank) -> Option<EntryState<W>>
         requires { Opens blank.name blank.parts L.name L.parts }
-        ensures was_told { option_map is_told result ≡ told_flag self.old t }
-        ensures payload { option_and_then payload_of result ≡ payload_in t self.old.untold }
-        ensures after { self.new ≡ without self.old t }
-        ensures unchanged { IfNone result (self.new ≡ self.old) }
-        ensures different { AreDifferent (keys self.new) }
-        ensures sizes { LosesOne self.old t }
+        ensures { Unregisters self.old t result self.new }
     {
         let mut steps = Steps::<L>::of(blank);
         self.unregister_by(t, &mut steps.lookups)
@@ -714,11 +618,7 @@ impl<W: Drop> WaitList<W> {
         blank: Blank,
     ) -> Option<W>
         requires { Opens blank.name blank.parts L.name L.parts }
-        ensures payload { result ≡ payload_in t self.old.untold }
-        ensures after { self.new ≡ cancelled self.old t }
-        ensures rung { RingsEach B.rings bell.old (rung_by_cancelling self.old t) bell.new }
-        ensures different { AreDifferent (keys self.new) }
-        ensures sizes { LosesOne self.old t }
+        ensures { Withdraws B.rings self.old t bell.old result self.new bell.new }
     {
         let mut steps = Steps::<L>::of(blank);
         self.withdraw_by(t, bell, &mut steps.lookups)

@@ -6,9 +6,12 @@ use async_channel::{Sender, StampMaker, bounded};
 use std::sync::Wait;
 use std::thread;
 
-/// Sends three numbers, and waits while the channel is full. It answers whether all went in.
-fn send_three<R: Wait + Clone + Drop>(s: &Sender<u32, R>) -> bool {
-    (1..=3).all(|number| matches!(s.send_blocking(number), Ok(Ok(()))))
+/// Sends three numbers, and waits while the channel is full.
+fn send_three<R: Wait + Clone + Drop>(s: &Sender<u32, R>) -> Result<()> {
+    for number in 1..=3 {
+        s.send_blocking(number)??;
+    }
+    Ok(())
 }
 
 fn main(rt: HostRuntime) -> Result<()> {
@@ -25,6 +28,6 @@ fn main(rt: HostRuntime) -> Result<()> {
         };
         println!(rt; "received {number}")?;
     }
-    println!(rt; "all sent: {}", sending.join(&rt))?;
-    Ok(())
+    // What ended the sending: nothing, refused memory, or a closed channel.
+    sending.join(&rt)
 }

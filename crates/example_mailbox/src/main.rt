@@ -15,14 +15,12 @@ use std::thread;
 const KEPT: usize = 2;
 
 /// The highest of the readings that the actor takes.
-fn highest<R: Wait + Clone + Drop>(mailbox: Receiver<u64, R>) -> u64 {
+fn highest<R: Wait + Clone + Drop>(mailbox: Receiver<u64, R>) -> Result<u64> {
     let mut highest = 0;
     for _ in 0..KEPT {
-        if let Ok(Ok(reading)) = mailbox.recv_blocking() {
-            highest = reading.max(highest);
-        }
+        highest = mailbox.recv_blocking()??.max(highest);
     }
-    highest
+    Ok(highest)
 }
 
 /// Puts a reading into the mailbox, and says what became of it.
@@ -59,7 +57,7 @@ fn main(rt: HostRuntime) -> Result<()> {
 
     println!(rt;
         "the highest of the last {KEPT} readings is {}",
-        actor.join(&rt)
+        actor.join(&rt)?
     )?;
     Ok(())
 }

@@ -7,7 +7,7 @@
 ghost use Rattle.std.specs.Prelude.{count_ones};
 
 use anyhow::Result;
-use async_channel::StampMaker;
+use identity::StampMaker;
 use parallel_map::{Job, Open, map_all};
 use std::thread;
 

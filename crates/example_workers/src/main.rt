@@ -25,20 +25,19 @@ fn count_divisors(number: u64) -> usize {
         .count()
 }
 
-/// Answers numbers until no more come.
+/// Answers numbers until no more come. Refused memory ends it early.
 fn work<R: Wait + Clone + Drop>(
     rt: &R,
     numbers: Receiver<u64, R>,
     answers: Sender<(u64, usize), R>,
-) {
+) -> Result<()> {
     for _ in rt.forever() {
-        let Ok(Ok(number)) = numbers.recv_blocking() else {
-            return;
+        let Ok(number) = numbers.recv_blocking()? else {
+            break;
         };
-        let Ok(Ok(())) = answers.send_blocking((number, count_divisors(number))) else {
-            return;
-        };
+        answers.send_blocking((number, count_divisors(number)))??;
     }
+    Ok(())
 }
 
 fn main(rt: HostRuntime) -> Result<()> {
@@ -66,7 +65,7 @@ fn main(rt: HostRuntime) -> Result<()> {
         found.push(from_workers.recv_blocking()??)?;
     }
     for worker in workers {
-        worker.join(&rt);
+        worker.join(&rt)?;
     }
     found.sort()?;
     for (number, count) in found {

@@ -1,6 +1,5 @@
 //! Scripts over memory: what is written, and how they end.
 use crate::devices::OneByte;
-use crate::rows::TOPICS;
 use chanrun::device::FromStd;
 use chanrun::grammar::Fault;
 use chanrun::script::{ScriptError, run_script};
@@ -36,19 +35,6 @@ pub fn gives(
         written.as_slice() == text,
         "another text was written, a byte a call"
     );
-}
-
-#[test]
-fn rows_as_scripts(rt: HostRuntime) -> Result<(), Fail> {
-    let alloc = rt.alloc();
-    for row in TOPICS.into_iter().flatten() {
-        let name = row.name;
-        println!(rt; "{name}")?;
-        let script = row.script(alloc)?;
-        let text = row.replies(alloc)?;
-        gives(&rt, alloc, script.as_bytes(), text.as_bytes(), Ok(()));
-    }
-    Ok(())
 }
 
 fn at(line: u64, fault: Fault) -> Result<(), ScriptError> {

@@ -1,174 +1,185 @@
-//! Threads that are blocked behind a task. They sleep, and so take nothing of what it was told of.
-ghost use Rattle.ruled_channel.specs.Passes.{IsPassOf};
+//! Threads that are blocked by a channel, sleep, and are woken.
+ghost use Rattle.ruled_channel_rules.specs.Handles.{IsSenderOf, IsReceiverOf};
 
-use crate::plain::{Channel, Pass, channel_for_three, close, give_turns, next, send_all};
-use futures::task::Poll;
-use futures::test::MockTask;
-use ruled_channel::Unruled;
-use std::alloc::{AllocError, AllocGlobal};
-use std::random::RandomSource;
+use crate::party::{Channel, Party, Pass};
+use ruled_channel::{Unruled, bounded_with};
+use ruled_channel_rules::{Channel as Line, Receiver, Sender, bounded};
+use std::alloc::AllocError;
+use std::io;
+use std::rt::Clock;
 use std::sync::Wait;
-use std::sync::atomic::{AtomicBool, Ordering};
 use std::test::*;
-use std::thread::{Threads, join, yield_now};
+use std::thread::{Threads, join, sleep, yield_now};
+use std::time::{CpuClock, Duration, Instant};
 
-/// How often a task and a thread wait. In a few of these rounds the thread may come too late.
-const ROUNDS: u32 = 20;
+/// How many milliseconds a call is blocked before a notice in vain, and after it.
+const BEFORE: u64 = 50;
 
-/// Who waits by then.
-#[derive(Drop)]
-struct Waiting {
-    task: AtomicBool,
-    thread: AtomicBool,
+const AFTER: u64 = 400;
+
+/// What a blocked call is, and what ends it.
+#[derive(Clone, Copy)]
+struct Case {
+    is_send: bool,
+    is_closed: bool,
 }
 
-/// Gives others turns until this is so.
-fn wait_for<R: Wait>(rt: &R, flag: &AtomicBool) {
+/// What came of a blocked call.
+#[derive(Clone, Copy)]
+struct Blocked {
+    is_done: bool,
+    used: Duration,
+}
+
+/// Blocks in a send or in a receive.
+fn block<R: Wait + CpuClock>(rt: &R, mut party: Party<'_>, is_send: bool) -> io::Result<Blocked> {
+    let before = rt.thread_cpu_time()?;
+    let is_done = if is_send {
+        party.send(rt, 2)
+    } else {
+        party.receive(rt).is_some()
+    };
+    Ok(Blocked {
+        is_done,
+        used: rt.thread_cpu_time()?.saturating_sub(before),
+    })
+}
+
+/// Lets time pass without a sleep. It answers how much processor time that took, which isn't much on a
+/// busy machine.
+fn spin<R: Wait + Clock + CpuClock>(rt: &R) -> io::Result<Duration> {
+    let (start, before) = (Instant::now(rt)?, rt.thread_cpu_time()?);
     for _ in rt.forever() {
-        if flag.load(Ordering::SeqCst) {
+        if start.elapsed(rt)? > Duration::from_millis(AFTER) {
             break;
         }
         yield_now();
     }
+    Ok(rt.thread_cpu_time()?.saturating_sub(before))
 }
 
-impl Waiting {
-    /// Says that the task waits, and lets the thread come.
-    fn let_come<R: Wait>(&self, rt: &R) {
-        self.task.store(true, Ordering::SeqCst);
-        wait_for(rt, &self.thread);
-        give_turns();
+/// Whether a call slept that took so much processor time while another thread spun.
+fn has_slept(used: Duration, spun: Duration) -> bool {
+    used.as_nanos() < spun.as_nanos() / 4
+}
+
+/// Lets the other call go on for a moment, which it is likely to miss, and then for good. It answers
+/// how much processor time it took to spin meanwhile.
+fn release<R>(rt: &R, mut party: Party<'_>, case: Case) -> io::Result<Duration>
+where
+    R: Wait + Clock + CpuClock,
+{
+    sleep(rt, Duration::from_millis(BEFORE));
+    if case.is_closed {
+        let spun = spin(rt);
+        party.close(rt);
+        return spun;
     }
-
-    /// Says that the thread comes, once the task waits.
-    fn come<R: Wait>(&self, rt: &R) {
-        wait_for(rt, &self.task);
-        self.thread.store(true, Ordering::SeqCst);
+    if case.is_send {
+        party.try_receive(rt);
+        party.try_send(rt, 1);
+        let spun = spin(rt);
+        party.try_receive(rt);
+        return spun;
     }
-}
-
-/// Whether a task that waits gets the message, while a thread waits behind it.
-fn receives<R>(rt: &R, channel: &Channel, waiting: &Waiting, pass: &mut Pass, other: Pass) -> bool
-where
-    R: Wait + RandomSource + AllocGlobal,
-    requires { IsPassOf channel.now pass.old × IsPassOf channel.now other }
-    ensures { IsPassOf channel.now pass.new }
-{
-    let Ok(task) = MockTask::new(rt) else {
-        return false;
-    };
-    let mut receive = channel.recv_as::<Unruled, Unruled, R>(rt, other);
-    let Poll::Pending = task.poll(&mut receive) else {
-        return false;
-    };
-    waiting.let_come(rt);
-    let _sent = channel.try_send_as::<Unruled, Unruled, R>(rt, pass, 1);
-    give_turns();
-    matches!(task.poll(&mut receive), Poll::Ready((_, Ok(Ok(1)))))
-}
-
-/// Whether a task that waits gets the room, while a thread waits behind it.
-fn sends<R>(rt: &R, channel: &Channel, waiting: &Waiting, pass: &mut Pass, other: Pass) -> bool
-where
-    R: Wait + RandomSource + AllocGlobal,
-    requires { IsPassOf channel.now pass.old × IsPassOf channel.now other }
-    ensures { IsPassOf channel.now pass.new }
-{
-    let Ok(task) = MockTask::new(rt) else {
-        return false;
-    };
-    let _sent = channel.try_send_as::<Unruled, Unruled, R>(rt, pass, 1);
-    let mut send = channel.send_as::<Unruled, Unruled, R>(rt, other, 2);
-    let Poll::Pending = task.poll(&mut send) else {
-        return false;
-    };
-    waiting.let_come(rt);
-    let _got = channel.try_recv_as::<Unruled, Unruled, Unruled, R>(rt, pass);
-    give_turns();
-    matches!(task.poll(&mut send), Poll::Ready((_, Ok(Ok(())))))
-}
-
-/// Does so, and closes the channel, so that the thread ends.
-fn goes_first<R>(
-    rt: &R,
-    channel: &Channel,
-    waiting: &Waiting,
-    mut pass: Pass,
-    other: Pass,
-    is_send: bool,
-) -> bool
-where
-    R: Wait + RandomSource + AllocGlobal,
-    requires { IsPassOf channel.now pass × IsPassOf channel.now other }
-{
-    let is_first = if is_send {
-        sends(rt, channel, waiting, &mut pass, other)
-    } else {
-        receives(rt, channel, waiting, &mut pass, other)
-    };
-    waiting.task.store(true, Ordering::SeqCst);
-    close(rt, channel, pass);
-    is_first
-}
-
-/// Waits behind the task.
-fn follows<R: Wait>(rt: &R, channel: &Channel, waiting: &Waiting, pass: Pass, is_send: bool) -> bool
-    requires { IsPassOf channel.now pass }
-{
-    waiting.come(rt);
-    if is_send {
-        send_all(rt, channel, pass, 1)
-    } else {
-        let mut receives = pass;
-        next(rt, channel, &mut receives, true).is_some()
-    }
-}
-
-/// Whether the task goes first that waits first.
-fn is_in_turn<R>(rt: &R, is_send: bool) -> Result<bool, AllocError>
-where
-    R: Threads + Wait + Sync + RandomSource + AllocGlobal,
-{
-    let (channel, pass, other, last) = channel_for_three(rt.alloc())?;
-    let waiting = Waiting {
-        task: AtomicBool::new(false),
-        thread: AtomicBool::new(false),
-    };
-    let (line, both) = (&channel, &waiting);
-    let (is_first, _) = join(
-        rt,
-        move || -> bool
-            requires { IsPassOf line.now pass × IsPassOf line.now other }
-        { goes_first(rt, line, both, pass, other, is_send) },
-        move || -> bool
-            requires { IsPassOf line.now last }
-        { follows(rt, line, both, last, is_send) },
-    );
-    Ok(is_first)
-}
-
-/// In how many rounds it is so.
-fn count_in_turn<R>(rt: &R, is_send: bool) -> Result<u32, AllocError>
-where
-    R: Threads + Wait + Sync + RandomSource + AllocGlobal,
-{
-    let mut count = 0_u32;
-    for _ in 0..ROUNDS {
-        if is_in_turn(rt, is_send)? {
-            count = count.wrapping_add(1);
-        }
-    }
-    Ok(count)
+    party.try_send(rt, 1);
+    party.try_receive(rt);
+    let spun = spin(rt);
+    party.try_send(rt, 2);
+    spun
 }
 
 #[test]
-fn a_blocked_receive_sleeps_until_it_is_told(rt: HostRuntime) -> Result<(), Fail> {
-    assert!(rt; count_in_turn(&rt, false)? > ROUNDS / 2);
+fn blocked_calls_sleep_until_they_can_go_on(rt: HostRuntime) -> Result<(), Fail> {
+    for (is_send, is_closed) in [(false, false), (false, true), (true, false), (true, true)] {
+        let case = Case { is_send, is_closed };
+        let Ok((channel, pass)) = bounded_with::<u32, (), Unruled>(rt.alloc(), 1) else {
+            return Err(AllocError.into());
+        };
+        let mut party = Party::new(&channel, pass);
+        assert!(rt; !is_send || party.send(&rt, 1));
+        let other = party.another();
+        let (blocked, spun) = join(
+            &rt,
+            || block(&rt, other, is_send),
+            || release(&rt, party, case),
+        );
+        let blocked = blocked?;
+        assert!(rt; blocked.is_done != is_closed);
+        assert!(rt; has_slept(blocked.used, spun?));
+    }
     Ok(())
 }
 
+/// Whether a receive of a handle sleeps until a message comes.
+fn receive_sleeps<R>(
+    rt: &R,
+    line: &Line<u32>,
+    mut sender: Sender<u32>,
+    mut receiver: Receiver<u32>,
+) -> io::Result<bool>
+where
+    R: Threads + Wait + Sync + Clock + CpuClock,
+    requires { IsSenderOf line.now sender × IsReceiverOf line.now receiver }
+{
+    let (used, spun) = join(
+        rt,
+        move || -> io::Result<Duration>
+            requires { IsReceiverOf line.now receiver }
+        {
+            let before = rt.thread_cpu_time()?;
+            let _got = receiver.recv_blocking(rt, line);
+            Ok(rt.thread_cpu_time()?.saturating_sub(before))
+        },
+        move || -> io::Result<Duration>
+            requires { IsSenderOf line.now sender }
+        {
+            let spun = spin(rt);
+            let _sent = sender.send_blocking(rt, line, 1);
+            spun
+        },
+    );
+    Ok(has_slept(used?, spun?))
+}
+
+/// Whether a send of a handle sleeps until there is room.
+fn send_sleeps<R>(
+    rt: &R,
+    line: &Line<u32>,
+    mut sender: Sender<u32>,
+    mut receiver: Receiver<u32>,
+) -> io::Result<bool>
+where
+    R: Threads + Wait + Sync + Clock + CpuClock,
+    requires { IsSenderOf line.now sender × IsReceiverOf line.now receiver }
+{
+    let (used, spun) = join(
+        rt,
+        move || -> io::Result<Duration>
+            requires { IsSenderOf line.now sender }
+        {
+            let before = rt.thread_cpu_time()?;
+            let _sent = sender.send_blocking(rt, line, 2);
+            Ok(rt.thread_cpu_time()?.saturating_sub(before))
+        },
+        move || -> io::Result<Duration>
+            requires { IsReceiverOf line.now receiver }
+        {
+            let spun = spin(rt);
+            let _got = receiver.recv_blocking(rt, line);
+            spun
+        },
+    );
+    Ok(has_slept(used?, spun?))
+}
+
 #[test]
-fn a_blocked_send_sleeps_until_it_is_told(rt: HostRuntime) -> Result<(), Fail> {
-    assert!(rt; count_in_turn(&rt, true)? > ROUNDS / 2);
+fn blocked_handles_sleep(rt: HostRuntime) -> Result<(), Fail> {
+    let (line, mut hub) = bounded::<u32>(rt.alloc(), 1).expect(&rt, "a channel");
+    let (sender, receiver) = (hub.sender(&line), hub.receiver(&line));
+    assert!(rt; receive_sleeps(&rt, &line, sender, receiver)?);
+    let (mut sender, receiver) = (hub.sender(&line), hub.receiver(&line));
+    assert_eq!(rt; sender.send_blocking(&rt, &line, 1), Ok(Ok(())));
+    assert!(rt; send_sleeps(&rt, &line, sender, receiver)?);
     Ok(())
 }

@@ -1,20 +1,13 @@
-//! Tests of a channel under a rule, by public calls alone.
+//! Tests of channels under a rule and of the mutex beneath them: what `test_channel` can't show.
 #![tactic(auto)]
 
 #[cfg(test)]
 mod blocked;
 #[cfg(test)]
-mod counted;
-pub mod plain;
+mod lists;
 #[cfg(test)]
-mod receives;
+mod locks;
 #[cfg(test)]
-mod rules;
+mod party;
 #[cfg(test)]
-mod sends;
-#[cfg(test)]
-mod sleeps;
-#[cfg(test)]
-mod tasks;
-#[cfg(test)]
-mod tests;
+mod sizes;

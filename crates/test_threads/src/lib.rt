@@ -1,21 +1,29 @@
-//! Tests of recorded channels and of the parallel map, by public calls alone.
+//! Tests with real threads, of sizes beyond any limit, and of refused memory, by public calls alone.
 #![tactic(auto)]
 
 #[cfg(test)]
+mod batch;
+#[cfg(test)]
+mod blocked;
+#[cfg(test)]
 mod books;
 #[cfg(test)]
-mod gates;
+mod given_up;
+#[cfg(test)]
+mod many;
 #[cfg(test)]
 mod maps;
 #[cfg(test)]
-mod names;
+mod meeting;
 #[cfg(test)]
-mod pieces;
+mod races;
 #[cfg(test)]
-mod records;
+mod refused;
+#[cfg(test)]
+mod seen;
 #[cfg(test)]
 mod sizes;
 #[cfg(test)]
-mod square;
+mod traffic;
 #[cfg(test)]
-mod texts;
+mod waiting;

@@ -1,426 +1,78 @@
-//! Maps by several threads.
-use crate::square::Square;
+//! Maps by several threads: how many workers there are, who gets what, and in which order.
+ghost use Rattle.std.specs.Prelude.{◌*◌, ◌%◌, ◌^◌};
+
+use crate::waiting::TURNS;
+use MapError::{Doubled, Missing, Stranger};
 use async_channel::StampMaker;
-use parallel_map::{Gate, Job, MapError, Open, map_all, map_in_chunks};
-use std::alloc::{AllocError, AllocGlobal};
+use parallel_map::{Gate, Job, MapError, Open, Piece, gather, map_all, map_in_chunks};
+use std::alloc::{AllocError, Global};
+use std::process::Abort;
 use std::sync::Wait;
 use std::sync::atomic::{AtomicBool, AtomicU64, Ordering};
 use std::test::Fail;
 use std::thread;
 use std::thread::Threads;
 
-/// How often a worker looks for the other one.
-pub const MEETING_TURNS: u32 = 10_000_000;
+/// The square of a number, without what is above 64 bits.
+struct Square;
 
-/// How often a worker looks for one that can't come.
-const LONELY_TURNS: u32 = 10_000;
+impl Job<u64, u64> for Square {
+    ghost answer = { λ number. (number * number) % 2 ^ 64 };
 
-#[test]
-fn squares_in_parallel(rt: HostRuntime) -> Result<(), Fail> {
-    let inputs = [0u64, 1, 2, 3, 4, 5, 6, 7, 8, 9];
-    let mut maker = StampMaker::new();
-    for (workers, cap) in [(1, 1), (1, 2), (3, 1), (3, 2), (16, 1), (16, 2)] {
-        let answers = map_all(
-            &rt,
-            rt.alloc(),
-            &Square,
-            &Open,
-            &inputs,
-            workers,
-            cap,
-            &mut maker,
-        )?;
-        assert_eq!(rt;
-            answers.as_slice(),
-            [0, 1, 4, 9, 16, 25, 36, 49, 64, 81].as_slice()
-        );
+    fn run(&self, number: &u64) -> u64 {
+        number.wrapping_mul(*number)
     }
-    Ok(())
 }
 
-/// Maps the numbers below a count, and compares each answer.
-fn maps_numbers<R>(
-    rt: &R,
-    count: u64,
-    workers: usize,
-    cap: usize,
-    largest: usize,
-) -> Result<bool, Fail>
+/// How many numbers are mapped, by how many workers, how many answers may be on their way, and the
+/// largest size of a chunk.
+type Map = (u64, usize, usize, Option<usize>);
+
+/// Whether the answers are the squares of the inputs.
+fn are_squares(inputs: &[u64], answers: &[u64]) -> bool {
+    let mut right = answers.len() == inputs.len();
+    for (input, answer) in inputs.iter().zip(answers) {
+        right = right && *answer == input.wrapping_mul(*input);
+    }
+    right
+}
+
+/// Maps the numbers below a count at this gate, and answers whether all answers are right.
+fn maps<R, G>(rt: &R, alloc: Global, map: Map, gate: &G) -> Result<bool, Fail>
 where
-    R: Wait + Threads + Clone + Drop + AllocGlobal + Send + Sync,
+    R: Wait + Threads + Clone + Drop + Send + Sync,
+    G: Gate + Sync,
 {
-    let a = rt.alloc();
-    let inputs = (0..count).collect::<Vec<_>>(a)?;
-    let mut maker = StampMaker::new();
-    let inputs = inputs.as_slice();
-    let workers = workers.max(1);
-    let cap = cap.max(1);
-    let all = map_all(rt, a, &Square, &Open, inputs, workers, cap, &mut maker)?;
-    let largest = largest.max(1);
-    let chunks = map_in_chunks(
-        &rt, a, &Square, &Open, inputs, workers, cap, largest, &mut maker,
-    )?;
-    let mut right = all.len() == inputs.len();
-    for (number, answer) in inputs.iter().zip(all.iter()) {
-        right = right && *answer == number.wrapping_mul(*number);
-    }
-    Ok(right && all == chunks)
-}
-
-#[test]
-fn many_inputs_are_mapped_in_chunks(rt: HostRuntime) -> Result<(), Fail> {
-    for count in [1, 2, 63, 64, 65, 191, 192, 1_003] {
-        for (workers, cap, largest) in [(1, 64, 1), (2, 2, 7), (3, 1, 100), (4, 64, 8192)] {
-            assert!(rt; maps_numbers(&rt, count, workers, cap, largest)?, "{count}");
+    let (count, workers, cap, largest) = map;
+    let inputs = (0..count).collect::<Vec<_>>(alloc)?;
+    let (inputs, maker) = (inputs.as_slice(), &mut StampMaker::new());
+    let (workers, cap) = (workers.max(1), cap.max(1));
+    let answers = match largest {
+        None => map_all(rt, alloc, &Square, gate, inputs, workers, cap, maker)?,
+        Some(largest) => {
+            let largest = largest.max(1);
+            map_in_chunks(
+                rt, alloc, &Square, gate, inputs, workers, cap, largest, maker,
+            )?
         }
-    }
-    Ok(())
-}
-
-#[test]
-fn seventy_thousand_messages(rt: HostRuntime) -> Result<(), Fail> {
-    let a = rt.alloc();
-    let inputs = (0..70_000u64).collect::<Vec<_>>(a)?;
-    let mut maker = StampMaker::new();
-    let inputs = inputs.as_slice();
-    let answers = map_in_chunks(&rt, a, &Square, &Open, inputs, 2, 1_024, 1, &mut maker)?;
-    assert!(rt; answers.len() == 70_000);
-    for (number, answer) in inputs.iter().zip(answers.iter()) {
-        assert!(rt; *answer == number.wrapping_mul(*number), "{number}");
-    }
-    Ok(())
-}
-
-#[test]
-fn no_stamp_for_a_map(rt: HostRuntime) -> Result<(), Fail> {
-    let mut maker = StampMaker::starting_at(u64::MAX);
-    let got = map_all(&rt, rt.alloc(), &Square, &Open, &[5, 6], 1, 1, &mut maker);
-    assert!(rt; matches!(&got, Err(MapError::NoStamps)));
-    assert!(rt; maker.draw().is_none());
-    Ok(())
-}
-
-#[test]
-fn two_stamps_are_enough_for_a_map(rt: HostRuntime) -> Result<(), Fail> {
-    let mut maker = StampMaker::starting_at(u64::MAX - 1);
-    let answers = map_all(&rt, rt.alloc(), &Square, &Open, &[5, 6], 1, 1, &mut maker)?;
-    assert_eq!(rt; answers.as_slice(), [25, 36].as_slice());
-    assert!(rt; maker.draw().is_none());
-    Ok(())
-}
-
-#[test]
-fn no_inputs_ask_for_nothing(rt: HostRuntime) -> Result<(), Fail> {
-    let mut maker = StampMaker::starting_at(u64::MAX);
-    let inputs: [u64; 0] = [];
-    let answers = map_all(&rt, rt.alloc(), &Square, &Open, &inputs, 4, 1, &mut maker)?;
-    assert!(rt; answers.is_empty());
-    assert!(rt; maker.draw().is_some());
-    Ok(())
-}
-
-/// Each of two workers says that it is there, and looks for the other so many times.
-#[derive(Drop)]
-struct Both {
-    there: [AtomicBool; 2],
-    late: AtomicBool,
-    turns: u32,
-}
-
-impl Both {
-    fn looking(turns: u32) -> Both {
-        Both {
-            there: [AtomicBool::new(false), AtomicBool::new(false)],
-            late: AtomicBool::new(false),
-            turns,
-        }
-    }
-}
-
-impl Gate for Both {
-    fn before(&self, place: usize) {
-        if place >= 2 {
-            return;
-        }
-        self.there[place].store(true, Ordering::SeqCst);
-        for _ in 0..self.turns {
-            if self.there[1 - place].load(Ordering::SeqCst) {
-                return;
-            }
-            thread::yield_now();
-        }
-        self.late.store(true, Ordering::SeqCst);
-    }
-
-    fn after(&self, _place: usize) {}
-}
-
-#[test]
-fn the_gate_of_two_workers(rt: HostRuntime) -> Result<(), Fail> {
-    let gate = Both::looking(MEETING_TURNS);
-    let mut maker = StampMaker::new();
-    let answers = map_all(&rt, rt.alloc(), &Square, &gate, &[3, 4], 2, 2, &mut maker)?;
-    assert_eq!(rt; answers.as_slice(), [9, 16].as_slice());
-    assert!(rt; !gate.late.load(Ordering::SeqCst));
-    assert!(rt; gate.there[0].load(Ordering::SeqCst) && gate.there[1].load(Ordering::SeqCst));
-    Ok(())
-}
-
-/// A map of 200 numbers by two workers at this gate.
-fn maps_at<R>(rt: &R, gate: &Both, largest: usize) -> Result<usize, Fail>
-where
-    R: Wait + Threads + Clone + Drop + AllocGlobal + Send + Sync,
-{
-    let a = rt.alloc();
-    let inputs = (0..200u64).collect::<Vec<_>>(a)?;
-    let mut maker = StampMaker::new();
-    let inputs = inputs.as_slice();
-    let largest = largest.max(1);
-    let answers = map_in_chunks(rt, a, &Square, gate, inputs, 2, 4, largest, &mut maker)?;
-    Ok(answers.len())
-}
-
-#[test]
-fn a_chunk_is_as_large_as_the_caller_says(rt: HostRuntime) -> Result<(), Fail> {
-    let gate = Both::looking(MEETING_TURNS);
-    assert_eq!(rt; maps_at(&rt, &gate, 1)?, 200);
-    assert!(rt; !gate.late.load(Ordering::SeqCst));
-    Ok(())
-}
-
-#[test]
-fn one_worker_has_the_whole_chunk(rt: HostRuntime) -> Result<(), Fail> {
-    let gate = Both::looking(LONELY_TURNS);
-    assert_eq!(rt; maps_at(&rt, &gate, 8192)?, 200);
-    assert!(rt; gate.late.load(Ordering::SeqCst));
-    Ok(())
-}
-
-/// The worker at place 0 goes on when this place was begun: then the chunks between have been sent.
-#[derive(Drop)]
-struct FirstIsLast {
-    last: usize,
-    last_begun: AtomicBool,
-    late: AtomicBool,
-}
-
-impl FirstIsLast {
-    fn behind(last: usize) -> FirstIsLast {
-        FirstIsLast {
-            last,
-            last_begun: AtomicBool::new(false),
-            late: AtomicBool::new(false),
-        }
-    }
-}
-
-impl Gate for FirstIsLast {
-    fn before(&self, place: usize) {
-        if place == self.last {
-            self.last_begun.store(true, Ordering::SeqCst);
-        }
-        if place != 0 {
-            return;
-        }
-        for _ in 0..MEETING_TURNS {
-            if self.last_begun.load(Ordering::SeqCst) {
-                return;
-            }
-            thread::yield_now();
-        }
-        self.late.store(true, Ordering::SeqCst);
-    }
-
-    fn after(&self, _place: usize) {}
-}
-
-#[test]
-fn chunks_come_in_another_order(rt: HostRuntime) -> Result<(), Fail> {
-    let gate = FirstIsLast::behind(3);
-    let mut maker = StampMaker::new();
-    let inputs = [5, 6, 7, 8];
-    let answers = map_all(&rt, rt.alloc(), &Square, &gate, &inputs, 2, 4, &mut maker)?;
-    assert_eq!(rt; answers.as_slice(), [25, 36, 49, 64].as_slice());
-    assert!(rt; !gate.late.load(Ordering::SeqCst));
-    Ok(())
-}
-
-/// Whether another worker begins this place while one is at place 0.
-fn another_begins<R>(rt: &R, count: u64, place: usize) -> Result<bool, Fail>
-where
-    R: Wait + Threads + Clone + Drop + AllocGlobal + Send + Sync,
-{
-    let a = rt.alloc();
-    let gate = FirstIsLast::behind(place);
-    let inputs = (0..count).collect::<Vec<_>>(a)?;
-    let mut maker = StampMaker::new();
-    let inputs = inputs.as_slice();
-    let answers = map_all(rt, a, &Square, &gate, inputs, 2, 4, &mut maker)?;
-    Ok(answers.len() == inputs.len() && !gate.late.load(Ordering::SeqCst))
-}
-
-#[test]
-fn a_worker_has_many_chunks(rt: HostRuntime) -> Result<(), Fail> {
-    // 64 chunks, each of 3 inputs, and what is left
-    assert!(rt; another_begins(&rt, 200, 3)?);
-    Ok(())
-}
-
-#[test]
-fn a_chunk_has_8192_inputs_at_most(rt: HostRuntime) -> Result<(), Fail> {
-    assert!(rt; another_begins(&rt, 600_000, 8_192)?);
-    Ok(())
-}
-
-#[test]
-fn places_that_no_memory_has(rt: HostRuntime) -> Result<(), Fail> {
-    let most = usize::MAX;
-    let mut maker = StampMaker::starting_at(u64::MAX);
-    let got = map_all(
-        &rt,
-        rt.alloc(),
-        &Square,
-        &Open,
-        &[5, 6],
-        2,
-        most,
-        &mut maker,
-    );
-    assert!(rt; matches!(&got, Err(MapError::OutOfMemory)));
-    assert!(rt; maker.draw().is_some());
-    Ok(())
-}
-
-/// How often the gate was called at each of four places: before the job, and after it.
-#[derive(Drop)]
-struct Calls {
-    before: [AtomicU64; 4],
-    after: [AtomicU64; 4],
-}
-
-impl Gate for Calls {
-    fn before(&self, place: usize) {
-        if place < 4 {
-            self.before[place].fetch_add(1, Ordering::SeqCst);
-        }
-    }
-
-    fn after(&self, place: usize) {
-        if place < 4 {
-            self.after[place].fetch_add(1, Ordering::SeqCst);
-        }
-    }
-}
-
-#[test]
-fn each_input_is_worked_on_once(rt: HostRuntime) -> Result<(), Fail> {
-    let calls = Calls {
-        before: [
-            AtomicU64::new(0),
-            AtomicU64::new(0),
-            AtomicU64::new(0),
-            AtomicU64::new(0),
-        ],
-        after: [
-            AtomicU64::new(0),
-            AtomicU64::new(0),
-            AtomicU64::new(0),
-            AtomicU64::new(0),
-        ],
     };
-    let mut maker = StampMaker::new();
-    let answers = map_all(
-        &rt,
-        rt.alloc(),
-        &Square,
-        &calls,
-        &[2, 2, 2, 2],
-        3,
-        1,
-        &mut maker,
-    )?;
-    assert_eq!(rt; answers.as_slice(), [4, 4, 4, 4].as_slice());
-    for place in 0..4usize {
-        assert_eq!(rt; calls.before[place].load(Ordering::SeqCst), 1);
-        assert_eq!(rt; calls.after[place].load(Ordering::SeqCst), 1);
-    }
-    Ok(())
+    Ok(are_squares(inputs, answers.as_slice()))
 }
 
-/// How far each place is: the gate before the job was called, the job, the gate after it. A call
-/// that comes at another time leaves 9 there.
-#[derive(Drop)]
-struct Stages(Vec<AtomicU64>);
-
-impl Stages {
-    fn go_on(&self, place: usize, from: u64) {
-        if let Some(stage) = self.0.get(place) {
-            let is_next = stage.load(Ordering::SeqCst) == from;
-            let next = if is_next { from.wrapping_add(1) } else { 9 };
-            stage.store(next, Ordering::SeqCst);
-        }
-    }
-}
-
-impl Gate for Stages {
-    fn before(&self, place: usize) {
-        self.go_on(place, 0);
-    }
-
-    fn after(&self, place: usize) {
-        self.go_on(place, 2);
-    }
-}
-
-/// The job answers its input, which is its place.
-impl Job<u64, u64> for Stages {
-    ghost answer = { λ place. place };
-
-    fn run(&self, place: &u64) -> u64 {
-        self.go_on(*place as usize, 1);
-        *place
-    }
-}
-
-#[test]
-fn the_gate_is_around_each_job(rt: HostRuntime) -> Result<(), Fail> {
-    let a = rt.alloc();
-    for count in [4, 200] {
-        let mut stages = Vec::new(a);
-        for _ in 0..count {
-            stages.push(AtomicU64::new(0))?;
-        }
-        let stages = Stages(stages);
-        let mut maker = StampMaker::new();
-        let places = (0..count).collect::<Vec<u64>>(a)?;
-        let places = places.as_slice();
-        let answers = map_all(&rt, a, &stages, &stages, places, 2, 1, &mut maker)?;
-        assert_eq!(rt; answers.as_slice(), places);
-        for stage in &stages.0 {
-            assert_eq!(rt; stage.load(Ordering::SeqCst), 3);
-        }
-    }
-    Ok(())
-}
-
-#[test]
-fn no_more_workers_than_inputs(rt: HostRuntime) -> Result<(), Fail> {
-    // For so many threads there is no memory.
-    let most = usize::MAX;
-    let mut maker = StampMaker::new();
-    let answers = map_all(
-        &rt,
-        rt.alloc(),
-        &Square,
-        &Open,
-        &[5, 6],
-        most,
-        2,
-        &mut maker,
-    )?;
-    assert_eq!(rt; answers.as_slice(), [25, 36].as_slice());
-    Ok(())
-}
+const MAPS: [Map; 10] = [
+    (1, 1, 1, None),
+    (10, 3, 2, None),
+    (64, 16, 1, None),
+    (65, 2, 2, Some(7)),
+    (192, 3, 1, Some(100)),
+    (1_003, 4, 64, Some(8_192)),
+    // no limit that isn't named
+    (3, 2, 100_000, None),
+    (70_000, 2, 1_024, Some(1)),
+    (200_003, 2, 64, None),
+    // for so many threads there is no memory
+    (2, usize::MAX, 2, None),
+];
 
 /// A runtime's part that can't be copied.
 #[derive(Drop)]
@@ -432,29 +84,287 @@ impl Clone for Single {
     }
 }
 
-/// A map of two inputs, whose runtime can't be copied.
-fn maps_without_copies<R>(rt: &R) -> Result<Vec<u64>, Fail>
-where
-    R: Wait + Threads + Clone + Drop + AllocGlobal + Send + Sync,
-{
-    let mut maker = StampMaker::new();
-    let single = (rt, Single);
-    let answers = map_all(
-        &single,
-        rt.alloc(),
-        &Square,
-        &Open,
-        &[5, 6],
-        2,
-        2,
-        &mut maker,
-    )?;
-    Ok(answers)
+#[test]
+fn each_answer_is_at_its_place(rt: HostRuntime) -> Result<(), Fail> {
+    let runtime = (rt, Single);
+    for map in MAPS {
+        assert!(rt; maps(&runtime, rt.alloc(), map, &Open)?, "{map:?}");
+    }
+    Ok(())
+}
+
+/// The first stamp, the capacity of the places, and what is wrong if two inputs are mapped; and
+/// whether a stamp is left then.
+const SPENT: [(u64, usize, Option<MapError>, bool); 3] = [
+    (u64::MAX, 1, Some(MapError::NoStamps), false),
+    (u64::MAX - 1, 1, None, false),
+    (u64::MAX, usize::MAX, Some(MapError::OutOfMemory), true),
+];
+
+#[test]
+fn a_map_takes_two_stamps(rt: HostRuntime) -> Result<(), Fail> {
+    for (first, cap, error, is_left) in &SPENT {
+        let (cap, mut maker) = ((*cap).max(1), StampMaker::starting_at(*first));
+        let got = map_all(&rt, rt.alloc(), &Square, &Open, &[5, 6], 2, cap, &mut maker);
+        assert_eq!(rt; got.err(), *error);
+        assert_eq!(rt; maker.draw().is_some(), *is_left);
+    }
+    Ok(())
+}
+
+/// How many calls there were, of the gate and the job. With one worker, the three calls at a place
+/// follow one another, and the places too.
+#[derive(Drop)]
+struct Turns {
+    calls: AtomicU64,
+    is_wrong: AtomicBool,
+}
+
+impl Turns {
+    fn call(&self, place: u64, number: u64) {
+        let wanted = place.wrapping_mul(3).wrapping_add(number);
+        if self.calls.fetch_add(1, Ordering::SeqCst) != wanted {
+            self.is_wrong.store(true, Ordering::SeqCst);
+        }
+    }
+}
+
+impl Gate for Turns {
+    fn before(&self, place: usize) {
+        self.call(place as u64, 0);
+    }
+
+    fn after(&self, place: usize) {
+        self.call(place as u64, 2);
+    }
+}
+
+/// The job answers its input, which is its place.
+impl Job<u64, u64> for Turns {
+    ghost answer = { λ place. place };
+
+    fn run(&self, place: &u64) -> u64 {
+        self.call(*place, 1);
+        *place
+    }
 }
 
 #[test]
-fn a_runtime_is_not_copied(rt: HostRuntime) -> Result<(), Fail> {
-    let answers = maps_without_copies(&rt)?;
-    assert_eq!(rt; answers.as_slice(), [25, 36].as_slice());
+fn one_worker_goes_from_input_to_input(rt: HostRuntime) -> Result<(), Fail> {
+    let a = rt.alloc();
+    // 6,450 inputs are in chunks of 201. None ask for no stamp.
+    for count in [0, 1, 3, 64, 6_450] {
+        let turns = Turns {
+            calls: AtomicU64::new(0),
+            is_wrong: AtomicBool::new(false),
+        };
+        let places = (0..count).collect::<Vec<u64>>(a)?;
+        let first = if count == 0 { u64::MAX } else { 0 };
+        let (places, maker) = (places.as_slice(), &mut StampMaker::starting_at(first));
+        let answers = map_all(&rt, a, &turns, &turns, places, 1, 1, maker)?;
+        assert_eq!(rt; answers.as_slice(), places);
+        let calls = turns.calls.load(Ordering::SeqCst);
+        assert_eq!(rt; calls, count.wrapping_mul(3));
+        assert!(rt; !turns.is_wrong.load(Ordering::SeqCst) && maker.draw().is_some());
+    }
+    Ok(())
+}
+
+/// Workers at the first places go on once so many places were begun.
+#[derive(Drop)]
+struct Meets {
+    /// A worker at a place below this one waits.
+    below: usize,
+    wanted: u64,
+    begun: AtomicU64,
+    /// The place behind the first that was begun before others.
+    next: AtomicU64,
+    late: AtomicBool,
+}
+
+impl Gate for Meets {
+    fn before(&self, place: usize) {
+        if place != 0 {
+            let (seen, set) = (Ordering::SeqCst, Ordering::SeqCst);
+            drop(self.next.compare_exchange(0, place as u64, seen, set));
+        }
+        self.begun.fetch_add(1, Ordering::SeqCst);
+        if place >= self.below {
+            return;
+        }
+        for _ in 0..TURNS {
+            if self.begun.load(Ordering::SeqCst) >= self.wanted {
+                return;
+            }
+            thread::yield_now();
+        }
+        self.late.store(true, Ordering::SeqCst);
+    }
+
+    fn after(&self, _place: usize) {}
+}
+
+/// Maps at such a gate, and answers which place was begun behind the first, if no worker waits in
+/// vain.
+fn next_place<R>(
+    rt: &R,
+    alloc: Global,
+    map: Map,
+    below: usize,
+    wanted: u64,
+) -> Result<Option<u64>, Fail>
+where
+    R: Wait + Threads + Clone + Drop + Send + Sync,
+{
+    let gate = Meets {
+        below,
+        wanted,
+        begun: AtomicU64::new(0),
+        next: AtomicU64::new(0),
+        late: AtomicBool::new(false),
+    };
+    let are_right = maps(rt, alloc, map, &gate)?;
+    let is_well = are_right && !gate.late.load(Ordering::SeqCst);
+    Ok(is_well.then_some(gate.next.load(Ordering::SeqCst)))
+}
+
+#[test]
+fn each_chunk_has_its_size(rt: HostRuntime) -> Result<(), Fail> {
+    for (count, largest, size) in [
+        (127, None, 1),
+        (128, None, 2),
+        (200, Some(1), 1),
+        (200, Some(2), 2),
+        (200, Some(usize::MAX), 3),
+        (1_000, Some(100), 15),
+        (1_100_000, None, 8_192),
+        (1_100_000, Some(usize::MAX), 17_187),
+    ] {
+        let map = (count, 2, 4, largest);
+        // The worker at the first place waits for that of the second chunk.
+        assert_eq!(rt;
+            next_place(&rt, rt.alloc(), map, 1, 2)?,
+            Some(size),
+            "{map:?}"
+        );
+    }
+    Ok(())
+}
+
+#[test]
+fn workers_run_at_once(rt: HostRuntime) -> Result<(), Fail> {
+    // All wait for one another, or the first for all that it doesn't hold.
+    for (count, workers, cap, below) in [(2, 2, 2, 2), (100, 100, 1, 100), (64, 2, 4, 1)] {
+        let map = (count, workers, cap, None);
+        assert!(rt;
+            next_place(&rt, rt.alloc(), map, below, count)?.is_some(),
+            "{map:?}"
+        );
+    }
+    Ok(())
+}
+
+/// How often a worker looks for one that can't come.
+const LONELY_TURNS: u32 = 2_000;
+
+/// How many workers are between the gate's calls, which wait for one more than there are to be.
+#[derive(Drop)]
+struct Inside {
+    workers: u64,
+    now: AtomicU64,
+    too_many: AtomicBool,
+}
+
+impl Gate for Inside {
+    fn before(&self, _place: usize) {
+        self.now.fetch_add(1, Ordering::SeqCst);
+        for _ in 0..LONELY_TURNS {
+            if self.now.load(Ordering::SeqCst) > self.workers {
+                self.too_many.store(true, Ordering::SeqCst);
+                return;
+            }
+            thread::yield_now();
+        }
+    }
+
+    fn after(&self, _place: usize) {
+        self.now.fetch_sub(1, Ordering::SeqCst);
+    }
+}
+
+#[test]
+fn no_more_workers_than_the_caller_says(rt: HostRuntime) -> Result<(), Fail> {
+    for workers in 1..4u8 {
+        let gate = Inside {
+            workers: u64::from(workers),
+            now: AtomicU64::new(0),
+            too_many: AtomicBool::new(false),
+        };
+        let map = (6, usize::from(workers), 4, None);
+        assert!(rt; maps(&rt, rt.alloc(), map, &gate)?);
+        assert!(rt; !gate.too_many.load(Ordering::SeqCst), "{workers}");
+    }
+    Ok(())
+}
+
+/// Inputs, pieces by their places and inputs, and the answers or what is wrong.
+type Pieces = (
+    &'static [u64],
+    &'static [(usize, u64)],
+    Result<&'static [u64], MapError>,
+);
+
+const FAR: usize = usize::MAX;
+
+const PIECES: [Pieces; 15] = [
+    (&[], &[], Ok(&[])),
+    (&[], &[(0, 5)], Err(Stranger(0))),
+    (&[5], &[(0, 5)], Ok(&[25])),
+    (&[5], &[], Err(Missing(0))),
+    (&[5], &[(0, 6)], Err(Stranger(0))),
+    (&[5], &[(0, 5), (0, 5)], Err(Doubled(0))),
+    (&[5], &[(0, 5), (FAR, 5)], Err(Stranger(FAR))),
+    (&[5, 6], &[(0, 5), (1, 6)], Ok(&[25, 36])),
+    (&[5, 6, 7], &[(2, 7), (0, 5), (1, 6)], Ok(&[25, 36, 49])),
+    (&[5, 6, 7], &[(0, 5), (1, 6)], Err(Missing(2))),
+    // the first fault is named
+    (&[5, 6, 6], &[(1, 6), (1, 6), (9, 1)], Err(Doubled(1))),
+    (&[5, 6, 6], &[(1, 6), (9, 1), (1, 6)], Err(Stranger(9))),
+    (&[5, 6, 6], &[(1, 6), (1, 5)], Err(Stranger(1))),
+    (&[5, 6, 6], &[(0, 5), (2, 6)], Err(Missing(1))),
+    (&[5, 6, 6], &[(2, 6)], Err(Missing(0))),
+];
+
+/// Whether the pieces are gathered so.
+fn are_gathered(alloc: Global, (inputs, pieces, wanted): &Pieces) -> Result<bool, AllocError> {
+    let mut made = Vec::new(alloc);
+    for (place, input) in *pieces {
+        made.push(Piece::make(&Square, *place, input))?;
+    }
+    Ok(match (gather(alloc, inputs, made), wanted) {
+        (Ok(answers), Ok(wanted)) => answers.as_slice() == *wanted,
+        (Err(error), Err(wanted)) => error == *wanted,
+        _ => false,
+    })
+}
+
+#[test]
+fn pieces_are_gathered(rt: HostRuntime) -> Result<(), Fail> {
+    for row in &PIECES {
+        assert!(rt; are_gathered(rt.alloc(), row)?, "{row:?}");
+    }
+    Ok(())
+}
+
+#[test]
+fn a_hundred_thousand_pieces(rt: HostRuntime) -> Result<(), Fail> {
+    let a = rt.alloc();
+    let inputs = (0..100_000u64).collect::<Vec<_>>(a)?;
+    let mut pieces = Vec::new(a);
+    for (place, input) in inputs.iter().enumerate().rev() {
+        pieces.push(Piece::make(&Square, place, input))?;
+    }
+    let answers = gather(a, inputs.as_slice(), pieces)?;
+    assert!(rt; are_squares(inputs.as_slice(), answers.as_slice()));
     Ok(())
 }

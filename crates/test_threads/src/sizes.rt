@@ -1,137 +1,181 @@
-//! Sizes beyond any limit that no page names: inputs, pieces and workers of a map, and clerks.
-use crate::maps::MEETING_TURNS;
-use crate::square::Square;
-use channel_record::{Call, Clerk, Outcome, Recorder, StampMaker};
-use parallel_map::{Gate, Open, Piece, gather, map_all};
-use std::alloc::Global;
+//! A hundred thousand of each that may wait, and of each handle: no limit shows that the contracts
+//! don't tell.
+use crate::waiting::{channel, numbers};
+use Kept::*;
+use async_channel::{
+    Closed, Group, Receiver, Recv, Send, SendError, Sender, WeakReceiver, WeakSender,
+};
+use futures::Stream;
+use futures::task::Poll;
+use futures::test::MockTask;
+use std::alloc::AllocGlobal;
 use std::process::Abort;
+use std::random::RandomSource;
 use std::sync::Wait;
-use std::sync::atomic::{AtomicBool, AtomicU64, Ordering};
 use std::test::Fail;
-use std::thread;
 
-/// Looks whether the answers are the squares of the inputs.
-fn are_squares(rt: &impl Abort, inputs: &[u64], answers: &[u64]) {
-    assert_eq!(rt; answers.len(), inputs.len());
-    for (input, answer) in inputs.iter().zip(answers) {
-        assert_eq!(rt; *answer, input.wrapping_mul(*input));
-    }
-}
+const MANY: usize = 100_000;
 
-#[test]
-fn two_hundred_thousand_inputs(rt: HostRuntime) -> Result<(), Fail> {
-    let a = rt.alloc();
-    let inputs = (0..200_003u64).collect::<Vec<_>>(a)?;
-    let mut maker = StampMaker::new();
-    let answers = map_all(&rt, a, &Square, &Open, inputs.as_slice(), 2, 64, &mut maker)?;
-    are_squares(&rt, inputs.as_slice(), answers.as_slice());
-    Ok(())
-}
-
-/// A piece of each input, the last one first.
-fn pieces(alloc: Global, inputs: &[u64]) -> Result<Vec<Piece<'_, u64, u64, Square>>, Fail> {
-    let mut pieces = Vec::new(alloc);
-    for (place, input) in inputs.iter().enumerate().rev() {
-        pieces.push(Piece::make(&Square, place, input))?;
-    }
-    Ok(pieces)
-}
-
-#[test]
-fn a_hundred_thousand_pieces(rt: HostRuntime) -> Result<(), Fail> {
-    let a = rt.alloc();
-    let inputs = (0..100_000u64).collect::<Vec<_>>(a)?;
-    let made = pieces(a, inputs.as_slice())?;
-    let answers = gather(a, inputs.as_slice(), made)?;
-    are_squares(&rt, inputs.as_slice(), answers.as_slice());
-    Ok(())
-}
-
-#[test]
-fn a_hundred_thousand_places_at_once(rt: HostRuntime) -> Result<(), Fail> {
-    let (a, inputs) = (rt.alloc(), [5, 6, 7]);
-    let mut maker = StampMaker::new();
-    let answers = map_all(&rt, a, &Square, &Open, &inputs, 2, 100_000, &mut maker)?;
-    are_squares(&rt, &inputs, answers.as_slice());
-    Ok(())
-}
-
-/// Waits until so many workers are there, or it has looked that often.
+/// Something that may wait.
 #[derive(Drop)]
-struct All {
-    there: AtomicU64,
-    workers: u64,
-    late: AtomicBool,
+enum Kept<'a, R: Wait + Clone + Drop> {
+    Sending(Send<'a, u64, R>),
+    Receiving(Recv<'a, u64, R>),
+    Streaming(Receiver<u64, R>),
+    Closing(Closed<'a, u64, R>),
 }
 
-impl Gate for All {
-    fn before(&self, _place: usize) {
-        self.there.fetch_add(1, Ordering::SeqCst);
-        for _ in 0..MEETING_TURNS {
-            if self.there.load(Ordering::SeqCst) >= self.workers {
-                return;
-            }
-            thread::yield_now();
-        }
-        self.late.store(true, Ordering::SeqCst);
+impl<'a, R: Wait + Clone + Drop> Kept<'a, R> {
+    /// One of a group. A send has the message 7.
+    fn new(group: Group, s: &'a Sender<u64, R>, r: &Receiver<u64, R>) -> Result<Kept<'a, R>, Fail> {
+        Ok(match group {
+            Group::Sends => Sending(s.send(7)),
+            Group::Receives => Receiving(r.try_clone()?.into_recv()),
+            Group::Streams => Streaming(r.try_clone()?),
+            Group::Closeds => Closing(s.closed()),
+        })
     }
 
-    fn after(&self, _place: usize) {}
+    /// Whether a poll is ready, and says that the channel is closed.
+    fn ends(&mut self, task: &MockTask) -> Option<bool> {
+        let is_well = match self {
+            Sending(send) => match task.poll(send) {
+                Poll::Ready(sent) => sent == Ok(Err(SendError(7))),
+                Poll::Pending => return None,
+            },
+            Receiving(recv) => match task.poll(recv) {
+                Poll::Ready(received) => matches!(received, Ok(Err(_))),
+                Poll::Pending => return None,
+            },
+            Streaming(stream) => match task.enter(|cx| stream.poll_next(cx)) {
+                Poll::Ready(item) => item.is_none(),
+                Poll::Pending => return None,
+            },
+            Closing(closed) => match task.poll(closed) {
+                Poll::Ready(ended) => ended == Ok(()),
+                Poll::Pending => return None,
+            },
+        };
+        Some(is_well)
+    }
 }
 
-#[test]
-fn a_hundred_workers_run_at_once(rt: HostRuntime) -> Result<(), Fail> {
-    let a = rt.alloc();
-    let gate = All {
-        there: AtomicU64::new(0),
-        workers: 100,
-        late: AtomicBool::new(false),
-    };
-    let inputs = (0..100u64).collect::<Vec<_>>(a)?;
-    let mut maker = StampMaker::new();
-    let answers = map_all(
-        &rt,
-        a,
-        &Square,
-        &gate,
-        inputs.as_slice(),
-        100,
-        1,
-        &mut maker,
-    )?;
-    are_squares(&rt, inputs.as_slice(), answers.as_slice());
-    assert!(rt; !gate.late.load(Ordering::SeqCst));
+/// One of a group that waits.
+fn waiting<'a, R: Wait + Clone + Drop + Abort>(
+    rt: &R,
+    task: &MockTask,
+    group: Group,
+    s: &'a Sender<u64, R>,
+    r: &Receiver<u64, R>,
+) -> Result<Kept<'a, R>, Fail> {
+    let mut kept = Kept::new(group, s, r)?;
+    assert!(rt; kept.ends(task).is_none());
+    Ok(kept)
+}
+
+/// Has as many of a group wait, closes the channel, and polls all to their end.
+fn many_wait<R: Wait + Clone + Drop + RandomSource + AllocGlobal + Abort>(
+    rt: &R,
+    group: Group,
+) -> Result<(), Fail> {
+    let (s, r) = channel(rt, Some(1))?;
+    if let Group::Sends = group {
+        assert_eq!(rt; s.try_send(1), Ok(Ok(())));
+    }
+    let (task, weak, mut all) = (MockTask::new(rt)?, s.downgrade()?, Vec::new(rt.alloc()));
+    for _ in 0..MANY {
+        all.push(waiting(rt, &task, group, &s, &r)?)?;
+    }
+    assert_eq!(rt; numbers(&weak, group), (MANY, 0));
+    // those of the last group are told when no receiver is left
+    assert!(rt; matches!(group, Group::Closeds) || s.close());
+    drop(r);
+    assert_eq!(rt; numbers(&weak, group), (MANY, MANY));
+    for kept in &mut all {
+        assert_eq!(rt; kept.ends(&task), Some(true));
+    }
+    assert_eq!(rt; numbers(&weak, group), (0, 0));
     Ok(())
 }
 
-/// A hundred thousand clerks of the recorder.
-fn clerks_of(
-    rt: &impl Wait,
-    alloc: Global,
-    recorder: &Recorder<u64>,
-) -> Result<Vec<Clerk<u64>>, Fail> {
-    let mut clerks = Vec::new(alloc);
-    for _ in 0..100_000u32 {
-        clerks.push(recorder.clerk(rt)?)?;
-    }
-    Ok(clerks)
-}
-
-/// Whether a message of this clerk goes in.
-fn sends(rt: &impl Wait, recorder: &Recorder<u64>, clerk: &mut Clerk<u64>) -> bool {
-    recorder.owns(clerk)
-        && recorder.call(rt, clerk, Call::TrySend(7)) == Ok(Outcome::TrySent(Ok(())))
+#[test]
+fn sends(rt: HostRuntime) -> Result<(), Fail> {
+    many_wait(&rt, Group::Sends)
 }
 
 #[test]
-fn recorded_clerks(rt: HostRuntime) -> Result<(), Fail> {
-    let recorder = Recorder::unbounded(rt.alloc(), &mut StampMaker::new())?;
-    let mut clerks = clerks_of(&rt, rt.alloc(), &recorder)?;
-    for clerk in &mut clerks {
-        assert!(rt; sends(&rt, &recorder, clerk));
+fn receives(rt: HostRuntime) -> Result<(), Fail> {
+    many_wait(&rt, Group::Receives)
+}
+
+#[test]
+fn streams(rt: HostRuntime) -> Result<(), Fail> {
+    many_wait(&rt, Group::Streams)
+}
+
+#[test]
+fn closed_operations(rt: HostRuntime) -> Result<(), Fail> {
+    many_wait(&rt, Group::Closeds)
+}
+
+/// One of each handle.
+#[derive(Drop)]
+struct Handles<R: Wait + Clone + Drop> {
+    sender: Sender<u64, R>,
+    receiver: Receiver<u64, R>,
+    weak_sender: WeakSender<u64, R>,
+    weak_receiver: WeakReceiver<u64, R>,
+}
+
+impl<R: Wait + Clone + Drop> Handles<R> {
+    fn copied(&self) -> Result<Handles<R>, Fail> {
+        Ok(Handles {
+            sender: self.sender.try_clone()?,
+            receiver: self.receiver.try_clone()?,
+            weak_sender: self.weak_sender.try_clone()?,
+            weak_receiver: self.weak_receiver.try_clone()?,
+        })
     }
-    let book = recorder.finish(clerks)?;
-    assert_eq!(rt; (book.clerks(), book.history().len()), (100_000, 100_000));
-    assert_eq!(rt; book.places(99_999), Some([99_999].as_slice()));
+
+    /// Each made by way of its weak one.
+    fn upgraded(&self) -> Result<Handles<R>, Fail> {
+        Ok(Handles {
+            sender: self.weak_sender.upgrade()?.ok_or("a sender")?,
+            receiver: self.weak_receiver.upgrade()?.ok_or("a receiver")?,
+            weak_sender: self.sender.downgrade()?,
+            weak_receiver: self.receiver.downgrade()?,
+        })
+    }
+
+    /// How many senders and receivers there are, as each end says.
+    fn counts(&self) -> [(usize, usize); 2] {
+        let (s, r) = (&self.sender, &self.receiver);
+        [
+            (s.sender_count(), s.receiver_count()),
+            (r.sender_count(), r.receiver_count()),
+        ]
+    }
+}
+
+#[test]
+fn strong_and_weak_handles(rt: HostRuntime) -> Result<(), Fail> {
+    let (sender, receiver) = channel(&rt, None)?;
+    let (weak_sender, weak_receiver) = (sender.downgrade()?, receiver.downgrade()?);
+    let first = Handles {
+        sender,
+        receiver,
+        weak_sender,
+        weak_receiver,
+    };
+    let mut all = Vec::new(rt.alloc());
+    for number in 0..MANY {
+        all.push(match number % 2 {
+            0 => first.copied()?,
+            _ => first.upgraded()?,
+        })?;
+    }
+    assert_eq!(rt; first.counts(), [(100_001, 100_001); 2]);
+    drop(all);
+    assert_eq!(rt; first.counts(), [(1, 1); 2]);
     Ok(())
 }

@@ -8,11 +8,13 @@
 use super::{with_memory, Channel, Core};
 use crate::many::ROUND_LIMIT;
 use crate::marks::{Marks, Told};
+use crate::operations::Wait;
 use crate::proved::channel_core::Group;
 use crate::proved::event_list::Ticket;
 use crate::shim::Over;
 use crate::{SendError, TryRecvError, TrySendError};
 use std::collections::VecDeque;
+use std::sync::Arc;
 use std::task::{Context, Poll};
 
 impl<T> Channel<T> {
@@ -29,12 +31,13 @@ impl<T> Channel<T> {
     /// Polls a receive of up to `limit` messages. It is ready with none if none will come, or
     /// if the limit is none.
     pub(crate) fn poll_recv_many(
-        &self,
+        self: &Arc<Self>,
         into: &mut Vec<T>,
         limit: usize,
-        ticket: &mut Option<Ticket>,
+        wait: &mut Wait<T>,
         context: &Context<'_>,
     ) -> Poll<usize> {
+        let Wait { ticket, link, .. } = wait;
         if limit == 0 {
             return Poll::Ready(0);
         }
@@ -46,13 +49,14 @@ impl<T> Channel<T> {
             }
         }
         let room = self.make_room(into, limit);
-        let first = self.poll(Group::Receives, ticket, context, |core, ticket, marks, told| {
-            let Marks { own, back } = marks;
-            with_memory(core.poll_recv_with(ticket, own, told, back)).map_ok(|message| {
-                into.push(message);
-                1 + take(core, into, room - 1, told).unwrap_or(0)
-            })
-        });
+        let first =
+            self.poll(Group::Receives, ticket, Some(link), context, |core, ticket, marks, told| {
+                let Marks { own, back } = marks;
+                with_memory(core.poll_recv_with(ticket, own, told, back)).map_ok(|message| {
+                    into.push(message);
+                    1 + take(core, into, room - 1, told).unwrap_or(0)
+                })
+            });
         first.map(|first| first.map_or(0, |first| first + self.recv_more(into, limit - first)))
     }
 
@@ -70,11 +74,12 @@ impl<T> Channel<T> {
 
     /// Polls a send of all messages there are. What isn't sent stays, in order.
     pub(crate) fn poll_send_many(
-        &self,
+        self: &Arc<Self>,
         from: &mut VecDeque<T>,
-        ticket: &mut Option<Ticket>,
+        wait: &mut Wait<T>,
         context: &Context<'_>,
     ) -> Poll<Result<(), SendError<()>>> {
+        let Wait { ticket, link, .. } = wait;
         while !from.is_empty() {
             if ticket.is_none() && self.has_room() {
                 match self.try_send_many(from) {
@@ -83,9 +88,13 @@ impl<T> Channel<T> {
                     Err(TrySendError::Full(())) => {}
                 }
             }
-            let first = self.poll(Group::Sends, ticket, context, |core, ticket, marks, told| {
-                poll_send(core, from, ticket, marks, told)
-            });
+            let first = self.poll(
+                Group::Sends,
+                ticket,
+                Some(link),
+                context,
+                |core, ticket, marks, told| poll_send(core, from, ticket, marks, told),
+            );
             if first != Poll::Ready(Ok(())) {
                 return first;
             }

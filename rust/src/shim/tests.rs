@@ -1,7 +1,6 @@
 //! What the proofs rely on, each rule once.
 
 use super::{BTreeMap, Blank, Brand, Global, HeapCircularBuffer, Over, Slab, Vec, VecDeque, KEPT};
-use std::mem::size_of;
 
 /// The source never asks for more than it may, and never looks up a key that it wasn't given.
 fn slab_of(values: &[u64]) -> Slab<u64> {
@@ -36,35 +35,50 @@ fn a_slab_keeps_each_value_under_its_key() {
 
 #[test]
 fn a_slab_that_was_large_gives_its_room_back_and_the_key_that_was_left_last() {
-    let mut slab = slab_of(&[7; 10_000]);
-    for turn in 0..3 {
-        let last = [9_999, 5_000, 0][turn];
-        let keys: std::vec::Vec<_> = (0..10_000).filter(|key| *key != last).collect();
-        let first = slab.0;
-        for key in keys.into_iter().chain([last]) {
-            assert_eq!(slab.try_remove(first.wrapping_add(key)), Some(7));
-        }
-        assert!(room(&slab) <= KEPT / size_of::<u64>());
-        assert_eq!((slab.len(), slab.get(first)), (0, None));
-        for place in 0..10_000 {
-            let key = slab.insert_reserved(7);
-            assert!(place > 0 || key == first.wrapping_add(last));
-            assert_eq!(slab.get_mut(key), Some(&mut 7));
-        }
+    let mut slab = slab_of(&[]);
+    for last in [9_999, 5_000, 0] {
+        let mut keys: std::vec::Vec<_> = (0..10_000).map(|_| slab.insert_reserved(7)).collect();
+        let last = keys.remove(last);
+        assert!(keys.iter().chain([&last]).all(|key| slab.try_remove(*key) == Some(7)));
+        assert!(slab.capacity() <= 2 * KEPT);
+        assert_eq!((slab.len(), slab.get(last)), (0, None));
+        assert_eq!(slab.try_remove(keys[0]), None);
+        assert_eq!(slab.insert_reserved(8), last);
+        assert_eq!(slab.try_remove(last), Some(8));
     }
 }
 
 #[test]
-fn a_slab_keeps_a_little_room() {
-    let mut slab = slab_of(&[7; 40]);
-    let before = room(&slab);
-    assert!((0..40).all(|key| slab.try_remove(key) == Some(7)));
-    assert_eq!(room(&slab), before);
+fn a_value_keeps_its_key_while_room_goes_back() {
+    const VALUES: u64 = 10_000;
+    let mut slab = Slab::new(Global);
+    let keys: std::vec::Vec<_> = (0..VALUES).map(|value| slab.insert_reserved(value)).collect();
+    let (stay, go): (std::vec::Vec<_>, std::vec::Vec<_>) =
+        keys.iter().copied().zip(0..VALUES).partition(|(_, value)| value % 100 == 99);
+    for (key, value) in go {
+        assert_eq!(slab.try_remove(key), Some(value));
+        // Who left may come back at once, under its key.
+        assert_eq!(slab.insert_reserved(value), key);
+        assert_eq!(slab.try_remove(key), Some(value));
+    }
+    assert!(slab.capacity() <= 8 * stay.len());
+    let new: std::vec::Vec<_> = (0..VALUES).map(|_| slab.insert_reserved(7)).collect();
+    assert_eq!(slab.len(), stay.len() + new.len());
+    assert!(new.iter().all(|key| slab.get(*key) == Some(&7)));
+    for (key, mut value) in stay {
+        assert_eq!(slab.get(key), Some(&value));
+        assert_eq!(slab.get_mut(key), Some(&mut value));
+        assert_eq!((slab.try_remove(key), slab.try_remove(key)), (Some(value), None));
+    }
+    assert_eq!(slab.len(), new.len());
 }
 
-/// How many values there is room for.
-fn room(slab: &Slab<u64>) -> usize {
-    slab.1.capacity()
+#[test]
+fn a_slab_keeps_a_little_room() {
+    let mut slab = slab_of(&[7; KEPT]);
+    let before = slab.capacity();
+    assert!((0..KEPT).all(|key| slab.try_remove(key) == Some(7)));
+    assert_eq!(slab.capacity(), before);
 }
 
 #[test]

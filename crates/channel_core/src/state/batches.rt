@@ -1,5 +1,5 @@
 //! Many messages in one call: single steps, one after the other, with nobody's between.
-ghost use Rattle.std.specs.Prelude.{◌≡◌, ◌+◌, ◌<◌, ◌≤◌, ◌++◌, IfOk, OnErr, drop, if◌then◌else◌, length, take};
+ghost use Rattle.std.specs.Prelude.{◌≡◌, ◌⊎◌, ◌+◌, ◌<◌, ◌≤◌, ◌++◌, [], Ok, IfOk, OnErr, drop, if◌then◌else◌, length, take};
 ghost use Rattle.std.specs.Bool.{OnTrue, OnFalse};
 ghost use Rattle.std.specs.Vec.{vec_len, vec_capacity};
 ghost use Rattle.event_list.specs.Waiting.{RingsEach};
@@ -104,6 +104,7 @@ impl<T: Drop, W: Drop> Core<T, W> {
             ≡ self.old.messages ++ take (moved_count result) from.old.items }
         ensures stops { moved_count result < limit → CanSendNoMore from.new.items self.new }
         ensures wanted { OnErr result (GrowsWithMessages self.old) }
+        ensures none { result ≡ Ok (Ok 0) → (limit ≡ 0) ⊎ (from.old.items ≡ []) }
     {
         if self.closed {
             return Ok(Err(TrySendError::Closed(())));

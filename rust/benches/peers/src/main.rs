@@ -4,8 +4,8 @@
 //!
 //! Each round runs every work on every peer in turn, so that all share the machine's bad moments.
 //! A ratio below 1 is faster than `async-channel`. After the ratio of the medians stands the one of
-//! the least times, which other work on the machine disturbs less. Works of many threads count on a
-//! quiet machine.
+//! the least times, which other work on the machine disturbs less. Works of one thread are measured
+//! by the time for which it had a processor; works of many count on a quiet machine.
 
 mod batches;
 mod peers;

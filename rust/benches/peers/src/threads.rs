@@ -121,7 +121,7 @@ where
         tokio::spawn(receive_all::<P>(rx)).await
     });
     assert!(taken.unwrap() == TASKS);
-    each(start, TASKS)
+    each(start.elapsed(), TASKS)
 }
 
 fn many_tasks<P: Async + Many>(capacity: Option<usize>) -> f64
@@ -144,5 +144,5 @@ where
         taken
     });
     assert!(taken == TASKS);
-    each(start, TASKS)
+    each(start.elapsed(), TASKS)
 }

@@ -5,7 +5,7 @@ use std::hint::black_box;
 use std::pin::{pin, Pin};
 use std::sync::Arc;
 use std::task::{Context, Wake, Waker};
-use std::time::Instant;
+use std::time::Duration;
 
 use futures_lite::future::{block_on, zip};
 
@@ -26,19 +26,21 @@ pub(crate) use work;
 
 pub fn all() -> Vec<Work> {
     vec![
-        work!("pair, bounded(1)", Some(0.95), pair(Some(1)):
+        work!("pair, bounded(1)", Some(0.43), pair(Some(1)):
             AsyncChannel Here Flume Crossbeam Tokio),
-        work!("pair, bounded(1024)", Some(0.95), pair(Some(1024)):
+        work!("pair, bounded(1024)", Some(0.43), pair(Some(1024)):
             AsyncChannel Here Flume Crossbeam Tokio),
-        work!("pair, unbounded", Some(0.95), pair(None):
+        work!("pair, unbounded", Some(0.32), pair(None):
             AsyncChannel Here Flume Crossbeam Tokio),
         work!("fill and drain, bounded(100000)", None, fill_and_drain(Some(100_000)):
             AsyncChannel Here Flume Crossbeam Tokio),
         work!("fill and drain 100000, unbounded", None, fill_and_drain(None):
             AsyncChannel Here Flume Crossbeam Tokio),
-        work!("ready futures, bounded(16)", Some(1.0), ready_futures():
+        work!("ready futures, bounded(16)", Some(0.5), ready_futures():
             AsyncChannel Here Flume Tokio),
         work!("a receive that waits", Some(0.7), waiting_receive():
+            AsyncChannel Here Flume Tokio),
+        work!("a receive that waits and is given up", None, given_up_receive():
             AsyncChannel Here Flume Tokio),
         work!("a poll again with the same waker", Some(1.2), polls_again():
             AsyncChannel Here Flume Tokio),
@@ -54,46 +56,63 @@ pub fn all() -> Vec<Work> {
     ]
 }
 
-/// Nanoseconds for each of `count` since `start`.
-pub fn each(start: Instant, count: u64) -> f64 {
-    start.elapsed().as_nanos() as f64 / count as f64
+/// The time for which this thread had a processor: other work on the machine hardly changes it.
+struct ProcessorTime(Duration);
+
+impl ProcessorTime {
+    fn now() -> Self {
+        let mut time = libc::timespec { tv_sec: 0, tv_nsec: 0 };
+        // SAFETY: the clock writes the time that it is handed.
+        let status = unsafe { libc::clock_gettime(libc::CLOCK_THREAD_CPUTIME_ID, &mut time) };
+        assert_eq!(status, 0);
+        ProcessorTime(Duration::new(time.tv_sec as u64, time.tv_nsec as u32))
+    }
+
+    fn elapsed(&self) -> Duration {
+        Self::now().0 - self.0
+    }
+}
+
+/// Nanoseconds for each of `count` in a time.
+pub fn each(time: Duration, count: u64) -> f64 {
+    time.as_nanos() as f64 / count as f64
 }
 
 const SHORT: u64 = 200_000;
 
 fn pair<P: Peer>(capacity: Option<usize>) -> f64 {
     let (tx, mut rx) = P::make(capacity);
-    let start = Instant::now();
+    let start = ProcessorTime::now();
     for message in 0..SHORT {
         assert!(P::try_send(&tx, black_box(message)));
         assert!(black_box(P::try_recv(&mut rx)).is_some());
     }
-    each(start, SHORT)
+    each(start.elapsed(), SHORT)
 }
 
 fn fill_and_drain<P: Peer>(capacity: Option<usize>) -> f64 {
     const HELD: u64 = 100_000;
     let (tx, mut rx) = P::make(capacity);
-    let start = Instant::now();
+    let start = ProcessorTime::now();
     for message in 0..HELD {
         assert!(P::try_send(&tx, black_box(message)));
     }
     for message in 0..HELD {
         assert!(black_box(P::try_recv(&mut rx)) == Some(message));
     }
-    each(start, HELD)
+    each(start.elapsed(), HELD)
 }
 
 fn ready_futures<P: Async>() -> f64 {
     let (tx, mut rx) = P::make(Some(16));
-    let start = Instant::now();
+    let start = ProcessorTime::now();
     block_on(async {
         for message in 0..SHORT {
             P::send_async(&tx, black_box(message)).await;
             assert!(black_box(P::recv_async(&mut rx).await).is_some());
         }
     });
-    each(start, SHORT)
+    each(start.elapsed(), SHORT)
 }
 
 struct Nobody;
@@ -110,34 +129,45 @@ fn poll<F: Future>(future: Pin<&mut F>, waker: &Waker) -> bool {
 fn waiting_receive<P: Async>() -> f64 {
     let (tx, mut rx) = P::make(Some(16));
     let waker = Waker::from(Arc::new(Nobody));
-    let start = Instant::now();
+    let start = ProcessorTime::now();
     for message in 0..SHORT {
         let mut receive = pin!(P::recv_async(&mut rx));
         assert!(!poll(receive.as_mut(), &waker));
         assert!(P::try_send(&tx, black_box(message)));
         assert!(poll(receive, &waker));
     }
-    each(start, SHORT)
+    each(start.elapsed(), SHORT)
+}
+
+fn given_up_receive<P: Async>() -> f64 {
+    let (_tx, mut rx) = P::make(Some(16));
+    let waker = Waker::from(Arc::new(Nobody));
+    let start = ProcessorTime::now();
+    for _ in 0..SHORT {
+        let mut receive = pin!(P::recv_async(&mut rx));
+        assert!(!poll(receive.as_mut(), &waker));
+    }
+    each(start.elapsed(), SHORT)
 }
 
 fn clone_and_drop<P: Peer>() -> f64 {
     let (tx, _rx) = P::make(Some(16));
-    let start = Instant::now();
+    let start = ProcessorTime::now();
     for _ in 0..SHORT {
         drop(black_box(P::clone_tx(&tx)));
     }
-    each(start, SHORT)
+    each(start.elapsed(), SHORT)
 }
 
 /// A question on a channel of sixteen places that holds one message.
 fn question<P: Peer>(is_right: fn(&P::Rx) -> bool) -> f64 {
     let (tx, rx) = P::make(Some(16));
     assert!(P::try_send(&tx, 1));
-    let start = Instant::now();
+    let start = ProcessorTime::now();
     for _ in 0..SHORT {
         assert!(black_box(is_right(black_box(&rx))));
     }
-    each(start, SHORT)
+    each(start.elapsed(), SHORT)
 }
 
 fn len<P: Many>() -> f64 {
@@ -158,17 +188,17 @@ fn polls_again<P: Async>() -> f64 {
     let waker = Waker::from(Arc::new(Nobody));
     let mut receive = pin!(P::recv_async(&mut rx));
     assert!(!poll(receive.as_mut(), &waker));
-    let start = Instant::now();
+    let start = ProcessorTime::now();
     for _ in 0..SHORT {
         assert!(!poll(black_box(receive.as_mut()), &waker));
     }
-    each(start, SHORT)
+    each(start.elapsed(), SHORT)
 }
 
 fn two_tasks<P: Async>(capacity: Option<usize>) -> f64 {
     const COUNT: u64 = 1_000_000;
     let (tx, mut rx) = P::make(capacity);
-    let start = Instant::now();
+    let start = ProcessorTime::now();
     let send = async {
         let tx = tx;
         for message in 0..COUNT {
@@ -183,5 +213,5 @@ fn two_tasks<P: Async>(capacity: Option<usize>) -> f64 {
         taken
     };
     assert!(block_on(zip(send, receive)).1 == COUNT);
-    each(start, COUNT)
+    each(start.elapsed(), COUNT)
 }

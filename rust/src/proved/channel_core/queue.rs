@@ -7,7 +7,7 @@ use crate::shim::Global;
 use crate::shim::VecDeque;
 use std::mem::size_of;
 
-/// How many bytes a drained queue without a bound keeps at the most, for the messages to come.
+/// How many bytes a queue without a bound keeps in any case, for the messages to come.
 const KEPT_BYTES: usize = 4096;
 
 /// How many messages it keeps room for in any case, so that large ones don't ask for memory at each
@@ -22,22 +22,20 @@ enum Store<T> {
 /// Messages in order, the oldest first.
 ///
 /// A bounded queue has all its memory from the start, so that a push into it never asks for any. An
-/// unbounded one grows as messages come. Once it is drained it gives its memory back, but for a few
-/// KB that it keeps for the messages to come.
+/// unbounded one grows as messages come, and gives memory back as they go: once a quarter of its
+/// room is used it keeps half of it. A few KB stay for the messages to come.
 pub struct Queue<T> {
     store: Store<T>,
 }
 
-/// Takes the oldest message of a queue without a bound. If it was the last one, more memory than
-/// is kept goes back. Nothing is moved for that, and there is as much again only once as many
-/// messages are held.
+/// Gives room back once a quarter of it is used, or none, and keeps twice what is used. So a message
+/// is moved for it only after as many have left. If memory is refused for that all stays as it is.
 #[inline(always)]
-fn pop_and_shrink<T>(deque: &mut VecDeque<T, Global>) -> Option<T> {
-    let message = deque.pop_front();
-    if deque.is_empty() && is_large::<T>(deque.capacity()) {
-        *deque = VecDeque::new(*deque.allocator());
+fn give_room_back<T>(deque: &mut VecDeque<T, Global>) {
+    let (used, room) = (deque.len(), deque.capacity());
+    if (used == room / 4 || used == 0) && is_large::<T>(room) {
+        deque.shrink_to(used.saturating_mul(2));
     }
-    message
 }
 
 /// Whether so many messages take more memory than is kept.
@@ -107,7 +105,20 @@ impl<T> Queue<T> {
     pub fn pop(&mut self) -> Option<T> {
         match &mut self.store {
             Store::Ring(ring) => ring.pop_front(),
-            Store::Deque(deque) => pop_and_shrink(deque),
+            Store::Deque(deque) => {
+                let message = deque.pop_front();
+                give_room_back(deque);
+                message
+            }
+        }
+    }
+
+    /// The message in this place, from 0 for the oldest.
+    #[inline]
+    pub fn get(&self, place: usize) -> Option<&T> {
+        match &self.store {
+            Store::Ring(ring) => ring.get(place),
+            Store::Deque(deque) => deque.get(place),
         }
     }
 

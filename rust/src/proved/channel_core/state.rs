@@ -144,6 +144,12 @@ impl<T, W> Core<T, W> {
         self.closed && self.is_empty()
     }
 
+    /// The message in this place, from 0 for the oldest.
+    #[inline]
+    pub fn message(&self, place: usize) -> Option<&T> {
+        self.queue.get(place)
+    }
+
     /// The number of messages.
     #[inline]
     pub fn len(&self) -> usize {

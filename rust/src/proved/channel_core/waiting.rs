@@ -7,7 +7,7 @@ use crate::proved::event_list::{Bell, NoRoom, Ticket, WaitList};
 use crate::shim::Global;
 
 /// Who waits for a channel, by what they wait for.
-pub(super) struct WaitLists<W> {
+pub struct WaitLists<W> {
     // Sends, for a place or the close.
     pub(super) sends: WaitList<W>,
     // Receives, for a message or the close.

@@ -7,9 +7,11 @@
 //! to agree with them in the crates above. [`laws`] has what holds after every past that can come
 //! about.
 
+#[cfg(vamorilesh_run)]
 mod step;
 
 pub use crate::errors::{
     CloneError, MakeError, NoMemory, OutOfMemory, RecvError, SendError, TryRecvError, TrySendError,
 };
+#[cfg(vamorilesh_run)]
 pub use step::{Kind, Notice, Refusal, Reply, Side, Step, Who};

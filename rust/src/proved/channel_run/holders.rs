@@ -12,7 +12,7 @@ use crate::shim::BTreeMap;
 ///
 /// It is a hint, and no clause speaks of it: it isn't kept up to date, and may lack names for which
 /// memory was refused. Whoever asks it looks the name up, and walks if it is wrong.
-pub(super) struct Holders {
+pub struct Holders {
     sends: BTreeMap<usize, u64>,
     receives: BTreeMap<usize, u64>,
     streams: BTreeMap<usize, u64>,

@@ -6,7 +6,7 @@ use crate::shim::Global;
 use crate::shim::BTreeMap;
 
 /// Live names, each once, in ascending order. Each is found in the time of a map's look-up.
-pub(super) struct Names {
+pub struct Names {
     // a name is a key, with nothing under it
     names: BTreeMap<u64, ()>,
 }

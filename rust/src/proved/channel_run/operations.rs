@@ -10,7 +10,7 @@ use crate::shim::Global;
 use crate::shim::BTreeMap;
 
 /// An operation that was started and not given up. It borrows its handle all that time.
-pub(super) enum Operation<T> {
+pub enum Operation<T> {
     /// A send, with its message until it has finished.
     Send {
         sender: u64,
@@ -72,7 +72,7 @@ impl<T> Operation<T> {
 }
 
 /// The live operations by name, and how many of them borrow each handle.
-pub(super) struct Operations<T> {
+pub struct Operations<T> {
     // each with the ticket of its wait; a poll changes an operation, but never what it borrows
     pub(super) by_name: BTreeMap<u64, Operation<T>>,
     // how many borrow each sender, and each receiver

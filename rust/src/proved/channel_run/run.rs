@@ -111,6 +111,18 @@ impl<T> Run<T> {
         }
     }
 
+    /// The message that is held in this place, from 0 for the oldest.
+    #[inline]
+    pub fn message(&self, place: usize) -> Option<&T> {
+        self.core.message(place)
+    }
+
+    /// How many messages are held.
+    #[inline]
+    pub fn message_count(&self) -> usize {
+        self.core.len()
+    }
+
     // The step that was asked for.
     #[inline]
     fn make(&mut self, step: Step<T>) -> Reply<T> {

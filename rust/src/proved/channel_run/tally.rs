@@ -6,7 +6,7 @@ use crate::shim::Global;
 use crate::shim::BTreeMap;
 
 /// Numbers by name. A name under which none stands has 0.
-pub(super) struct Tally {
+pub struct Tally {
     numbers: BTreeMap<u64, u64>,
 }
 

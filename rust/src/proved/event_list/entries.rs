@@ -66,6 +66,12 @@ impl<W> Entries<W> {
         }
     }
 
+    /// How many entries there is room for.
+    #[inline]
+    pub fn capacity(&self) -> usize {
+        self.slab.capacity()
+    }
+
     /// Makes room for one more entry. The answer is whether there is room.
     #[inline]
     pub fn reserve<L: Ledger>(&mut self, lookups: &mut Lookups<L>) -> bool {

@@ -19,8 +19,11 @@ use crate::proved::event_list::ticket::Ticket;
 use crate::shim::Global;
 use crate::shim::Ledger;
 
+/// How many entries there is room for in any case once nobody waits any more.
+const KEPT_ENTRIES: usize = 64;
+
 /// The entries in order of arrival, of which the first `told` are told.
-pub(super) struct Links<W> {
+pub struct Links<W> {
     // Each with the keys of its neighbours.
     entries: Entries<W>,
     // The keys of the first one, of the last, and of the first untold one.
@@ -168,6 +171,12 @@ impl<W> Links<W> {
     #[inline]
     pub(super) fn len(&self) -> usize {
         self.len
+    }
+
+    /// Whether nobody waits, and there is more room than is kept.
+    #[inline]
+    pub(super) fn is_left(&self) -> bool {
+        self.len == 0 && self.entries.capacity() > KEPT_ENTRIES
     }
 
     /// How many are told.

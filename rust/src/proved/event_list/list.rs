@@ -20,8 +20,9 @@
 //! A counted call hands the ledger that it is given to the call of the same name of `links`, where
 //! the work is done. A call of the plain name opens a ledger and runs the counted one on it.
 //!
-//! The first who waits takes the memory in which `links` stand. Until then a list is a pointer, and
-//! a call that looks for an entry counts one look-up and finds none.
+//! The first who waits takes the memory in which `links` stand, and who leaves last gives it back
+//! if it is much. Without it a list is a pointer, and a call that looks for an entry counts one
+//! look-up and finds none.
 
 use crate::shim::Box;
 
@@ -47,10 +48,11 @@ pub struct NoRoom<W>(pub W);
 /// names, which run them on a ledger of their own. Each counts on the ledger that it is handed, at
 /// most that number and at least one if it reaches an entry.
 ///
-/// A list takes memory with the first who waits, and keeps it for those who come later.
+/// A list takes memory with the first who waits. Who leaves last gives it back, if there is room
+/// for more than 64.
 ///
-/// `renew`, `unregister` and `withdraw` are `again`, `remove` and `cancel` that give back the payload
-/// which these drop: for payloads whose drop runs a caller's code, as that of a waker does.
+/// `renew`, `unregister` and `withdraw` are `again`, `remove` and `cancel` that give back the
+/// payload which these drop: for payloads whose drop runs a caller's code, as that of a waker does.
 pub struct WaitList<W> {
     // The entries, and all work on them. Nothing before somebody waits.
     links: Option<Box<Links<W>>>,
@@ -191,7 +193,7 @@ impl<W> WaitList<W> {
         self.withdraw_by(t, bell, &mut steps.lookups);
     }
 
-    /// How many wait.
+    /// How many wait. All have different keys.
     #[inline]
     pub fn len(&self) -> usize {
         match &self.links {
@@ -272,7 +274,9 @@ impl<W> WaitList<W> {
             lookups.raise();
             return None;
         };
-        links.unregister(t, lookups)
+        let entry = links.unregister(t, lookups);
+        self.give_room_back();
+        entry
     }
 
     #[inline]
@@ -286,7 +290,20 @@ impl<W> WaitList<W> {
             lookups.raise();
             return None;
         };
-        links.withdraw(t, bell, lookups)
+        let payload = links.withdraw(t, bell, lookups);
+        self.give_room_back();
+        payload
+    }
+
+    /// Gives the memory back of a list in which nobody waits any more, if it is more than is kept.
+    #[inline]
+    fn give_room_back(&mut self) {
+        let Some(links) = &self.links else {
+            return;
+        };
+        if links.is_left() {
+            self.links = None;
+        }
     }
 }
 

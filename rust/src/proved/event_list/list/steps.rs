@@ -27,7 +27,7 @@ impl<L: Ledger> Steps<L> {
 }
 
 /// The number of look-ups, as what works on the entries sees it.
-pub(in super::super) struct Lookups<L: Ledger> {
+pub struct Lookups<L: Ledger> {
     book: Book<L>,
     share: Share<L>,
 }

@@ -5,6 +5,6 @@ use Rattle.async_channel.proofs.locked.Locked.force_send.Goals as goal
 pub returns-clause-after : goal.returns-clause-after
 returns-clause-after g c =
     steps_or_not (force_sent c.args.m)
-    c.args.self.now c.deref_mut.result.now c.self.inside.bell _ _ _
-    (rw c.deref_mut.ensures.value c.self.view_is) _
+    c.args.self.now c.value_mut-core.result.now c.self.inside.bell _ _ _
+    (rw c.value_mut-core.ensures.value c.self.view_is) _
     c.force_send.ensures.after c.force_send.ensures.rung

@@ -1,4 +1,4 @@
-use Rattle.std.proofs.Common.{ap}
+use Rattle.std.proofs.Common.{ap, rules}
 use Rattle.slab.specs.Slab.{Slab}
 use Rattle.event_list.specs.declared.entries.Entry.{Entry}
 use Rattle.event_list.proofs.KeepLemmas.{opened, shows, closed, keeps_same, keeps_joined, waits_newly}
@@ -16,22 +16,17 @@ invariant_of-self-2 g c =
     closed (keeps_joined c.put_last-key.result c.args.w roomy
     (c.put_last-key.ensures.joins c.args.self.now roomy.links) c.put_last-key.ensures.held)
 
-pub returns-clause-fresh : goal.returns-clause-fresh
-returns-clause-fresh g c =
+pub returns-clause-does : goal.returns-clause-does
+returns-clause-does g c =
     let roomy = keeps_same (ap (λ (s : Slab (Entry g.row.W.Denot)). s.slots) c.reserve.ensures.same)
     (opened c.self.invariant c.self.view_is) in
-    c.put_last-key.ensures.fresh c.args.self.now roomy.links
-
-pub returns-clause-after : goal.returns-clause-after
-returns-clause-after g c =
-    let roomy = keeps_same (ap (λ (s : Slab (Entry g.row.W.Denot)). s.slots) c.reserve.ensures.same)
-    (opened c.self.invariant c.self.view_is) in
-    shows (keeps_joined c.put_last-key.result c.args.w roomy
-    (c.put_last-key.ensures.joins c.args.self.now roomy.links) c.put_last-key.ensures.held)
-
-pub returns-clause-waits : goal.returns-clause-waits
-returns-clause-waits g c = waits_newly c.args.self.now c.put_last-key.result c.args.w (returns-clause-fresh g c)
-    (returns-clause-after g c)
-
-pub returns-clause-different : goal.returns-clause-different
-returns-clause-different g c = (invariant_of-self-2 g c).links.different
+    let fresh = c.put_last-key.ensures.fresh c.args.self.now roomy.links in
+    let after = shows (keeps_joined c.put_last-key.result c.args.w roomy
+    (c.put_last-key.ensures.joins c.args.self.now roomy.links) c.put_last-key.ensures.held) in
+    record {
+      fresh = fresh;
+      after = after;
+      waits = waits_newly c.args.self.now c.put_last-key.result c.args.w fresh after;
+      handed_back = search rules;
+      unchanged = search rules;
+    }

@@ -1,3 +1,4 @@
+use Rattle.std.proofs.Common.{rules}
 use Rattle.event_list.proofs.KeepLemmas.{opened, shows, closed, tells_first, is_untold_there, rings_first}
 use Rattle.event_list.proofs.links.Links.tell_one.Goals as goal
 
@@ -11,17 +12,12 @@ invariant_of-self g c =
     c.in-Some-tell.is c.tell.ensures.rewrites in
     closed tells.keeps
 
-pub returns-clause-after : goal.returns-clause-after
-returns-clause-after g c =
+pub returns-clause-does : goal.returns-clause-does
+returns-clause-does g c =
     let tells = tells_first (opened c.self.invariant c.self.view_is) c.in-Some.is c.tell.ensures.answer
     c.in-Some-tell.is c.tell.ensures.rewrites in
-    shows tells.keeps
-
-pub returns-clause-rung : goal.returns-clause-rung
-returns-clause-rung g c =
-    let tells = tells_first (opened c.self.invariant c.self.view_is) c.in-Some.is c.tell.ensures.answer
-    c.in-Some-tell.is c.tell.ensures.rewrites in
-    rings_first g.B.Bell.rings tells c.ring.ensures
-
-pub returns-clause-different : goal.returns-clause-different
-returns-clause-different g c = (invariant_of-self g c).links.different
+    record {
+      told = search rules;
+      after = shows tells.keeps;
+      rung = rings_first g.B.Bell.rings tells c.ring.ensures;
+    }

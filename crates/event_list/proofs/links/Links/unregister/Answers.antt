@@ -1,4 +1,4 @@
-use Rattle.std.proofs.Common.{◌≡◌, ◌∙◌, sym, ap, Some, None, true, false}
+use Rattle.std.proofs.Common.{◌≡◌, ◌∙◌, sym, ap, Some, None, true, false, rules}
 use Rattle.std.specs.Option.{option_map}
 use Rattle.event_list.specs.Waiting.{is_told, told_flag, without}
 use Rattle.event_list.proofs.KeepLemmas.{opened, shows, closed, loses, some_told, keeps_without_told, keeps_without_untold, keeps_untouched, without_none}
@@ -13,24 +13,6 @@ invariant_of-self g c =
     let left = keeps_untouched c.t.inside.key keeps marked
     (c.take_out.ensures.leaves c.args.self.now keeps.links) c.in_err-entry.ensures.absent in
     closed left
-
-pub returns-in_err-entry-clause-after : goal.returns-in_err-entry-clause-after
-returns-in_err-entry-clause-after g c =
-    let keeps = opened c.self.invariant c.self.view_is in
-    let marked : told_flag c.args.self.now c.t.inside.key ≡ None =
-    sym (c.take_out.ensures.was_told c.args.self.now keeps.links) ∙ ap (option_map is_told) c.in_err-entry.was in
-    let left = keeps_untouched c.t.inside.key keeps marked
-    (c.take_out.ensures.leaves c.args.self.now keeps.links) c.in_err-entry.ensures.absent in
-    shows left ∙ sym (without_none c.t.inside.key marked) ∙ ap (without c.args.self.now) c.t.view_is
-
-pub returns-in_err-entry-clause-unchanged : goal.returns-in_err-entry-clause-unchanged
-returns-in_err-entry-clause-unchanged g c =
-    let keeps = opened c.self.invariant c.self.view_is in
-    let marked : told_flag c.args.self.now c.t.inside.key ≡ None =
-    sym (c.take_out.ensures.was_told c.args.self.now keeps.links) ∙ ap (option_map is_told) c.in_err-entry.was in
-    let left = keeps_untouched c.t.inside.key keeps marked
-    (c.take_out.ensures.leaves c.args.self.now keeps.links) c.in_err-entry.ensures.absent in
-    rw c.from_residual.ensures (shows left)
 
 pub overflow_sub-self-then-is_told : goal.overflow_sub-self-then-is_told
 overflow_sub-self-then-is_told g c =
@@ -60,31 +42,39 @@ invariant_of-self-else-is_told g c =
     (c.take_out.ensures.leaves c.args.self.now keeps.links) c.in_ok-entry.ensures.held in
     closed left
 
-pub returns-in_err-entry-clause-different : goal.returns-in_err-entry-clause-different
-returns-in_err-entry-clause-different g c = (invariant_of-self g c).links.different
+pub returns-in_err-entry-clause-does : goal.returns-in_err-entry-clause-does
+returns-in_err-entry-clause-does g c =
+    let keeps = opened c.self.invariant c.self.view_is in
+    let marked : told_flag c.args.self.now c.t.inside.key ≡ None =
+    sym (c.take_out.ensures.was_told c.args.self.now keeps.links) ∙ ap (option_map is_told) c.in_err-entry.was in
+    let left = keeps_untouched c.t.inside.key keeps marked
+    (c.take_out.ensures.leaves c.args.self.now keeps.links) c.in_err-entry.ensures.absent in
+    record {
+      was_told = search rules;
+      payload = search rules;
+      after = shows left ∙ sym (without_none c.t.inside.key marked) ∙ ap (without c.args.self.now) c.t.view_is;
+      unchanged = rw c.from_residual.ensures (shows left);
+      sizes = loses c.args.t keeps;
+    }
 
-pub returns-in_err-entry-clause-sizes : goal.returns-in_err-entry-clause-sizes
-returns-in_err-entry-clause-sizes g c = loses c.args.t (opened c.self.invariant c.self.view_is)
-
-pub returns-clause-after : goal.returns-clause-after
-returns-clause-after g c =
+pub returns-clause-does : goal.returns-clause-does
+returns-clause-does g c =
     let keeps = opened c.self.invariant c.self.view_is in
     let leaves = c.take_out.ensures.leaves c.args.self.now keeps.links in
     let marked : told_flag c.args.self.now c.t.inside.key ≡ Some c.is_told.result =
     sym (c.take_out.ensures.was_told c.args.self.now keeps.links)
     ∙ ap (option_map is_told) c.in_ok-entry.was ∙ ap Some (sym c.is_told.ensures) in
-    elim c.if-is_told.branch [
-      | then-is_told w ↦ w.self-is ∙ shows (keeps_without_told c.t.inside.key keeps (marked ∙ ap Some w.if-is_told.true)
-          leaves c.in_ok-entry.ensures.held) ∙ ap (without c.args.self.now) c.t.view_is
-      | else-is_told w ↦ w.self-is ∙ shows (keeps_without_untold c.t.inside.key keeps (marked ∙ ap Some w.if-is_told.false)
-          leaves c.in_ok-entry.ensures.held) ∙ ap (without c.args.self.now) c.t.view_is
-    ]
-
-pub returns-clause-different : goal.returns-clause-different
-returns-clause-different g c =
-    let keeps = opened c.self.invariant c.self.view_is in
-    let leaves = c.take_out.ensures.leaves c.args.self.now keeps.links in
-    rw (returns-clause-after g c, ← c.t.view_is) leaves.different
-
-pub returns-clause-sizes : goal.returns-clause-sizes
-returns-clause-sizes g c = loses c.args.t (opened c.self.invariant c.self.view_is)
+    record {
+      was_told = search rules;
+      payload = search rules;
+      after = elim c.if-is_told.branch [
+        | then-is_told w ↦ w.self-is ∙ shows (keeps_without_told c.t.inside.key keeps
+            (marked ∙ ap Some w.if-is_told.true) leaves c.in_ok-entry.ensures.held)
+            ∙ ap (without c.args.self.now) c.t.view_is
+        | else-is_told w ↦ w.self-is ∙ shows (keeps_without_untold c.t.inside.key keeps
+            (marked ∙ ap Some w.if-is_told.false) leaves c.in_ok-entry.ensures.held)
+            ∙ ap (without c.args.self.now) c.t.view_is
+      ];
+      unchanged = search rules;
+      sizes = loses c.args.t keeps;
+    }

@@ -1,0 +1,107 @@
+//! A server: workers answer requests, each to whoever asked, and end cleanly when they are told to.
+//!
+//! A request carries the sender for its answer. A worker waits for a request and for the stop, by
+//! `select`; what was asked before the stop is answered still. Clients make channels of their own on
+//! their own threads, so they share the maker of stamps.
+#![tactic(auto)]
+
+use anyhow::Result;
+use async_channel::{Receiver, Sender, StampMaker, bounded};
+use futures::executor::block_on;
+use futures::future::{Either, select};
+use std::alloc::AllocGlobal;
+use std::random::RandomSource;
+use std::sync::{Arc, Mutex, Wait};
+use std::thread;
+
+/// How many threads answer.
+const WORKERS: usize = 2;
+
+/// How many requests may wait for a worker.
+const CAPACITY: usize = 4;
+
+/// A number, and the way back for how many numbers divide it.
+type Request<R> = (u64, Sender<usize, R>);
+
+fn count_divisors(number: u64) -> usize {
+    (1..=number)
+        .filter(|divisor| number % *divisor == 0)
+        .count()
+}
+
+/// The next request. There is none once the server was stopped and has answered what it had.
+fn next<'a, R: Wait + Clone + Drop + RandomSource + AllocGlobal>(
+    rt: &R,
+    requests: &'a Receiver<Request<R>, R>,
+    stop: &'a Receiver<(), R>,
+) -> Result<Option<Request<R>>> {
+    match block_on(rt, select(requests.recv(), stop.recv()))? {
+        Either::Left((request, _)) => Ok(request?.ok()),
+        Either::Right(_) => {
+            // No more is taken in, and what is there is received still.
+            requests.close();
+            Ok(requests.recv_blocking()?.ok())
+        }
+    }
+}
+
+/// Answers requests until there are no more.
+fn serve<R: Wait + Clone + Drop + RandomSource + AllocGlobal>(
+    rt: &R,
+    requests: Receiver<Request<R>, R>,
+    stop: Receiver<(), R>,
+) -> Result<()> {
+    for _ in rt.forever() {
+        let Some((number, reply)) = next(rt, &requests, &stop)? else {
+            break;
+        };
+        // Whoever asked may be gone, and then nobody misses the answer.
+        let _ = reply.send_blocking(count_divisors(number))?;
+    }
+    Ok(())
+}
+
+/// Asks the server, and answers `None` if it has stopped.
+fn ask<R: Wait + Clone + Drop + AllocGlobal>(
+    rt: &R,
+    requests: &Sender<Request<R>, R>,
+    maker: &Mutex<StampMaker>,
+    number: u64,
+) -> Result<Option<usize>> {
+    let (reply, answer) = bounded(rt, rt.alloc(), 1, &mut maker.lock(rt))?;
+    if requests.send_blocking((number, reply))?.is_err() {
+        return Ok(None);
+    }
+    Ok(answer.recv_blocking()?.ok())
+}
+
+fn main(rt: HostRuntime) -> Result<()> {
+    let mut first_maker = StampMaker::new();
+    let (requests, taken) = bounded(&rt, rt.alloc(), CAPACITY, &mut first_maker)?;
+    let (stop, stopped) = bounded::<(), _>(&rt, rt.alloc(), 1, &mut first_maker)?;
+    let maker = Arc::new(rt.alloc(), Mutex::new(first_maker))?;
+
+    let mut workers = Vec::new(rt.alloc());
+    for _ in 0..WORKERS {
+        let (requests, stop) = (taken.try_clone()?, stopped.try_clone()?);
+        workers.push(thread::spawn(&rt, move || serve(&rt, requests, stop))?)?;
+    }
+    drop(taken);
+
+    let mut clients = Vec::new(rt.alloc());
+    for number in [10, 11, 12] {
+        let (requests, maker) = (requests.try_clone()?, Arc::try_clone(&maker)?);
+        clients.push(thread::spawn(&rt, move || ask(&rt, &requests, &maker, number))?)?;
+    }
+    for client in clients {
+        println!(rt; "{:?}", client.join(&rt)?)?;
+    }
+
+    // This closes the channel of the stop, and wakes every worker.
+    drop(stop);
+    for worker in workers {
+        worker.join(&rt)?;
+    }
+    println!(rt; "after the end: {:?}", ask(&rt, &requests, &maker, 13)?)?;
+    Ok(())
+}

@@ -1,0 +1,18 @@
+//! A mutex under a rule: the count is the sum of what two threads have added, by contract.
+#![tactic(auto)]
+
+mod tally;
+
+use anyhow::{Result, anyhow};
+use tally::{Counter, add_in_pair, count};
+
+fn main(rt: HostRuntime) -> Result<()> {
+    let Ok((counter, pass)) = Counter::new(rt.alloc(), 0) else {
+        return Err(anyhow!("memory was refused"));
+    };
+    let Some(mut pass) = add_in_pair(&rt, &counter, pass, 20_000) else {
+        return Err(anyhow!("the count is too large"));
+    };
+    println!(rt; "{}", count(&rt, &counter, &mut pass))?;
+    Ok(())
+}

@@ -1,0 +1,425 @@
+//! A channel whose handles and operations have names.
+use crate::answer::{Answer, Counted};
+use crate::line::{Line, Messages, Way};
+use crate::operation::{Kept, Operation, Streamed, Tasks};
+use crate::subject::{Subject, Waiting};
+use anyhow::{Result, anyhow};
+use async_channel::inspect::{Waiters, who_waits};
+use async_channel::{
+    Group, NoMemory, OutOfMemory, Receiver, SendError, SendMany, Sender, StampMaker, TryRecvError,
+    TrySendError, WeakReceiver, WeakSender, bounded, unbounded,
+};
+use channel_model::{Kind, Refusal, Reply, Side, Step, Who};
+use futures::task::Poll;
+use futures::test::MockTask;
+use std::alloc::{AllocGlobal, Global};
+use std::collections::{BTreeMap, VecDeque};
+use std::random::RandomSource;
+use std::sync::Wait;
+
+/// All that is live. An operation has a copy of its handle.
+#[derive(Drop)]
+pub struct Handles<'a, R: Wait + Clone + Drop> {
+    rt: &'a R,
+    alloc: Global,
+    senders: BTreeMap<u64, Sender<u64, R>>,
+    receivers: BTreeMap<u64, Streamed<R>>,
+    weak_senders: BTreeMap<u64, WeakSender<u64, R>>,
+    weak_receivers: BTreeMap<u64, WeakReceiver<u64, R>>,
+    operations: BTreeMap<u64, Operation<'a, R>>,
+    /// A weak sender without a name.
+    observer: WeakSender<u64, R>,
+}
+
+/// What is live under a name.
+fn live<V>(all: &BTreeMap<u64, V>, name: u64) -> Result<&V> {
+    all.get(&name).ok_or_else(|| anyhow!("{name} isn't live"))
+}
+
+/// Takes out what is live under a name.
+fn taken<V: Drop>(all: &mut BTreeMap<u64, V>, name: u64) -> Result<V> {
+    all.remove(&name)
+        .ok_or_else(|| anyhow!("{name} isn't live"))
+}
+
+/// Puts something under a name.
+pub fn put<V: Drop>(all: &mut BTreeMap<u64, V>, name: u64, value: V) -> Result<()> {
+    match all.insert(name, value) {
+        Ok(_) => Ok(()),
+        Err(_) => Err(anyhow!("memory was refused")),
+    }
+}
+
+/// What a handle of a side answers.
+macro_rules! ask {
+    ($handles:expr, $side:expr, $question:ident) => {
+        match $side {
+            Side::Sender(name) => live(&$handles.senders, name)?.$question(),
+            Side::Receiver(name) => $handles.receiver(name)?.$question(),
+        }
+    };
+}
+
+/// The answer of a send that was refused memory, with the message that came back.
+fn refused(NoMemory(back): NoMemory<u64>) -> Reply<u64> {
+    Reply::Refused(Refusal::OutOfMemory, Some(back))
+}
+
+/// Messages that follow one another.
+pub fn queue(alloc: Global, messages: Messages) -> Result<VecDeque<u64, Global>> {
+    let mut queue = VecDeque::new(alloc);
+    for place in 0..messages.count {
+        if queue.push_back(messages.first.wrapping_add(place)).is_err() {
+            return Err(anyhow!("memory was refused"));
+        }
+    }
+    Ok(queue)
+}
+
+/// Sends a batch.
+fn sent_many<R: Wait + Clone + Drop>(
+    task: &MockTask,
+    way: Way,
+    sender: &Sender<u64, R>,
+    mut from: VecDeque<u64, Global>,
+) -> Result<Answer> {
+    let count = from.len();
+    let sent = match way {
+        Way::Plain => sender.try_send_many(&mut from)?,
+        Way::Blocking => match sender.send_many_blocking(&mut from) {
+            Ok(Ok(())) => Ok(count),
+            Ok(Err(SendError(()))) => Err(TrySendError::Closed(())),
+            Err(OutOfMemory) => Ok(count.saturating_sub(from.len())),
+        },
+        Way::Polled => return sent_by_poll(task, sender.send_many(from)),
+    };
+    Ok(Answer::Sent(sent, from.len()))
+}
+
+/// What comes of one poll. One that has to wait is given up.
+fn sent_by_poll<R: Wait + Clone + Drop>(
+    task: &MockTask,
+    mut send: SendMany<'_, u64, R>,
+) -> Result<Answer> {
+    let polled = task.poll(&mut send);
+    let (sent, left) = (send.sent(), send.into_unsent().len());
+    if let Poll::Ready(Ok(_)) = &polled
+        && task.is_woken()
+    {
+        return Err(anyhow!("a poll that was ready woke its task"));
+    }
+    match polled {
+        Poll::Ready(Err(_)) if sent == 0 => Err(anyhow!("memory was refused")),
+        Poll::Ready(Ok(Err(SendError(left)))) => {
+            Ok(Answer::Sent(Err(TrySendError::Closed(())), left.len()))
+        }
+        Poll::Ready(_) => Ok(Answer::Sent(Ok(sent), left)),
+        Poll::Pending if sent == 0 => Ok(Answer::Sent(Err(TrySendError::Full(())), left)),
+        Poll::Pending => Ok(Answer::Sent(Ok(sent), left)),
+    }
+}
+
+/// Receives a batch. An operation that has to wait is given up.
+fn received_many<R: Wait + Clone + Drop>(
+    task: &MockTask,
+    way: Way,
+    receiver: &Receiver<u64, R>,
+    into: &mut Vec<u64>,
+    limit: usize,
+) -> Result<Counted<TryRecvError>> {
+    match way {
+        Way::Plain => Ok(receiver.try_recv_many(into, limit)?),
+        Way::Blocking => {
+            let received = receiver.recv_many_blocking(into, limit)?;
+            Ok(received.map_err(|_| TryRecvError::Closed))
+        }
+        Way::Polled => match task.poll(&mut receiver.recv_many(into, limit)) {
+            Poll::Ready(received) => match received? {
+                0 if limit > 0 => Ok(Err(TryRecvError::Closed)),
+                count => Ok(Ok(count)),
+            },
+            Poll::Pending => Ok(Err(TryRecvError::Empty)),
+        },
+    }
+}
+
+impl<'a, R: Wait + Clone + Drop + RandomSource + AllocGlobal> Handles<'a, R> {
+    pub fn new(rt: &'a R, kind: Kind) -> Result<Handles<'a, R>> {
+        let mut maker = StampMaker::new();
+        let (s, r) = match kind {
+            Kind::Bounded(capacity) if capacity > 0 => {
+                bounded(rt, rt.alloc(), capacity, &mut maker)?
+            }
+            _ => unbounded(rt, rt.alloc(), &mut maker)?,
+        };
+        let mut handles = Handles {
+            rt,
+            alloc: rt.alloc(),
+            senders: BTreeMap::new(rt.alloc()),
+            receivers: BTreeMap::new(rt.alloc()),
+            weak_senders: BTreeMap::new(rt.alloc()),
+            weak_receivers: BTreeMap::new(rt.alloc()),
+            operations: BTreeMap::new(rt.alloc()),
+            observer: s.downgrade()?,
+        };
+        put(&mut handles.senders, 0, s)?;
+        handles.put_receiver(0, r)?;
+        Ok(handles)
+    }
+
+    fn put_receiver(&mut self, name: u64, receiver: Receiver<u64, R>) -> Result<()> {
+        let streamed = Streamed::new(receiver, Tasks::new(self.rt)?);
+        put(&mut self.receivers, name, streamed)
+    }
+
+    fn receiver(&self, name: u64) -> Result<&Receiver<u64, R>> {
+        Ok(&live(&self.receivers, name)?.receiver)
+    }
+
+    fn put_operation(&mut self, op: u64, kept: Kept<'a, R>) -> Result<()> {
+        let operation = Operation::new(kept, Tasks::new(self.rt)?);
+        put(&mut self.operations, op, operation)
+    }
+}
+
+impl<R: Wait + Clone + Drop + RandomSource + AllocGlobal> Subject for Handles<'_, R> {
+    fn has(&self, _line: Line) -> bool {
+        true
+    }
+
+    fn first_sides(&self) -> (Option<u64>, Option<u64>) {
+        (
+            self.senders.keys().next().copied(),
+            self.receivers.keys().next().copied(),
+        )
+    }
+
+    fn waiting(&self) -> Result<Vec<Waiting>> {
+        let mut all = Vec::new(self.alloc);
+        for (op, operation) in self.operations.iter() {
+            all.push(Waiting {
+                who: Who::Op(*op),
+                group: operation.group(),
+                is_woken: operation.is_woken(),
+            })?;
+        }
+        for (name, streamed) in self.receivers.iter() {
+            all.push(Waiting {
+                who: Who::Receiver(*name),
+                group: Group::Streams,
+                is_woken: streamed.is_woken(),
+            })?;
+        }
+        Ok(all)
+    }
+
+    fn counted(&self, group: Group) -> Option<Waiters> {
+        Some(who_waits(&self.observer, group))
+    }
+
+    fn poll(&mut self, who: Who) -> Result<Reply<u64>> {
+        match who {
+            Who::Op(op) => match self.operations.get_mut(&op) {
+                Some(operation) => operation.poll(),
+                None => Err(anyhow!("o{op} isn't live")),
+            },
+            Who::Receiver(name) => match self.receivers.get_mut(&name) {
+                Some(streamed) => streamed.poll_next(),
+                None => Err(anyhow!("r{name} isn't live")),
+            },
+        }
+    }
+
+    fn make(&mut self, line: Line) -> Result<Answer> {
+        match line {
+            Line::One(step) => Ok(Answer::Replied(self.step(step)?)),
+            Line::SendBlocking { sender, message } => {
+                Ok(Answer::Replied(match live(&self.senders, sender)?.send_blocking(message) {
+                    Ok(sent) => Reply::SendPolled(Poll::Ready(sent)),
+                    Err(refusal) => refused(refusal),
+                }))
+            }
+            Line::RecvBlocking(receiver) => {
+                let received = self.receiver(receiver)?.recv_blocking()?;
+                Ok(Answer::Replied(Reply::RecvPolled(Poll::Ready(received))))
+            }
+            Line::IntoMsg(op) => Ok(Answer::Message(taken(&mut self.operations, op)?.into_msg()?)),
+            line => self.make_batch(line),
+        }
+    }
+}
+
+impl<'a, R: Wait + Clone + Drop + RandomSource + AllocGlobal> Handles<'a, R> {
+    fn make_batch(&mut self, line: Line) -> Result<Answer> {
+        match line {
+            Line::SendMany {
+                way,
+                sender,
+                messages,
+            } => {
+                let (sender, from) = (live(&self.senders, sender)?, queue(self.alloc, messages)?);
+                let task = MockTask::new(self.rt)?;
+                sent_many(&task, way, sender, from)
+            }
+            Line::RecvMany {
+                way,
+                receiver,
+                limit,
+            } => {
+                let mut into = Vec::new(self.alloc);
+                let (task, receiver) = (MockTask::new(self.rt)?, self.receiver(receiver)?);
+                let received = received_many(&task, way, receiver, &mut into, limit)?;
+                Ok(Answer::Received(received, into))
+            }
+            Line::TryIter { receiver, limit } => self.take_from_iter(receiver, limit),
+            _ => Err(anyhow!("it is no batch")),
+        }
+    }
+
+    /// Takes so many from an iterator over what is there.
+    fn take_from_iter(&self, receiver: u64, limit: usize) -> Result<Answer> {
+        let mut came = Vec::new(self.alloc);
+        came.reserve(limit.min(self.receiver(receiver)?.len()))?;
+        let mut messages = self.receiver(receiver)?.try_iter();
+        for _ in 0..limit {
+            match messages.next() {
+                Some(message) => came.push(message)?,
+                None => break,
+            }
+        }
+        Ok(Answer::Received(Ok(came.len()), came))
+    }
+
+    /// Makes a single step.
+    fn step(&mut self, step: Step<u64>) -> Result<Reply<u64>> {
+        match step {
+            Step::TrySend(sender, message) => {
+                Ok(match live(&self.senders, sender)?.try_send(message) {
+                    Ok(sent) => Reply::TrySent(sent),
+                    Err(refusal) => refused(refusal),
+                })
+            }
+            Step::ForceSend(sender, message) => {
+                Ok(match live(&self.senders, sender)?.force_send(message) {
+                    Ok(forced) => Reply::Forced(forced),
+                    Err(refusal) => refused(refusal),
+                })
+            }
+            Step::TryRecv(receiver) => Ok(Reply::Received(self.receiver(receiver)?.try_recv())),
+            Step::Poll(op) => self.poll(Who::Op(op)),
+            Step::PollNext(receiver) => self.poll(Who::Receiver(receiver)),
+            Step::IsTerminated(receiver) => {
+                Ok(Reply::Flag(self.receiver(receiver)?.is_terminated()))
+            }
+            Step::Close(side) => Ok(Reply::Flag(ask!(self, side, close))),
+            Step::IsClosed(side) => Ok(Reply::Flag(ask!(self, side, is_closed))),
+            Step::IsEmpty(side) => Ok(Reply::Flag(ask!(self, side, is_empty))),
+            Step::IsFull(side) => Ok(Reply::Flag(ask!(self, side, is_full))),
+            Step::Len(side) => Ok(Reply::Count(ask!(self, side, len))),
+            Step::Capacity(side) => Ok(Reply::Capacity(ask!(self, side, capacity))),
+            Step::SenderCount(side) => {
+                Ok(Reply::Count(self.named(ask!(self, side, sender_count), false)))
+            }
+            Step::ReceiverCount(side) => {
+                Ok(Reply::Count(self.named(ask!(self, side, receiver_count), true)))
+            }
+            Step::UpgradeSender { of, new } => self.upgrade_sender(of, new),
+            Step::UpgradeReceiver { of, new } => self.upgrade_receiver(of, new),
+            step => {
+                self.rename(step)?;
+                Ok(Reply::Done)
+            }
+        }
+    }
+
+    /// So many receivers, or so many senders, without those that operations have.
+    fn named(&self, count: usize, are_receivers: bool) -> usize {
+        let mut named = count;
+        for operation in self.operations.values() {
+            if (operation.group() == Group::Receives) == are_receivers {
+                named = named.saturating_sub(1);
+            }
+        }
+        named
+    }
+
+    fn upgrade_sender(&mut self, of: u64, new: u64) -> Result<Reply<u64>> {
+        let upgraded = live(&self.weak_senders, of)?.upgrade()?;
+        let is_raised = upgraded.is_some();
+        if let Some(sender) = upgraded {
+            put(&mut self.senders, new, sender)?;
+        }
+        Ok(Reply::Upgraded(is_raised))
+    }
+
+    fn upgrade_receiver(&mut self, of: u64, new: u64) -> Result<Reply<u64>> {
+        let upgraded = live(&self.weak_receivers, of)?.upgrade()?;
+        let is_raised = upgraded.is_some();
+        if let Some(receiver) = upgraded {
+            self.put_receiver(new, receiver)?;
+        }
+        Ok(Reply::Upgraded(is_raised))
+    }
+
+    /// Makes a name, or gives one up.
+    fn rename(&mut self, step: Step<u64>) -> Result<()> {
+        match step {
+            Step::CloneSender { of, new } => {
+                let copy = live(&self.senders, of)?.try_clone()?;
+                put(&mut self.senders, new, copy)
+            }
+            Step::CloneReceiver { of, new } => {
+                let copy = self.receiver(of)?.try_clone()?;
+                self.put_receiver(new, copy)
+            }
+            Step::CloneWeakSender { of, new } => {
+                let copy = live(&self.weak_senders, of)?.try_clone()?;
+                put(&mut self.weak_senders, new, copy)
+            }
+            Step::CloneWeakReceiver { of, new } => {
+                let copy = live(&self.weak_receivers, of)?.try_clone()?;
+                put(&mut self.weak_receivers, new, copy)
+            }
+            Step::DowngradeSender { of, new } => {
+                let weak = live(&self.senders, of)?.downgrade()?;
+                put(&mut self.weak_senders, new, weak)
+            }
+            Step::DowngradeReceiver { of, new } => {
+                let weak = self.receiver(of)?.downgrade()?;
+                put(&mut self.weak_receivers, new, weak)
+            }
+            step => self.give_up_or_begin(step),
+        }
+    }
+
+    fn give_up_or_begin(&mut self, step: Step<u64>) -> Result<()> {
+        match step {
+            Step::DropSender(name) => drop(taken(&mut self.senders, name)?),
+            Step::DropReceiver(name) => drop(taken(&mut self.receivers, name)?),
+            Step::DropWeakSender(name) => drop(taken(&mut self.weak_senders, name)?),
+            Step::DropWeakReceiver(name) => drop(taken(&mut self.weak_receivers, name)?),
+            Step::DropOp(name) => drop(taken(&mut self.operations, name)?),
+            step => return self.begin(step),
+        }
+        Ok(())
+    }
+
+    /// Begins an operation.
+    fn begin(&mut self, step: Step<u64>) -> Result<()> {
+        match step {
+            Step::StartSend { op, sender, msg } => {
+                let sender = live(&self.senders, sender)?.try_clone()?;
+                self.put_operation(op, Kept::Send(sender.into_send(msg)))
+            }
+            Step::StartRecv { op, receiver } => {
+                let receiver = self.receiver(receiver)?.try_clone()?;
+                self.put_operation(op, Kept::Recv(receiver.into_recv()))
+            }
+            Step::StartClosed { op, sender } => {
+                let sender = live(&self.senders, sender)?.try_clone()?;
+                self.put_operation(op, Kept::Closed(sender.into_closed()))
+            }
+            _ => Err(anyhow!("no other step begins an operation")),
+        }
+    }
+}

@@ -1,0 +1,153 @@
+//! Operations that own their handle, each with tasks that poll it.
+use anyhow::{Result, anyhow};
+use async_channel::{Closed, Group, Receiver, Recv, Send};
+use channel_model::Reply;
+use futures::Stream;
+use futures::task::Poll;
+use futures::test::MockTask;
+use std::alloc::AllocGlobal;
+use std::random::RandomSource;
+use std::sync::Wait;
+
+/// Two tasks that take turns: each makes two polls, and then the other one takes over.
+#[derive(Drop)]
+pub struct Tasks {
+    one: MockTask,
+    other: MockTask,
+    polls: u8,
+}
+
+impl Tasks {
+    pub fn new<R: RandomSource + AllocGlobal>(rt: &R) -> Result<Tasks> {
+        Ok(Tasks {
+            one: MockTask::new(rt)?,
+            other: MockTask::new(rt)?,
+            polls: 0,
+        })
+    }
+
+    /// The task of the last poll. There is none before the first poll.
+    fn last(&self) -> Option<&MockTask> {
+        match self.polls {
+            0 => None,
+            1 | 2 => Some(&self.one),
+            _ => Some(&self.other),
+        }
+    }
+
+    /// The task of a new poll.
+    pub fn next(&mut self) -> &MockTask {
+        self.polls = if self.polls < 4 { self.polls + 1 } else { 1 };
+        if self.polls < 3 {
+            &self.one
+        } else {
+            &self.other
+        }
+    }
+
+    /// Forgets that the task of the last poll was woken.
+    pub fn rest(&self) {
+        if let Some(task) = self.last() {
+            task.enter(|_| ());
+        }
+    }
+
+    /// Whether the task of the last poll was woken since.
+    pub fn is_woken(&self) -> bool {
+        self.last().is_some_and(|task| task.is_woken())
+    }
+}
+
+/// A future that has its handle.
+#[derive(Drop)]
+pub enum Kept<'a, R: Wait + Clone + Drop> {
+    Send(Send<'a, u64, R>),
+    Recv(Recv<'a, u64, R>),
+    Closed(Closed<'a, u64, R>),
+}
+
+/// An operation under a name.
+#[derive(Drop)]
+pub struct Operation<'a, R: Wait + Clone + Drop> {
+    kept: Kept<'a, R>,
+    tasks: Tasks,
+}
+
+impl<'a, R: Wait + Clone + Drop> Operation<'a, R> {
+    pub fn new(kept: Kept<'a, R>, tasks: Tasks) -> Operation<'a, R> {
+        Operation { kept, tasks }
+    }
+
+    pub fn poll(&mut self) -> Result<Reply<u64>> {
+        let task = self.tasks.next();
+        Ok(match &mut self.kept {
+            Kept::Send(send) => match task.poll(send) {
+                Poll::Ready(sent) => Reply::SendPolled(Poll::Ready(sent?)),
+                Poll::Pending => Reply::SendPolled(Poll::Pending),
+            },
+            Kept::Recv(recv) => match task.poll(recv) {
+                Poll::Ready(received) => Reply::RecvPolled(Poll::Ready(received?)),
+                Poll::Pending => Reply::RecvPolled(Poll::Pending),
+            },
+            Kept::Closed(closed) => match task.poll(closed) {
+                Poll::Ready(ended) => {
+                    ended?;
+                    Reply::ClosedPolled(Poll::Ready(()))
+                }
+                Poll::Pending => Reply::ClosedPolled(Poll::Pending),
+            },
+        })
+    }
+
+    pub fn is_woken(&self) -> bool {
+        self.tasks.is_woken()
+    }
+
+    /// Among whom it waits.
+    pub fn group(&self) -> Group {
+        match &self.kept {
+            Kept::Send(_) => Group::Sends,
+            Kept::Recv(_) => Group::Receives,
+            Kept::Closed(_) => Group::Closeds,
+        }
+    }
+
+    /// Gives a send up for its message.
+    pub fn into_msg(self) -> Result<Option<u64>> {
+        let Operation {
+            kept,
+            tasks: _tasks,
+        } = self;
+        match kept {
+            Kept::Send(send) => Ok(send.into_msg()),
+            _ => Err(anyhow!("it is no send")),
+        }
+    }
+}
+
+/// A receiver, and the tasks that poll its stream.
+#[derive(Drop)]
+pub struct Streamed<R: Wait + Clone + Drop> {
+    pub receiver: Receiver<u64, R>,
+    tasks: Tasks,
+}
+
+impl<R: Wait + Clone + Drop> Streamed<R> {
+    pub fn new(receiver: Receiver<u64, R>, tasks: Tasks) -> Streamed<R> {
+        Streamed { receiver, tasks }
+    }
+
+    pub fn poll_next(&mut self) -> Result<Reply<u64>> {
+        let receiver = &mut self.receiver;
+        let task = self.tasks.next();
+        Ok(Reply::NextPolled(match task.enter(|cx| receiver.poll_next(cx)) {
+            Poll::Ready(Some(item)) => Poll::Ready(Some(item?)),
+            Poll::Ready(None) => Poll::Ready(None),
+            Poll::Pending => Poll::Pending,
+        }))
+    }
+
+    pub fn is_woken(&self) -> bool {
+        self.tasks.is_woken()
+    }
+}

@@ -1,7 +1,0 @@
-use Rattle.std.proofs.Common.{◌≡◌, ◌+◌, ◌-◌}
-use Rattle.ruled_mutex.specs.Passes.{IsPassOf, view}
-use Rattle.test_ruled_mutex.specs.Sum.{added}
-use Rattle.test_ruled_mutex.proofs.tally.add_many.Given as goal
-
-abbrev pub invariant-loop-done : goal.invariant-loop-done
-invariant-loop-done g l = IsPassOf l.fn.counter l.pass × (view l.pass ≡ added ((view l.initial.pass).count + l.done))

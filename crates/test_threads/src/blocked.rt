@@ -1,0 +1,324 @@
+//! Threads that are blocked: what ends each call, and what it answers.
+use crate::batch::numbers_from;
+use crate::waiting::{are_waiting, channel};
+use Act::*;
+use Said::*;
+use async_channel::{Group, OutOfMemory, Receiver, RecvError, SendError, Sender, WeakSender};
+use futures::task::Poll;
+use futures::test::MockTask;
+use std::alloc::{AllocGlobal, Global};
+use std::process::Abort;
+use std::random::RandomSource;
+use std::sync::Wait;
+use std::test::Fail;
+use std::thread;
+use std::thread::{JoinHandle, Threads};
+
+/// A call that blocks.
+#[derive(Clone, Copy, Debug)]
+enum Call {
+    Recv,
+    /// Receives up to five messages.
+    RecvMany,
+    Send(u64),
+    /// Sends this message and the next.
+    SendMany(u64),
+}
+
+/// What the call of another thread does.
+#[derive(Clone, Copy, Debug)]
+enum Act {
+    TrySend(u64),
+    TryRecv,
+    Close,
+}
+
+/// What either answers.
+#[derive(Clone, Copy, Debug, PartialEq, Eq)]
+enum Said {
+    Got(u64),
+    Batch(usize),
+    Done,
+    Closed,
+    Otherwise,
+}
+
+impl Call {
+    fn group(self) -> Group {
+        match self {
+            Call::Recv | Call::RecvMany => Group::Receives,
+            Call::Send(_) | Call::SendMany(_) => Group::Sends,
+        }
+    }
+
+    fn make<R: Wait + Clone + Drop>(
+        self,
+        alloc: Global,
+        s: &Sender<u64, R>,
+        r: &Receiver<u64, R>,
+    ) -> Said {
+        match self {
+            Call::Recv => match r.recv_blocking() {
+                Ok(Ok(message)) => Got(message),
+                Ok(Err(RecvError)) => Closed,
+                Err(_) => Otherwise,
+            },
+            Call::RecvMany => match r.recv_many_blocking(&mut Vec::new(alloc), 5) {
+                Ok(Ok(count)) => Batch(count),
+                Ok(Err(RecvError)) => Closed,
+                Err(_) => Otherwise,
+            },
+            Call::Send(message) => match s.send_blocking(message) {
+                Ok(Ok(())) => Done,
+                Ok(Err(SendError(back))) if back == message => Closed,
+                _ => Otherwise,
+            },
+            Call::SendMany(first) => {
+                let Ok(mut from) = numbers_from(alloc, first, 2) else {
+                    return Otherwise;
+                };
+                match s.send_many_blocking(&mut from) {
+                    Ok(Ok(())) if from.is_empty() => Done,
+                    Ok(Err(SendError(()))) => Batch(from.len()),
+                    _ => Otherwise,
+                }
+            }
+        }
+    }
+}
+
+impl Act {
+    fn make<R: Wait + Clone + Drop>(self, s: &Sender<u64, R>, r: &Receiver<u64, R>) -> Said {
+        match self {
+            TrySend(message) => match s.try_send(message) {
+                Ok(Ok(())) => Done,
+                _ => Otherwise,
+            },
+            TryRecv => match r.try_recv() {
+                Ok(message) => Got(message),
+                _ => Otherwise,
+            },
+            Close if s.close() => Done,
+            Close => Otherwise,
+        }
+    }
+}
+
+/// Blocks a thread in a call, until so many wait.
+fn blocked<R>(
+    rt: &R,
+    call: Call,
+    s: &Sender<u64, R>,
+    r: &Receiver<u64, R>,
+    weak: &WeakSender<u64, R>,
+    count: usize,
+) -> Result<JoinHandle<Said>, Fail>
+where
+    R: Threads + Wait + Clone + Drop + AllocGlobal + Abort,
+    R: std::marker::Send + Sync + 'static,
+{
+    let (alloc, own_s, own_r) = (rt.alloc(), s.try_clone()?, r.try_clone()?);
+    let thread = thread::spawn(rt, move || call.make(alloc, &own_s, &own_r))?;
+    assert!(rt; are_waiting(weak, call.group(), (count, 0)), "{call:?}");
+    Ok(thread)
+}
+
+/// Two calls that block, one after the other; and what ends the first one, and then the second:
+/// a call, its answer, and that of the call that it ends.
+type Case = ([Call; 2], [(Act, Said, Said); 2]);
+
+const RECEIVES: [Case; 3] = [
+    (
+        [Call::Recv, Call::Recv],
+        [(TrySend(7), Done, Got(7)), (Close, Done, Closed)],
+    ),
+    (
+        [Call::Recv, Call::RecvMany],
+        [(TrySend(7), Done, Got(7)), (TrySend(8), Done, Batch(1))],
+    ),
+    (
+        [Call::RecvMany, Call::RecvMany],
+        [(TrySend(7), Done, Batch(1)), (Close, Done, Closed)],
+    ),
+];
+
+/// These are at a channel that is full with 1.
+const SENDS: [Case; 2] = [
+    (
+        [Call::Send(2), Call::Send(3)],
+        [(TryRecv, Got(1), Done), (Close, Done, Closed)],
+    ),
+    (
+        [Call::Send(2), Call::SendMany(3)],
+        [(TryRecv, Got(1), Done), (Close, Done, Batch(2))],
+    ),
+];
+
+/// Blocks two threads, and ends one after the other.
+fn ends_both<R>(rt: &R, s: &Sender<u64, R>, r: &Receiver<u64, R>, case: &Case) -> Result<(), Fail>
+where
+    R: Threads + Wait + Clone + Drop + AllocGlobal + Abort,
+    R: std::marker::Send + Sync + 'static,
+{
+    let ([first, second], [one_act, other_act]) = case;
+    let weak = s.downgrade()?;
+    let one = blocked(rt, *first, s, r, &weak, 1)?;
+    let other = blocked(rt, *second, s, r, &weak, 2)?;
+    for (thread, (act, answer, ended)) in [(one, one_act), (other, other_act)] {
+        assert_eq!(rt; act.make(s, r), *answer, "{act:?}");
+        assert_eq!(rt; thread.join(rt), *ended, "{act:?}");
+    }
+    assert!(rt; are_waiting(&weak, first.group(), (0, 0)));
+    Ok(())
+}
+
+#[test]
+fn the_longest_blocked_call_ends(rt: HostRuntime) -> Result<(), Fail> {
+    for case in &RECEIVES {
+        let (s, r) = channel(&rt, None)?;
+        ends_both(&rt, &s, &r, case)?;
+    }
+    for case in &SENDS {
+        let (s, r) = channel(&rt, Some(1))?;
+        assert_eq!(rt; s.try_send(1), Ok(Ok(())));
+        ends_both(&rt, &s, &r, case)?;
+    }
+    Ok(())
+}
+
+/// How often a blocked thread is told, and finds nothing.
+const ROUNDS: u32 = 100;
+
+/// Makes the call again and again, until it answers this.
+fn repeats<R: Wait + Clone + Drop + AllocGlobal>(
+    rt: &R,
+    call: Call,
+    last: Said,
+    s: &Sender<u64, R>,
+    r: &Receiver<u64, R>,
+) -> bool {
+    for _ in rt.forever() {
+        let said = call.make(rt.alloc(), s, r);
+        if said == last || said == Otherwise {
+            return said == last;
+        }
+    }
+    false
+}
+
+#[test]
+fn who_is_told_in_vain_is_told_again(rt: HostRuntime) -> Result<(), Fail> {
+    // What tells the call, what takes that before it, and what ends it, with its answer.
+    for (call, tells, takes, ends, last) in [
+        (Call::Recv, TrySend(1), TryRecv, TrySend(9), Got(9)),
+        (Call::Send(1), TryRecv, TrySend(0), Close, Closed),
+    ] {
+        let (s, r) = channel(&rt, Some(1))?;
+        if let Group::Sends = call.group() {
+            assert_eq!(rt; s.try_send(0), Ok(Ok(())));
+        }
+        let (weak, own_s, own_r) = (s.downgrade()?, s.try_clone()?, r.try_clone()?);
+        let thread = thread::spawn(&rt, move || repeats(&rt, call, last, &own_s, &own_r))?;
+        for _ in 0..ROUNDS {
+            assert!(rt; are_waiting(&weak, call.group(), (1, 0)), "{call:?}");
+            assert!(rt; tells.make(&s, &r) != Otherwise, "{call:?}");
+            // mostly before the thread wakes
+            takes.make(&s, &r);
+        }
+        assert_eq!(rt; ends.make(&s, &r), Done, "{call:?}");
+        assert!(rt; thread.join(&rt), "{call:?}");
+        assert!(rt; are_waiting(&weak, call.group(), (0, 0)), "{call:?}");
+    }
+    Ok(())
+}
+
+/// What a receive gives.
+type Received = Result<Result<u64, RecvError>, OutOfMemory>;
+
+/// Lets others run for a while.
+fn give_turns() {
+    for _ in 0..10_000u32 {
+        thread::yield_now();
+    }
+}
+
+/// Blocks a thread in a receive behind a task's, which a message tells. It answers what the task
+/// receives, before what the thread does or behind the close.
+fn sleeps<R>(rt: &R, closes: bool) -> Result<(Poll<Received>, Said), Fail>
+where
+    R: Threads + Wait + Clone + Drop + RandomSource + AllocGlobal + Abort,
+    R: std::marker::Send + Sync + 'static,
+{
+    let (s, r) = channel(rt, None)?;
+    let (task, weak, mut recv) = (MockTask::new(rt)?, s.downgrade()?, r.recv());
+    assert!(rt; matches!(&task.poll(&mut recv), Poll::Pending));
+    let thread = blocked(rt, Call::Recv, &s, &r, &weak, 2)?;
+    assert_eq!(rt; TrySend(7).make(&s, &r), Done);
+    give_turns();
+    if closes {
+        assert_eq!(rt; Close.make(&s, &r), Done);
+        let ended = thread.join(rt);
+        return Ok((task.poll(&mut recv), ended));
+    }
+    let polled = task.poll(&mut recv);
+    assert_eq!(rt; TrySend(8).make(&s, &r), Done);
+    Ok((polled, thread.join(rt)))
+}
+
+#[test]
+fn a_blocked_receive_sleeps_until_it_is_told(rt: HostRuntime) -> Result<(), Fail> {
+    assert_eq!(rt; sleeps(&rt, false)?, (Poll::Ready(Ok(Ok(7))), Got(8)));
+    assert_eq!(rt;
+        sleeps(&rt, true)?,
+        (Poll::Ready(Ok(Err(RecvError))), Got(7))
+    );
+    Ok(())
+}
+
+#[test]
+fn a_blocked_send_sleeps_until_it_is_told(rt: HostRuntime) -> Result<(), Fail> {
+    let (s, r) = channel(&rt, Some(1))?;
+    assert_eq!(rt; s.try_send(1), Ok(Ok(())));
+    let (task, weak) = (MockTask::new(&rt)?, s.downgrade()?);
+    let mut send = s.send(2);
+    assert!(rt; matches!(&task.poll(&mut send), Poll::Pending));
+    let thread = blocked(&rt, Call::Send(3), &s, &r, &weak, 2)?;
+    assert_eq!(rt; r.try_recv(), Ok(1));
+    give_turns();
+    assert!(rt; matches!(&task.poll(&mut send), Poll::Ready(Ok(Ok(())))));
+    assert_eq!(rt; r.try_recv(), Ok(2));
+    assert_eq!(rt; thread.join(&rt), Done);
+    Ok(())
+}
+
+/// How often a thread is blocked in a batch. In some of these rounds it takes the messages before
+/// others wait.
+const BATCHES: u32 = 20;
+
+/// Blocks a thread in a batch of receives, and sends it two messages with two sends behind them. It
+/// answers whether both of these are woken, if both had to wait.
+fn batch_wakes_both<R>(rt: &R) -> Result<Option<bool>, Fail>
+where
+    R: Threads + Wait + Clone + Drop + RandomSource + AllocGlobal + Abort,
+    R: std::marker::Send + Sync + 'static,
+{
+    let (s, r) = channel(rt, Some(2))?;
+    let weak = s.downgrade()?;
+    let thread = blocked(rt, Call::RecvMany, &s, &r, &weak, 1)?;
+    let (task, other) = (MockTask::new(rt)?, MockTask::new(rt)?);
+    let (mut first, mut second) = (s.send(3), s.send(4));
+    let mut from = numbers_from(rt.alloc(), 1, 2)?;
+    assert_eq!(rt; s.try_send_many(&mut from), Ok(Ok(2)));
+    let both_wait = matches!(&task.poll(&mut first), Poll::Pending)
+        && matches!(&other.poll(&mut second), Poll::Pending);
+    assert!(rt; matches!(thread.join(rt), Batch(_)));
+    Ok(both_wait.then_some(task.is_woken() && other.is_woken()))
+}
+
+#[test]
+fn a_blocked_batch_tells_as_many_sends(rt: HostRuntime) -> Result<(), Fail> {
+    for _ in 0..BATCHES {
+        assert!(rt; batch_wakes_both(&rt)? != Some(false));
+    }
+    Ok(())
+}

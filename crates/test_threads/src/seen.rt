@@ -1,0 +1,273 @@
+//! What another thread sees of a call: all of it or nothing, but the rounds of a batch.
+use crate::batch::{Way, receives, sends};
+use crate::meeting::{Deed, Sight, are_well};
+use crate::waiting::{channel, numbers};
+use async_channel::{Group, ROUND_LIMIT, Receiver, Sender, WeakSender};
+use futures::Stream;
+use futures::task::Poll;
+use futures::test::MockTask;
+use std::alloc::{AllocGlobal, Global};
+use std::random::RandomSource;
+use std::sync::Wait;
+use std::sync::atomic::{AtomicU64, Ordering};
+use std::test::Fail;
+use std::thread::Threads;
+
+/// How many messages are sent into a full channel.
+const FORCED: u64 = 15_000;
+
+/// Sends into a channel that is full with the message 0.
+#[derive(Drop)]
+struct Forces<'a, R: Wait + Clone + Drop>(&'a Sender<u64, R>);
+
+impl<R: Wait + Clone + Drop> Deed for Forces<'_, R> {
+    /// Whether each send hands out the message before.
+    fn act(&mut self) -> bool {
+        let mut are_well = true;
+        for message in 1..=FORCED {
+            are_well = are_well && self.0.force_send(message) == Ok(Ok(message.checked_sub(1)));
+        }
+        are_well
+    }
+}
+
+/// How many messages a channel may hold: one of these two.
+#[derive(Drop)]
+struct Holds<'a, R: Wait + Clone + Drop>(&'a Receiver<u64, R>, usize, usize);
+
+impl<R: Wait + Clone + Drop> Sight for Holds<'_, R> {
+    fn look(&self) -> bool {
+        let held = self.0.len();
+        held == self.1 || held == self.2
+    }
+}
+
+#[test]
+fn a_forced_send_leaves_a_full_channel_full(rt: HostRuntime) -> Result<(), Fail> {
+    let (s, r) = channel(&rt, Some(1))?;
+    assert_eq!(rt; s.try_send(0), Ok(Ok(())));
+    assert!(rt; are_well(&rt, &mut Forces(&s), &Holds(&r, 1, 1)));
+    Ok(())
+}
+
+/// How many messages a batch has that goes in one round, and how often it is moved.
+const ONE_ROUND: (usize, u64) = (100, 500);
+
+/// The same of one that goes in many rounds. Mostly the other thread comes in at the first batch.
+const MANY_ROUNDS: (usize, u64) = (20_000, 2_000);
+
+/// What both threads know of the batches.
+#[derive(Drop)]
+struct Counts {
+    /// Odd while a batch is sent, and even while it is received.
+    turn: AtomicU64,
+    /// The largest number that divides how many messages had gone in at each look between rounds,
+    /// and how many had come out. It is 0 before the first such look.
+    in_sends: AtomicU64,
+    in_receives: AtomicU64,
+}
+
+/// Whether rounds that move multiples of this number can be of the right length.
+fn is_short(divisor: &AtomicU64) -> bool {
+    (1..=ROUND_LIMIT as u64).contains(&divisor.load(Ordering::SeqCst))
+}
+
+/// The largest number that divides both. Each divides 0.
+fn common_divisor(one: u64, other: u64) -> u64 {
+    let (mut larger, mut smaller) = (one, other);
+    for _ in 0..128u8 {
+        if smaller == 0 {
+            break;
+        }
+        (larger, smaller) = (smaller, larger % smaller);
+    }
+    larger
+}
+
+impl Counts {
+    fn new() -> Counts {
+        Counts {
+            turn: AtomicU64::new(0),
+            in_sends: AtomicU64::new(0),
+            in_receives: AtomicU64::new(0),
+        }
+    }
+
+    /// Whether the other thread came in between rounds that are as short as they should be, at
+    /// sends and at receives.
+    fn are_seen(&self) -> bool {
+        is_short(&self.in_sends) && is_short(&self.in_receives)
+    }
+}
+
+/// Looks at a batch between its rounds.
+#[derive(Drop)]
+struct Rounds<'a, R: Wait + Clone + Drop> {
+    r: Receiver<u64, R>,
+    size: usize,
+    /// How many messages go in by themselves.
+    by_itself: usize,
+    counts: &'a Counts,
+}
+
+impl<R: Wait + Clone + Drop> Sight for Rounds<'_, R> {
+    fn look(&self) -> bool {
+        let turn = self.counts.turn.load(Ordering::SeqCst);
+        let held = self.r.len();
+        let is_part = self.by_itself < held && held < self.size;
+        if is_part && self.counts.turn.load(Ordering::SeqCst) == turn {
+            let (divisor, moved) = if turn % 2 == 1 {
+                (&self.counts.in_sends, held.saturating_sub(self.by_itself))
+            } else {
+                (&self.counts.in_receives, self.size.saturating_sub(held))
+            };
+            let seen = divisor.load(Ordering::SeqCst);
+            divisor.store(common_divisor(seen, moved as u64), Ordering::SeqCst);
+        }
+        true
+    }
+}
+
+/// Moves batches until their rounds are seen.
+#[derive(Drop)]
+struct Moves<'a, R: Wait + Clone + Drop> {
+    alloc: Global,
+    task: MockTask,
+    way: Way,
+    size: usize,
+    count: u64,
+    s: Sender<u64, R>,
+    r: Receiver<u64, R>,
+    counts: &'a Counts,
+}
+
+impl<R: Wait + Clone + Drop> Deed for Moves<'_, R> {
+    /// Whether all messages went in and came out.
+    fn act(&mut self) -> bool {
+        for _ in 0..self.count {
+            self.counts.turn.fetch_add(1, Ordering::SeqCst);
+            let sent = sends(self.alloc, &self.task, self.way, &self.s, self.size);
+            self.counts.turn.fetch_add(1, Ordering::SeqCst);
+            let came = receives(self.alloc, &self.task, self.way, &self.r, self.size);
+            if sent != Ok(true) || !came {
+                return false;
+            }
+            if self.counts.are_seen() {
+                break;
+            }
+        }
+        true
+    }
+}
+
+/// Moves batches of this size while another thread looks. It answers whether all was well, and the
+/// rounds were seen if there are many.
+fn are_moved<R>(rt: &R, way: Way, (size, count): (usize, u64)) -> Result<bool, Fail>
+where
+    R: Wait + Threads + Clone + Drop + RandomSource + AllocGlobal + Send + Sync,
+{
+    let (counts, task) = (Counts::new(), MockTask::new(rt)?);
+    let (s, r) = channel(rt, None)?;
+    let other = r.try_clone()?;
+    let mut moves = Moves {
+        alloc: rt.alloc(),
+        task,
+        way,
+        size,
+        count,
+        s,
+        r,
+        counts: &counts,
+    };
+    if size <= ROUND_LIMIT {
+        return Ok(are_well(rt, &mut moves, &Holds(&other, 0, size)));
+    }
+    let rounds = Rounds {
+        r: other,
+        size,
+        by_itself: usize::from(matches!(way, Way::Blocking)),
+        counts: &counts,
+    };
+    Ok(are_well(rt, &mut moves, &rounds) && counts.are_seen())
+}
+
+#[test]
+fn a_batch_of_one_round_comes_and_goes_at_once(rt: HostRuntime) -> Result<(), Fail> {
+    for way in [Way::Plain, Way::Polled] {
+        let are_moved = are_moved(&rt, way, ONE_ROUND)?;
+        assert!(rt; are_moved, "{way:?}");
+    }
+    Ok(())
+}
+
+#[test]
+fn others_come_in_between_the_rounds_of_a_batch(rt: HostRuntime) -> Result<(), Fail> {
+    for way in [Way::Plain, Way::Blocking, Way::Polled] {
+        let are_moved = are_moved(&rt, way, MANY_ROUNDS)?;
+        assert!(rt; are_moved, "{way:?}");
+    }
+    Ok(())
+}
+
+/// Lets a stream wait, and beside it another one.
+#[derive(Drop)]
+struct Streams<'a, R: Wait + Clone + Drop> {
+    task: MockTask,
+    s: &'a Sender<u64, R>,
+    first: Receiver<u64, R>,
+}
+
+/// How often two streams wait.
+const STREAMS: u64 = 4_000;
+
+/// Whether a poll of the stream can't go on.
+fn waits<R: Wait + Clone + Drop>(task: &MockTask, stream: &mut Receiver<u64, R>) -> bool {
+    task.enter(|cx| matches!(&stream.poll_next(cx), Poll::Pending))
+}
+
+impl<R: Wait + Clone + Drop> Streams<'_, R> {
+    /// Lets a second stream wait beside the first one. A message tells both, in vain.
+    fn two_wait(&mut self) -> bool {
+        let Ok(mut second) = self.first.try_clone() else {
+            return false;
+        };
+        waits(&self.task, &mut second)
+            && self.s.try_send(1) == Ok(Ok(()))
+            && self.first.try_recv() == Ok(1)
+            && waits(&self.task, &mut self.first)
+            && waits(&self.task, &mut second)
+    }
+}
+
+impl<R: Wait + Clone + Drop> Deed for Streams<'_, R> {
+    fn act(&mut self) -> bool {
+        let mut are_well = waits(&self.task, &mut self.first);
+        for _ in 0..STREAMS {
+            are_well = are_well && self.two_wait();
+        }
+        are_well
+    }
+}
+
+/// A stream that waits alone is never told.
+#[derive(Drop)]
+struct Alone<R: Wait + Clone + Drop>(WeakSender<u64, R>);
+
+impl<R: Wait + Clone + Drop> Sight for Alone<R> {
+    fn look(&self) -> bool {
+        numbers(&self.0, Group::Streams) != (1, 1)
+    }
+}
+
+#[test]
+fn a_look_at_who_waits_is_one_step(rt: HostRuntime) -> Result<(), Fail> {
+    let (s, r) = channel(&rt, None)?;
+    let alone = Alone(s.downgrade()?);
+    let mut streams = Streams {
+        task: MockTask::new(&rt)?,
+        s: &s,
+        first: r,
+    };
+    assert!(rt; are_well(&rt, &mut streams, &alone));
+    Ok(())
+}

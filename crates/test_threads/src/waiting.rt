@@ -1,0 +1,59 @@
+//! New channels, and what waits at one, as a weak sender sees it.
+use async_channel::inspect::who_waits;
+use async_channel::{
+    Group, MakeError, Receiver, Sender, StampMaker, WeakSender, bounded, unbounded,
+};
+use std::alloc::AllocGlobal;
+use std::sync::Wait;
+use std::sync::atomic::{AtomicBool, Ordering};
+use std::thread;
+
+/// How often a test looks before it gives up.
+pub const TURNS: u32 = 10_000_000;
+
+/// A bounded channel if there is a capacity, and else an unbounded one.
+pub fn channel<T: Drop, R: Wait + Clone + Drop + AllocGlobal>(
+    rt: &R,
+    capacity: Option<usize>,
+) -> Result<(Sender<T, R>, Receiver<T, R>), MakeError> {
+    let mut maker = StampMaker::new();
+    match capacity {
+        Some(capacity) if capacity > 0 => bounded(rt, rt.alloc(), capacity, &mut maker),
+        _ => unbounded(rt, rt.alloc(), &mut maker),
+    }
+}
+
+/// How many wait in the group, and how many of them are told.
+pub fn numbers<T: Drop, R: Wait + Clone + Drop>(
+    weak: &WeakSender<T, R>,
+    group: Group,
+) -> (usize, usize) {
+    let seen = who_waits(weak, group);
+    (seen.waiting, seen.told)
+}
+
+/// Takes turns until so many wait in the group, and so many of them are told.
+pub fn are_waiting<T: Drop, R: Wait + Clone + Drop>(
+    weak: &WeakSender<T, R>,
+    group: Group,
+    wanted: (usize, usize),
+) -> bool {
+    for _ in 0..TURNS {
+        if numbers(weak, group) == wanted {
+            return true;
+        }
+        thread::yield_now();
+    }
+    false
+}
+
+/// Takes turns until the flag is set.
+pub fn is_set(flag: &AtomicBool) -> bool {
+    for _ in 0..TURNS {
+        if flag.load(Ordering::SeqCst) {
+            return true;
+        }
+        thread::yield_now();
+    }
+    false
+}

@@ -1,0 +1,102 @@
+//! Wakers: which of a task's is woken, and that none is woken or dropped under the lock.
+
+use std::future::{poll_fn, Future};
+use std::pin::Pin;
+use std::sync::Arc;
+use std::task::{Context, Poll, Waker};
+
+use futures_core::Stream;
+use loom::model;
+use vamorilesh::{block_on, bounded, unbounded, Sender};
+
+use super::{caller, is_ready, Caller};
+
+#[test]
+fn a_poll_again_beside_a_send() {
+    model(|| {
+        let (s, r) = unbounded();
+        let receive = move || {
+            let mut receive = r.recv();
+            let twice = poll_fn(move |context| match Pin::new(&mut receive).poll(context) {
+                Poll::Pending => Pin::new(&mut receive).poll(context),
+                ready => ready,
+            });
+            assert_eq!(block_on(twice), Ok(7));
+        };
+        beside!(receive, move || s.try_send(7).unwrap());
+    });
+}
+
+#[test]
+fn a_poll_by_another_task_beside_a_send() {
+    model(|| {
+        let (s, r) = unbounded();
+        let idle = caller(&s);
+        let receive = move || {
+            let mut receive = r.recv();
+            let first = Pin::new(&mut receive).poll(&mut Context::from_waker(&idle));
+            let taken = match first {
+                Poll::Ready(taken) => taken,
+                Poll::Pending => block_on(receive),
+            };
+            assert_eq!(taken, Ok(7));
+        };
+        beside!(receive, move || s.try_send(7).unwrap());
+    });
+}
+
+/// The receiver may be gone by now.
+fn send_if_open(s: &Sender<u64>) {
+    let _ = s.try_send(1);
+}
+
+#[test]
+fn two_polls_and_a_drop_beside_a_send() {
+    model(|| {
+        let (s, r) = unbounded();
+        let other = s.clone();
+        let wait = move || {
+            let mut receive = Box::pin(r.recv());
+            let _ =
+                is_ready(&mut receive, caller(&other)) || is_ready(&mut receive, caller(&other));
+        };
+        beside!(wait, move || send_if_open(&s));
+    });
+}
+
+/// Polls a future that waits as one task and as another, and gives it up.
+fn wait_and_give_up<F: Future>(sender: &Sender<u64>, future: F) {
+    let mut future = Box::pin(future);
+    assert!(!is_ready(&mut future, caller(sender)));
+    assert!(!is_ready(&mut future, caller(sender)));
+}
+
+#[test]
+fn each_operation_gives_its_wakers_back_without_the_lock() {
+    model(|| {
+        let (s, r) = bounded(1);
+        wait_and_give_up(&s, r.recv());
+        wait_and_give_up(&s, r.recv_many(&mut Vec::new(), 2));
+        let mut stream = r.clone();
+        wait_and_give_up(&s, poll_fn(|context| Pin::new(&mut stream).poll_next(context)));
+        drop(stream);
+        wait_and_give_up(&s, s.closed());
+        s.try_send(1).unwrap();
+        wait_and_give_up(&s, s.send(2));
+        wait_and_give_up(&s, s.send_many([2, 3]));
+    });
+}
+
+#[test]
+fn no_copy_of_a_waker_is_left_after_its_wait() {
+    model(|| {
+        let (s, r) = unbounded();
+        let task = Arc::new(Caller(s.downgrade()));
+        let waker = Waker::from(task.clone());
+        let wait = move || {
+            let _ = Pin::new(&mut r.recv()).poll(&mut Context::from_waker(&waker));
+        };
+        beside!(wait, move || send_if_open(&s));
+        assert_eq!(Arc::strong_count(&task), 1);
+    });
+}

@@ -1,0 +1,62 @@
+"""What the pages quote of the sources, and how many lines of the Rust crate stand for what."""
+import re
+
+from .sources import ROOT
+
+BLOCK = re.compile(r'^```(?:rust|antt)\n(.*?)^```$', re.DOTALL | re.MULTILINE)
+RUST = ROOT / 'rust' / 'src'
+# What the package of the Rust crate leaves out of the proved source.
+UNPACKED = [RUST / 'proved' / 'channel_run', RUST / 'proved' / 'channel_model' / 'step.rs']
+PARTS = {
+    'proved': '`src/proved`: waiting lists, queue, state | {} '
+    '| the proved source, erased; the gate compares the bytes',
+    'hand': 'the rest of `src`: handles and their counts, futures, batches, the lock, wakers, '
+    'blocking calls | {} | by hand, and tested',
+    'shim': '`src/shim.rs`: slab, box, queue and list over std and slab | {} '
+    '| by hand, and tested; the proofs assume it',
+}
+
+
+def for_callers():
+    """Each crate's page for its callers."""
+    return sorted(ROOT.glob('crates/*/CALLING.md'))
+
+
+def quotes():
+    """Each block of code on a page: its page, its line, its text."""
+    tops = [ROOT / 'README.md', ROOT / 'rust' / 'README.md']
+    for path in [*tops, *sorted((ROOT / 'docs').glob('*.md')), *for_callers()]:
+        text = path.read_text('utf-8')
+        for found in BLOCK.finditer(text):
+            yield path, text.count('\n', 0, found.start()) + 1, found[1]
+
+
+def faults():
+    """The blocks that stand in no source, line by line."""
+    rooms = ('crates/*/src', 'crates/*/specs', 'rust/examples')
+    files = [it for room in rooms for it in ROOT.glob(f'{room}/**/*') if it.is_file()]
+    sources = ['\n' + path.read_text('utf-8') for path in files]
+    for path, line, text in quotes():
+        if not any('\n' + text in source for source in sources):
+            yield f'{path.relative_to(ROOT)}:{line}: no source has this: copy it from one'
+
+
+def part_of(path):
+    """Which part of the Rust crate a file belongs to, or None."""
+    if any(path.is_relative_to(it) for it in UNPACKED):
+        return None
+    inside = path.relative_to(RUST).with_suffix('').parts
+    if inside[0] == 'proved' or inside == ('shim',):
+        return inside[0]
+    return None if 'tests' in inside else 'hand'
+
+
+def lines():
+    """The lines of the Rust crate that are neither empty nor a comment, by part."""
+    counts = dict.fromkeys(PARTS, 0)
+    for path in RUST.rglob('*.rs'):
+        code = [it for it in map(str.strip, path.read_text('utf-8').split('\n')) if it]
+        if part := part_of(path):
+            counts[part] += sum(not it.startswith('//') for it in code)
+    rows = [f'| {text.format(format(counts[part], ","))} |' for part, text in PARTS.items()]
+    return ['| Part | Lines of code | |', '|---|---|---|', *rows]
