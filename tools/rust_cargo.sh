@@ -32,10 +32,12 @@ install_missing() {
     apt-get install -y -qq --no-install-recommends $missing > /dev/null
 }
 
-# The crates of the machine's release, and of Debian 13's loom if that hasn't it.
+# The crates of the machine's release, and of Debian 13's loom if that hasn't it. They are copied,
+# since `rt ci` allows no link below the top of the repository.
 gather() {
-    mkdir -p "$target/debian/registry"
-    ln -sfn "$debian"/* "$target/debian/registry"
+    rm -rf "$target/debian/registry"
+    mkdir -p "$target/debian"
+    cp -rL "$debian" "$target/debian/registry"
     for loom in "$debian"/loom-0.5.*; do
         [ -d "$loom" ] && return
     done
@@ -45,7 +47,7 @@ gather() {
         use_release trixie "$target/debian/trixie"
         unpack librust-loom-dev
     }
-    ln -sfn "$loom"/loom-* "$target/debian/registry"
+    cp -rL "$loom"/loom-* "$target/debian/registry"
 }
 
 # Debian's crates stand for the registry.
