@@ -1,5 +1,2 @@
-mod Refusals
-mod Logging
-mod Ready
 mod Rounds
 mod Left

@@ -12,9 +12,9 @@ ghost use Rattle.async_channel.specs.Operations.{IsLeftOf, MayGiveMany, sent_cou
 use crate::handles::{Receiver, Sender};
 use crate::many::ROUND_LIMIT;
 use channel_core::{OutOfMemory, SendError, Ticket};
-use channel_wakers::Marker;
 use futures::Future;
 use futures::task::{Context, Poll};
+use ruled_channel::Marker;
 use std::alloc::Global;
 use std::collections::VecDeque;
 use std::marker::Model;
@@ -190,8 +190,9 @@ impl<T: Drop, R: Wait + Clone + Drop> Sender<T, R> {
         while !from.is_empty() {
             let polled = self
                 .link
-                .lock()
-                .poll_send_many(from, ROUND_LIMIT, ticket, marker, cx)?;
+                .shared
+                .channel
+                .send_many_or_wait(&self.link.rt, from, ROUND_LIMIT, ticket, marker, cx)?;
             match polled {
                 Poll::Ready(Ok(_sent)) => {}
                 Poll::Ready(Err(error)) => return Ok(Poll::Ready(Err(error))),
@@ -244,7 +245,7 @@ impl<T: Drop, R: Wait + Clone + Drop> Receiver<T, R> {
     }
 
     // Polls for a round, and takes what there is in further ones if it was a full one.
-    #[tactic(auto, using(crate::proofs::Rounds::front_stays))]
+    #[tactic(auto, using(crate::proofs::Rounds::front_stays_on))]
     fn poll_recv_rounds(
         &self,
         into: &mut Vec<T>,
@@ -269,8 +270,9 @@ impl<T: Drop, R: Wait + Clone + Drop> Receiver<T, R> {
         let most = limit.min(ROUND_LIMIT);
         let polled = self
             .link
-            .lock()
-            .poll_recv_many(into, most, ticket, marker, cx)?;
+            .shared
+            .channel
+            .recv_many_or_wait(&self.link.rt, into, most, ticket, marker, cx)?;
         let Poll::Ready(first) = polled else {
             return Ok(Poll::Pending);
         };
@@ -338,10 +340,11 @@ impl<T: Drop, R: Wait + Clone + Drop> SendMany<'_, T, R> {
     {
         let sender = self.sender;
         if self.ticket.is_some() {
-            sender.link.lock().cancel_send(&mut self.ticket);
+            let (channel, mut pass) = sender.link.channel();
+            channel.give_up_send(&sender.link.rt, &mut pass, &mut self.ticket);
         }
         self.count -= self.unsent.len();
-        let none = VecDeque::new(sender.link.shared.alloc);
+        let none = VecDeque::new(sender.link.shared.channel.alloc());
         mem::replace(&mut self.unsent, none)
     }
 }
@@ -425,7 +428,8 @@ impl<T: Drop, R: Wait + Clone + Drop> Drop for SendMany<'_, T, R> {
             finished: _,
         } = self;
         if ticket.is_some() {
-            sender.link.lock().cancel_send(&mut ticket);
+            let (channel, mut pass) = sender.link.channel();
+            channel.give_up_send(&sender.link.rt, &mut pass, &mut ticket);
         }
     }
 }
@@ -506,7 +510,8 @@ impl<T: Drop, R: Wait + Clone + Drop> Drop for RecvMany<'_, T, R> {
             finished: _,
         } = self;
         if ticket.is_some() {
-            receiver.link.lock().cancel_recv(&mut ticket);
+            let (channel, mut pass) = receiver.link.channel();
+            channel.give_up_recv(&receiver.link.rt, &mut pass, &mut ticket);
         }
     }
 }

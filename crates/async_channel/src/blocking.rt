@@ -1,16 +1,13 @@
 //! Calls that block their thread.
 //!
-//! A blocking call looks a few times, by the plain call, and pauses in between. Then it waits:
-//! its entry in the waiting list names a cell of its own, where its thread sleeps until just this
-//! entry is told.
+//! A blocking call looks a few times, and pauses in between. Then it waits: its entry in the waiting
+//! list names a cell of its own, where its thread sleeps until just this entry is told.
 ghost use Rattle.std.specs.Prelude.{◌≡◌, ◌+◌, ◌<◌, ◌≤◌, ℕ, [], IfOk, IfErr, OnOk, Ok, drop, length, take};
 ghost use Rattle.channel_core.specs.Batches.{moved_count};
 
 use crate::handles::{Receiver, Sender};
-use crate::shared::{LOOKS, pause_between_looks};
 use channel_core::{NoMemory, OutOfMemory, RecvError, SendError, TryRecvError, TrySendError};
-use channel_wakers::Sleeper;
-use futures::task::Poll;
+use ruled_channel::Unruled;
 use std::alloc::Global;
 use std::collections::VecDeque;
 use std::sync::Wait;
@@ -36,47 +33,12 @@ impl<T: Drop, R: Wait + Clone + Drop> Sender<T, R> {
     /// drop(r);
     /// assert_eq!(rt; s.send_blocking(2)?, Err(SendError(2)));
     /// ```
-    #[tactic(auto, using(crate::proofs::Refusals::poll_send_hands_back))]
     pub fn send_blocking(&self, msg: T) -> Result<Result<(), SendError<T>>, NoMemory<T>>
         ensures handed_back { IfOk result (λ answer. IfErr answer (λ error. error.0 ≡ msg)) }
         ensures unsent { IfErr result (λ error. error.0 ≡ msg) }
     {
-        let mut message = msg;
-        for _ in 0..LOOKS {
-            match self.try_send(message)? {
-                Ok(()) => return Ok(Ok(())),
-                Err(TrySendError::Closed(message)) => return Ok(Err(SendError(message))),
-                Err(TrySendError::Full(back)) => message = back,
-            }
-            pause_between_looks();
-        }
-        self.wait_to_send(message)
-    }
-
-    // Waits until there is a place, or the channel is closed.
-    #[tactic(auto, using(crate::proofs::Refusals::poll_send_hands_back))]
-    fn wait_to_send(&self, msg: T) -> Result<Result<(), SendError<T>>, NoMemory<T>>
-        ensures handed_back { IfOk result (λ answer. IfErr answer (λ error. error.0 ≡ msg)) }
-        ensures unsent { IfErr result (λ error. error.0 ≡ msg) }
-    {
-        let link = &self.link;
-        let mut message = Some(msg);
-        let mut ticket = None;
-        let mut sleeper = Sleeper::new();
-        for _ in link.rt.forever() {
-            let polled = link
-                .lock()
-                .poll_send(&mut message, &mut ticket, &mut sleeper, &mut ());
-            match polled {
-                Ok(Poll::Ready(answer)) => return Ok(answer),
-                Ok(Poll::Pending) => sleeper.sleep(&link.rt),
-                Err(OutOfMemory) => {
-                    link.lock().cancel_send(&mut ticket);
-                    return Err(NoMemory(message.unwrap()));
-                }
-            }
-        }
-        unreachable!()
+        let (channel, mut pass) = self.link.channel();
+        channel.send_blocking_as::<Unruled, Unruled, R>(&self.link.rt, &mut pass, msg)
     }
 
     /// Sends all messages in `from`, from the front, and blocks its thread until they are in the
@@ -173,14 +135,8 @@ impl<T: Drop, R: Wait + Clone + Drop> Receiver<T, R> {
     /// assert_eq!(rt; r.recv_blocking()?, Err(RecvError));
     /// ```
     pub fn recv_blocking(&self) -> Result<Result<T, RecvError>, OutOfMemory> {
-        for _ in 0..LOOKS {
-            match self.try_recv() {
-                Ok(message) => return Ok(Ok(message)),
-                Err(TryRecvError::Closed) => return Ok(Err(RecvError)),
-                Err(TryRecvError::Empty) => pause_between_looks(),
-            }
-        }
-        self.wait_to_recv()
+        let (channel, mut pass) = self.link.channel();
+        channel.recv_blocking_as::<Unruled, Unruled, R>(&self.link.rt, &mut pass)
     }
 
     /// Receives up to `limit` messages, puts them after those in `into`, and blocks its thread until
@@ -254,24 +210,5 @@ impl<T: Drop, R: Wait + Clone + Drop> Receiver<T, R> {
             Ok(Ok(more)) => Ok(Ok(more + 1)),
             _ => Ok(Ok(1)),
         }
-    }
-
-    // Waits until there is a message, or the channel is closed.
-    fn wait_to_recv(&self) -> Result<Result<T, RecvError>, OutOfMemory> {
-        let link = &self.link;
-        let mut ticket = None;
-        let mut sleeper = Sleeper::new();
-        for _ in link.rt.forever() {
-            let polled = link.lock().poll_recv(&mut ticket, &mut sleeper, &mut ());
-            match polled {
-                Ok(Poll::Ready(answer)) => return Ok(answer),
-                Ok(Poll::Pending) => sleeper.sleep(&link.rt),
-                Err(OutOfMemory) => {
-                    link.lock().cancel_recv(&mut ticket);
-                    return Err(OutOfMemory);
-                }
-            }
-        }
-        unreachable!()
     }
 }

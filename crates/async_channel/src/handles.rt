@@ -5,15 +5,14 @@ ghost use Rattle.channel_model.specs.Errors.{message_of};
 ghost use Rattle.identity.specs.Stamps.{next_stamp};
 ghost use Rattle.async_channel.specs.Operations.{AreEndsOf, handle_of};
 
-use crate::shared::{Link, Shared};
+use crate::link::{Link, Shared};
 use crate::tag::Tag;
 use crate::weak::{WeakReceiver, WeakSender};
 use channel_core::{
-    CloneError, Core, MakeError, NoMemory, OutOfMemory, SendError, Ticket, TryRecvError,
-    TrySendError,
+    CloneError, MakeError, NoMemory, OutOfMemory, SendError, Ticket, TryRecvError, TrySendError,
 };
-use channel_wakers::{Mark, Marker};
 use identity::StampMaker;
+use ruled_channel::{Marker, RuledChannel, Unruled, bounded_with, unbounded_with};
 use std::alloc::Global;
 use std::fmt;
 use std::marker::Model;
@@ -53,7 +52,7 @@ impl<T: Drop, R: Wait + Clone + Drop> Model for Sender<T, R> {
 
     ghost view = { λ handle. record {
       tag = handle.tag;
-      source = (arc_value handle.link.shared).source.id;
+      source = (arc_value handle.link.shared).channel.source.id;
     } };
 }
 
@@ -97,7 +96,7 @@ impl<T: Drop, R: Wait + Clone + Drop> Model for Receiver<T, R> {
 
     ghost view = { λ handle. record {
       tag = handle.tag;
-      source = (arc_value handle.link.shared).source.id;
+      source = (arc_value handle.link.shared).channel.source.id;
       ticket = handle.ticket;
     } };
 }
@@ -133,8 +132,8 @@ pub fn bounded<T: Drop, R: Wait + Clone + Drop>(
     if maker.is_spent() {
         return Err(MakeError::NoStamps);
     }
-    match Core::bounded(alloc, cap) {
-        Ok(core) => ends(rt, alloc, core, maker),
+    match bounded_with(alloc, cap) {
+        Ok((channel, _pass)) => ends(rt, channel, maker),
         Err(OutOfMemory) => Err(MakeError::OutOfMemory),
     }
 }
@@ -169,25 +168,27 @@ pub fn unbounded<T: Drop, R: Wait + Clone + Drop>(
     if maker.is_spent() {
         return Err(MakeError::NoStamps);
     }
-    ends(rt, alloc, Core::unbounded(alloc), maker)
+    match unbounded_with(alloc) {
+        Ok((channel, _pass)) => ends(rt, channel, maker),
+        Err(OutOfMemory) => Err(MakeError::OutOfMemory),
+    }
 }
 
-// Both sides of a channel, whose tag has what the core says of its capacity. The stamp is given
-// after everything that may be refused.
+// Both sides of a channel, whose tag has its capacity. The stamp is given after everything that may
+// be refused.
 fn ends<T: Drop, R: Wait + Clone + Drop>(
     rt: &R,
-    alloc: Global,
-    core: Core<T, Mark>,
+    channel: RuledChannel<T, (), Unruled>,
     maker: &mut StampMaker,
 ) -> Result<(Sender<T, R>, Receiver<T, R>), MakeError>
     requires { IsSome maker.old }
     ensures spent { result ≢ Err MakeError.NoStamps }
     ensures unchanged { OnErr result (maker.new ≡ maker.old) }
-    ensures tags { IfOk result (λ ends. AreEndsOf ends.0 ends.1 maker.old core.capacity) }
+    ensures tags { IfOk result (λ ends. AreEndsOf ends.0 ends.1 maker.old channel.capacity) }
     ensures rises { IfOk result (λ _. maker.new ≡ next_stamp maker.old) }
 {
-    let capacity = core.capacity();
-    let Ok((sending, receiving)) = links(rt, alloc, core) else {
+    let capacity = channel.capacity();
+    let Ok((sending, receiving)) = links(rt, channel) else {
         return Err(MakeError::OutOfMemory);
     };
     let stamp = maker.draw().unwrap();
@@ -198,13 +199,13 @@ fn ends<T: Drop, R: Wait + Clone + Drop>(
 // Two links to one new channel.
 fn links<T: Drop, R: Wait + Clone + Drop>(
     rt: &R,
-    alloc: Global,
-    core: Core<T, Mark>,
+    channel: RuledChannel<T, (), Unruled>,
 ) -> Result<(Link<T, R>, Link<T, R>), OutOfMemory>
     ensures { IfOk result (λ links. arc_value links.0.shared ≡ arc_value links.1.shared) }
 {
+    let alloc = channel.alloc();
     let link = Link {
-        shared: Arc::new(alloc, Shared::new(alloc, core)?).map_err(|_| OutOfMemory)?,
+        shared: Arc::new(alloc, Shared { channel }).map_err(|_| OutOfMemory)?,
         rt: rt.clone().map_err(|_| OutOfMemory)?,
     };
     let other = link.try_clone()?;
@@ -229,13 +230,13 @@ impl<T: Drop, R: Wait + Clone + Drop> Sender<T, R> {
     /// assert_eq!(rt; s.try_send(3)?, Err(TrySendError::Closed(3)));
     /// ```
     #[inline(always)]
-    #[tactic(auto, using(crate::proofs::Refusals::try_send_hands_back))]
     pub fn try_send(&self, msg: T) -> Result<Result<(), TrySendError<T>>, NoMemory<T>>
         ensures handed_back { IfOk result (λ answer. IfErr answer (λ error.
             message_of error ≡ msg)) }
         ensures unsent { IfErr result (λ error. error.0 ≡ msg) }
     {
-        self.link.lock().try_send(msg)
+        let (channel, mut pass) = self.link.channel();
+        channel.try_send_as::<Unruled, Unruled, R>(&self.link.rt, &mut pass, msg)
     }
 
     /// Sends a message into the channel, whatever it holds.
@@ -255,12 +256,12 @@ impl<T: Drop, R: Wait + Clone + Drop> Sender<T, R> {
     /// assert_eq!(rt; s.force_send(4)?, Ok(Some(1)));
     /// assert_eq!(rt; r.try_recv(), Ok(2));
     /// ```
-    #[tactic(auto, using(crate::proofs::Refusals::force_send_hands_back))]
     pub fn force_send(&self, msg: T) -> Result<Result<Option<T>, SendError<T>>, NoMemory<T>>
         ensures handed_back { IfOk result (λ answer. IfErr answer (λ error. error.0 ≡ msg)) }
         ensures unsent { IfErr result (λ error. error.0 ≡ msg) }
     {
-        self.link.lock().force_send(msg)
+        let (channel, mut pass) = self.link.channel();
+        channel.force_send_as::<Unruled, Unruled, R>(&self.link.rt, &mut pass, msg)
     }
 
     /// Closes the channel, and answers whether this call closed it.
@@ -278,17 +279,17 @@ impl<T: Drop, R: Wait + Clone + Drop> Sender<T, R> {
     /// assert_eq!(rt; r.try_recv(), Ok(1));
     /// ```
     pub fn close(&self) -> bool {
-        self.link.lock().close()
+        self.link.close()
     }
 
     /// Whether the channel is closed.
     pub fn is_closed(&self) -> bool {
-        self.link.lock().is_closed()
+        self.link.status().is_closed
     }
 
     /// Whether the channel holds no message.
     pub fn is_empty(&self) -> bool {
-        self.link.lock().is_empty()
+        self.link.status().len == 0
     }
 
     /// Whether the channel holds as many messages as it may. An unbounded channel never does.
@@ -303,22 +304,22 @@ impl<T: Drop, R: Wait + Clone + Drop> Sender<T, R> {
     /// assert_eq!(rt; r.try_recv(), Ok(1));
     /// ```
     pub fn is_full(&self) -> bool {
-        self.link.lock().is_full()
+        self.link.status().is_full
     }
 
     /// The number of messages in the channel.
     pub fn len(&self) -> usize {
-        self.link.lock().len()
+        self.link.status().len
     }
 
     /// The number of receivers of the channel.
     pub fn receiver_count(&self) -> usize {
-        self.link.lock().receiver_count()
+        self.link.status().receiver_count
     }
 
     /// The number of senders of the channel.
     pub fn sender_count(&self) -> usize {
-        self.link.lock().sender_count()
+        self.link.status().sender_count
     }
 
     /// The channel's capacity, if it is bounded, as the tag has it.
@@ -371,7 +372,8 @@ impl<T: Drop, R: Wait + Clone + Drop> Sender<T, R> {
         let Ok(link) = self.link.try_clone() else {
             return Err(CloneError::OutOfMemory);
         };
-        if !link.lock().add_sender() {
+        let (channel, mut pass) = self.link.channel();
+        if !channel.add_sender(&self.link.rt, &mut pass) {
             return Err(CloneError::TooMany);
         }
         Ok(Sender {
@@ -409,7 +411,8 @@ impl<T: Drop, R: Wait + Clone + Drop> Sender<T, R> {
 impl<T: Drop, R: Wait + Clone + Drop> Drop for Sender<T, R> {
     fn drop(self) {
         let Self { tag: _, link } = self;
-        link.lock().drop_sender();
+        let (channel, mut pass) = link.channel();
+        channel.drop_sender_as::<Unruled, R>(&link.rt, &mut pass);
     }
 }
 
@@ -426,7 +429,7 @@ impl<T: Drop, R: Wait + Clone + Drop> Receiver<T, R> {
     pub(crate) fn new(tag: Tag, link: Link<T, R>) -> Receiver<T, R>
         ensures { result ≡ record {
           tag = tag;
-          source = (arc_value link.shared).source.id;
+          source = (arc_value link.shared).channel.source.id;
           ticket = None;
         } }
     {
@@ -456,7 +459,8 @@ impl<T: Drop, R: Wait + Clone + Drop> Receiver<T, R> {
     /// ```
     #[inline(always)]
     pub fn try_recv(&self) -> Result<T, TryRecvError> {
-        self.link.lock().try_recv()
+        let (channel, mut pass) = self.link.channel();
+        channel.try_recv_as::<Unruled, Unruled, Unruled, R>(&self.link.rt, &mut pass)
     }
 
     /// Closes the channel, and answers whether this call closed it.
@@ -474,17 +478,17 @@ impl<T: Drop, R: Wait + Clone + Drop> Receiver<T, R> {
     /// assert_eq!(rt; r.try_recv(), Ok(1));
     /// ```
     pub fn close(&self) -> bool {
-        self.link.lock().close()
+        self.link.close()
     }
 
     /// Whether the channel is closed.
     pub fn is_closed(&self) -> bool {
-        self.link.lock().is_closed()
+        self.link.status().is_closed
     }
 
     /// Whether the channel holds no message.
     pub fn is_empty(&self) -> bool {
-        self.link.lock().is_empty()
+        self.link.status().len == 0
     }
 
     /// Whether the channel holds as many messages as it may. An unbounded channel never does.
@@ -499,7 +503,7 @@ impl<T: Drop, R: Wait + Clone + Drop> Receiver<T, R> {
     /// assert_eq!(rt; r.len(), 1);
     /// ```
     pub fn is_full(&self) -> bool {
-        self.link.lock().is_full()
+        self.link.status().is_full
     }
 
     /// Whether the channel is closed and holds no message, so that the stream has ended.
@@ -515,22 +519,23 @@ impl<T: Drop, R: Wait + Clone + Drop> Receiver<T, R> {
     /// assert!(rt; r.is_terminated());
     /// ```
     pub fn is_terminated(&self) -> bool {
-        self.link.lock().is_terminated()
+        let status = self.link.status();
+        status.is_closed && status.len == 0
     }
 
     /// The number of messages in the channel.
     pub fn len(&self) -> usize {
-        self.link.lock().len()
+        self.link.status().len
     }
 
     /// The number of receivers of the channel.
     pub fn receiver_count(&self) -> usize {
-        self.link.lock().receiver_count()
+        self.link.status().receiver_count
     }
 
     /// The number of senders of the channel.
     pub fn sender_count(&self) -> usize {
-        self.link.lock().sender_count()
+        self.link.status().sender_count
     }
 
     /// The channel's capacity, if it is bounded, as the tag has it.
@@ -579,7 +584,8 @@ impl<T: Drop, R: Wait + Clone + Drop> Receiver<T, R> {
         let Ok(link) = self.link.try_clone() else {
             return Err(CloneError::OutOfMemory);
         };
-        if !link.lock().add_receiver() {
+        let (channel, mut pass) = self.link.channel();
+        if !channel.add_receiver(&self.link.rt, &mut pass) {
             return Err(CloneError::TooMany);
         }
         Ok(Receiver::new(self.tag, link))
@@ -618,7 +624,8 @@ impl<T: Drop, R: Wait + Clone + Drop> Drop for Receiver<T, R> {
             mut ticket,
             marker: _,
         } = self;
-        link.lock().drop_receiver(&mut ticket);
+        let (channel, mut pass) = link.channel();
+        channel.drop_receiver_with_as::<Unruled, R>(&link.rt, &mut pass, &mut ticket);
     }
 }
 

@@ -3,16 +3,8 @@ ghost use Rattle.std.specs.Prelude.{◌≤◌};
 
 use crate::weak::WeakSender;
 use channel_core::Group;
+pub use ruled_channel::Waiters;
 use std::sync::Wait;
-
-/// How many operations or blocked calls wait for the same, and how many of them are told.
-#[derive(Clone, Copy, Debug, PartialEq, Eq)]
-pub struct Waiters {
-    /// All that wait, told ones among them.
-    pub waiting: usize,
-    /// Those that are told and haven't been polled since.
-    pub told: usize,
-}
 
 /// Who waits in the group, as one step of the channel. A blocked call counts as its operation does.
 ///
@@ -38,5 +30,6 @@ pub fn who_waits<T: Drop, R: Wait + Clone + Drop>(
 ) -> Waiters
     ensures { result.told ≤ result.waiting }
 {
-    handle.link.lock().who_waits(group)
+    let (channel, mut pass) = handle.link.channel();
+    channel.who_waits(&handle.link.rt, &mut pass, group)
 }

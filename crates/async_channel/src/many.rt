@@ -85,7 +85,10 @@ impl<T: Drop, R: Wait + Clone + Drop> Sender<T, R> {
         ensures within { moved_count result ≤ length from.old.items }
         ensures rest { from.new.items ≡ drop (moved_count result) from.old.items }
     {
-        self.link.lock().try_send_many(from, ROUND_LIMIT)
+        self.link
+            .shared
+            .channel
+            .try_send_many(&self.link.rt, from, ROUND_LIMIT)
     }
 }
 
@@ -139,7 +142,6 @@ impl<T: Drop, R: Wait + Clone + Drop> Receiver<T, R> {
     }
 
     // Takes messages while it has the lock.
-    #[tactic(auto, using(crate::proofs::Rounds::front_stays))]
     fn recv_round(
         &self,
         into: &mut Vec<T>,
@@ -149,6 +151,9 @@ impl<T: Drop, R: Wait + Clone + Drop> Receiver<T, R> {
         ensures kept { take (length into.old.items) into.new.items ≡ into.old.items }
         ensures count { length into.new.items ≡ length into.old.items + moved_count result }
     {
-        self.link.lock().try_recv_many(into, limit.min(ROUND_LIMIT))
+        self.link
+            .shared
+            .channel
+            .try_recv_many(&self.link.rt, into, limit.min(ROUND_LIMIT))
     }
 }

@@ -10,10 +10,10 @@ ghost use Rattle.channel_model.specs.declared.errors.OutOfMemory.{OutOfMemory};
 
 use crate::handles::{Receiver, Sender};
 use crate::owned::OwnedOrRef;
-use channel_core::{OutOfMemory, RecvError, SendError, Ticket};
-use channel_wakers::Marker;
+use channel_core::{NoMemory, OutOfMemory, RecvError, SendError, Ticket, TrySendError};
 use futures::Future;
 use futures::task::{Context, Poll};
+use ruled_channel::{Marker, Unruled, Waiter};
 use std::marker::Model;
 use std::sync::Wait;
 
@@ -222,6 +222,20 @@ impl<'a, T: Drop, R: Wait + Clone + Drop> Send<'a, T, R> {
         self.message.is_none()
     }
 
+    // Registers the task of a finished one, which stays pending.
+    fn rest(&mut self, cx: &mut Context<'_>) -> Result<(), OutOfMemory>
+        ensures kept { self.new ≡ self.old }
+        ensures registered { OnOk result (Covers cx.new (λ source. source ≡ self.old.source)) }
+        ensures keeps { Keeps cx.old cx.new }
+    {
+        let link = &self.sender.get().link;
+        let (channel, _pass) = link.channel();
+        let _mark = self
+            .marker
+            .mark(&link.rt, channel.alloc(), channel.source(), cx)?;
+        Ok(())
+    }
+
     /// Withdraws the operation, and gives the message of an unfinished one.
     ///
     /// # Examples
@@ -262,12 +276,26 @@ impl<T: Drop, R: Wait + Clone + Drop> Future for Send<'_, T, R> {
         ensures holds { OnPending result (IsSome self.old.message → IsSome self.new.ticket) }
         ensures rests { OnPending result (self.old.message ≡ None → self.new ≡ self.old) }
     {
-        let sender = self.sender.get();
-        let mut locked = sender.link.lock();
-        match locked.poll_send(&mut self.message, &mut self.ticket, &mut self.marker, cx) {
-            Ok(Poll::Ready(answer)) => Poll::Ready(Ok(answer)),
-            Ok(Poll::Pending) => Poll::Pending,
-            Err(OutOfMemory) => Poll::Ready(Err(OutOfMemory)),
+        let Some(message) = self.message.take() else {
+            return match self.rest(cx) {
+                Ok(()) => Poll::Pending,
+                Err(OutOfMemory) => Poll::Ready(Err(OutOfMemory)),
+            };
+        };
+        let link = &self.sender.get().link;
+        let (channel, mut pass) = link.channel();
+        let (p, t, m) = (&mut pass, &mut self.ticket, &mut self.marker);
+        match channel.send_or_wait_as::<Unruled, Unruled, _, _, _>(&link.rt, p, message, t, m, cx) {
+            Ok(Ok(())) => Poll::Ready(Ok(Ok(()))),
+            Ok(Err(TrySendError::Closed(back))) => Poll::Ready(Ok(Err(SendError(back)))),
+            Ok(Err(TrySendError::Full(back))) => {
+                self.message = Some(back);
+                Poll::Pending
+            }
+            Err(NoMemory(back)) => {
+                self.message = Some(back);
+                Poll::Ready(Err(OutOfMemory))
+            }
         }
     }
 }
@@ -281,9 +309,10 @@ impl<T: Drop, R: Wait + Clone + Drop> Drop for Send<'_, T, R> {
             mut ticket,
             marker: _,
         } = self;
-        let sender = sender.get();
         if ticket.is_some() {
-            sender.link.lock().cancel_send(&mut ticket);
+            let link = &sender.get().link;
+            let (channel, mut pass) = link.channel();
+            channel.give_up_send(&link.rt, &mut pass, &mut ticket);
         }
     }
 }
@@ -338,9 +367,10 @@ impl<T: Drop, R: Wait + Clone + Drop> Future for Recv<'_, T, R> {
         }) }
         ensures holds { OnPending result (IsSome self.new.ticket) }
     {
-        let receiver = self.receiver.get();
-        let mut locked = receiver.link.lock();
-        match locked.poll_recv(&mut self.ticket, &mut self.marker, cx) {
+        let link = &self.receiver.get().link;
+        let (channel, mut pass) = link.channel();
+        let (p, t, m) = (&mut pass, &mut self.ticket, &mut self.marker);
+        match channel.recv_or_wait_as::<Unruled, Unruled, _, _, _>(&link.rt, p, t, m, cx) {
             Ok(Poll::Ready(answer)) => {
                 self.finished = true;
                 Poll::Ready(Ok(answer))
@@ -363,9 +393,10 @@ impl<T: Drop, R: Wait + Clone + Drop> Drop for Recv<'_, T, R> {
             marker: _,
             finished: _,
         } = self;
-        let receiver = receiver.get();
         if ticket.is_some() {
-            receiver.link.lock().cancel_recv(&mut ticket);
+            let link = &receiver.get().link;
+            let (channel, mut pass) = link.channel();
+            channel.give_up_recv(&link.rt, &mut pass, &mut ticket);
         }
     }
 }
@@ -419,9 +450,10 @@ impl<T: Drop, R: Wait + Clone + Drop> Future for Closed<'_, T, R> {
         }) }
         ensures holds { OnPending result (IsSome self.new.ticket) }
     {
-        let sender = self.sender.get();
-        let mut locked = sender.link.lock();
-        match locked.poll_closed(&mut self.ticket, &mut self.marker, cx) {
+        let link = &self.sender.get().link;
+        let (channel, mut pass) = link.channel();
+        let (p, t, m) = (&mut pass, &mut self.ticket, &mut self.marker);
+        match channel.closed_or_wait(&link.rt, p, t, m, cx) {
             Ok(Poll::Ready(())) => {
                 self.finished = true;
                 Poll::Ready(Ok(()))
@@ -443,9 +475,10 @@ impl<T: Drop, R: Wait + Clone + Drop> Drop for Closed<'_, T, R> {
             marker: _,
             finished: _,
         } = self;
-        let sender = sender.get();
         if ticket.is_some() {
-            sender.link.lock().cancel_closed(&mut ticket);
+            let link = &sender.get().link;
+            let (channel, mut pass) = link.channel();
+            channel.give_up_closed(&link.rt, &mut pass, &mut ticket);
         }
     }
 }

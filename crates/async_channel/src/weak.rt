@@ -3,7 +3,7 @@ ghost use Rattle.std.specs.Prelude.{◌≡◌, IfOk, IfSome, Some, codes};
 ghost use Rattle.async_channel.specs.Operations.{receiver_at};
 
 use crate::handles::{Receiver, Sender};
-use crate::shared::Link;
+use crate::link::Link;
 use crate::tag::Tag;
 use channel_core::{CloneError, OutOfMemory, Upgrade};
 use std::fmt;
@@ -39,7 +39,7 @@ impl<T, R> Model for WeakSender<T, R> {
 
     ghost view = { λ handle. record {
       tag = handle.tag;
-      source = (arc_value handle.link.shared).source.id;
+      source = (arc_value handle.link.shared).channel.source.id;
     } };
 }
 
@@ -72,7 +72,7 @@ impl<T, R> Model for WeakReceiver<T, R> {
 
     ghost view = { λ handle. record {
       tag = handle.tag;
-      source = (arc_value handle.link.shared).source.id;
+      source = (arc_value handle.link.shared).channel.source.id;
     } };
 }
 
@@ -96,8 +96,8 @@ impl<T: Drop, R: Wait + Clone + Drop> WeakSender<T, R> {
         let Ok(link) = self.link.try_clone() else {
             return Err(CloneError::OutOfMemory);
         };
-        let upgraded = link.lock().upgrade_sender();
-        match upgraded {
+        let (channel, mut pass) = self.link.channel();
+        match channel.upgrade_sender(&self.link.rt, &mut pass) {
             Upgrade::Closed => Ok(None),
             Upgrade::TooMany => Err(CloneError::TooMany),
             Upgrade::Raised => Ok(Some(Sender {
@@ -161,8 +161,8 @@ impl<T: Drop, R: Wait + Clone + Drop> WeakReceiver<T, R> {
         let Ok(link) = self.link.try_clone() else {
             return Err(CloneError::OutOfMemory);
         };
-        let upgraded = link.lock().upgrade_receiver();
-        match upgraded {
+        let (channel, mut pass) = self.link.channel();
+        match channel.upgrade_receiver(&self.link.rt, &mut pass) {
             Upgrade::Closed => Ok(None),
             Upgrade::TooMany => Err(CloneError::TooMany),
             Upgrade::Raised => Ok(Some(Receiver::new(self.tag, link))),

@@ -8,8 +8,8 @@ use Rattle.channel_model.specs.declared.errors.TrySendError.{TrySendError}
 use Rattle.channel_model.specs.declared.errors.TryRecvError.{TryRecvError}
 use Rattle.channel_model.specs.Errors.{message_of, was_ended}
 use Rattle.channel_model.specs.Tables.{OnReady, OnWait, try_send_answer, force_send_answer, try_recv_answer, send_poll, recv_poll}
-use Rattle.channel_core.specs.Channel.{Channel, is_channel_full, accepting, sending, forcing, taking, polled_send, SendWaits, RecvWaits, GrowsWithMessages, oldest}
-use Rattle.channel_core.specs.Tickets.{left, handed_on}
+use Rattle.channel_core.specs.Channel.{Channel, is_channel_full, accepting, sending, forcing, taking, polled_send, SendWaits, RecvWaits, NextWaits, GrowsWithMessages, oldest}
+use Rattle.channel_core.specs.Tickets.{left}
 use Rattle.event_list.specs.Waiting.{Waiting}
 use Rattle.channel_model.specs.declared.errors.RecvError.{RecvError}
 use Rattle.ruled_channel.specs.Passes.{Refuses, WantsToSend}
@@ -64,6 +64,13 @@ module _ {T W : Type 0} (core now : Channel T W) where
     closed = ap (λ (c : Channel T W). c.closed) e;
   }
 
+  pub alike_streams : (list : Waiting W) → now ≡ record core { streams = list } → IsAlike
+  alike_streams list e = record {
+    capacity = ap (λ (c : Channel T W). c.capacity) e;
+    messages = ap (λ (c : Channel T W). c.messages) e;
+    closed = ap (λ (c : Channel T W). c.closed) e;
+  }
+
   pub alike_closeds : (list : Waiting W) → now ≡ record core { closeds = list } → IsAlike
   alike_closeds list e = record {
     capacity = ap (λ (c : Channel T W). c.capacity) e;
@@ -77,16 +84,6 @@ module _ {T W : Type 0} (core now : Channel T W) where
     messages = ap (λ (c : Channel T W). c.messages) e;
     closed = ap (λ (c : Channel T W). c.closed) e;
   }
-
-  -- a poll that was refused memory lets its entry go
-  pub gone_sends : (before : Channel T W) (ticket : Option ℕ) → before ≡ core → now ≡ record before { sends = handed_on ticket before.sends } → IsAlike
-  gone_sends before ticket was e = alike_sends (handed_on ticket core.sends) (e ∙ ap (λ (c : Channel T W). record c { sends = handed_on ticket c.sends }) was)
-
-  pub gone_receives : (before : Channel T W) (ticket : Option ℕ) → before ≡ core → now ≡ record before { receives = handed_on ticket before.receives } → IsAlike
-  gone_receives before ticket was e = alike_receives (handed_on ticket core.receives) (e ∙ ap (λ (c : Channel T W). record c { receives = handed_on ticket c.receives }) was)
-
-  pub gone_closeds : (before : Channel T W) (list : Waiting W) → before ≡ record core { closeds = before.closeds } → now ≡ record before { closeds = list } → IsAlike
-  gone_closeds before list was e = alike_closeds list (e ∙ ap (λ (c : Channel T W). record c { closeds = list }) was)
 
   closes : (m : T) (error : SendError T) (base : Channel T W) (closed full : Bool) → Ready (Err error) ≡ send_poll (Some m) closed full
       → now ≡ (sending closed full m base).channel → now ≡ base
@@ -112,6 +109,10 @@ module _ {T W : Type 0} (core now : Channel T W) where
   pub recv_waits : (ticket ticket' : Option ℕ) (Fact : W → Type 0) (poll : Poll (Result T RecvError)) → poll ≡ Pending
       → OnWait {E = OutOfMemory} (Ok poll) ((w : W) × Fact w × RecvWaits ticket core w ticket' now) → IsAlike
   recv_waits ticket ticket' Fact poll is waits = alike_receives now.receives ((subst (λ p. OnWait {E = OutOfMemory} (Ok p) ((w : W) × Fact w × RecvWaits ticket core w ticket' now)) is waits).2.0)
+
+  pub next_waits : (ticket ticket' : Option ℕ) (Fact : W → Type 0) (poll : Poll (Option T)) → poll ≡ Pending
+      → OnWait {E = OutOfMemory} (Ok poll) ((w : W) × Fact w × NextWaits ticket core w ticket' now) → IsAlike
+  next_waits ticket ticket' Fact poll is waits = alike_streams now.streams ((subst (λ p. OnWait {E = OutOfMemory} (Ok p) ((w : W) × Fact w × NextWaits ticket core w ticket' now)) is waits).2.0)
 
 module _ {T W : Type 0} (found now : Channel T W) where
   -- a send that is refused changes nothing

@@ -1,7 +1,8 @@
 -- What giving up a sender or a receiver makes of a channel.
-use Rattle.std.proofs.Common.{◌≡◌, Bool, true, false, true≢false, Option, None, sym, refl, ap, ◌∙◌, subst}
+use Rattle.std.proofs.Common.{◌≡◌, ℕ, Bool, true, false, true≢false, Option, sym, refl, ap, ◌∙◌, subst}
 use Rattle.std.specs.Prelude.{◌&&◌, ◌==◌, ◌-◌, not, if◌then◌else◌}
 use Rattle.channel_core.specs.Channel.{Channel, Change, closing, ending, unchanged, sender_dropped, receiver_dropped_by}
+use Rattle.channel_core.specs.Tickets.{left}
 use Rattle.ruled_channel.proofs.Answered.{IsAlike}
 
 pick : {A : Type 0} (P : A → Type 0) (b : Bool) (x y : A) → (b ≡ true → P x) → (b ≡ false → P y) → P (if b then x else y)
@@ -46,14 +47,18 @@ module _ {T W : Type 0} where
         (record { capacity = shut.capacity; messages = shut.messages; closed = shut.closed }) (record { capacity = refl; messages = refl; closed = refl })
         (core.senders == 1) core.closed refl e is
 
-    pub receiver_shuts : true ≡ ((core.receivers == 1) && not core.closed) → now ≡ (receiver_dropped_by None core).channel → IsShut core now × (core.closed ≡ false)
-    receiver_shuts e is = let shut = closing_shuts (record core { receivers = 0 }) in
-        last_shuts core now (ending (closing (record core { receivers = 0 }))) (unchanged (record core { receivers = core.receivers - 1 }))
-        (record { capacity = shut.capacity; messages = shut.messages; closed = shut.closed }) (record { capacity = refl; messages = refl; closed = refl })
-        (core.receivers == 1) core.closed refl e is
+    module _ (ticket : Option ℕ) where
+      abbrev gone : Channel T W
+      gone = record core { streams = left ticket core.streams }
 
-    pub receiver_keeps : false ≡ ((core.receivers == 1) && not core.closed) → now ≡ (receiver_dropped_by None core).channel → IsAlike core now
-    receiver_keeps e is = let shut = closing_shuts (record core { receivers = 0 }) in
-        other_keeps core now (ending (closing (record core { receivers = 0 }))) (unchanged (record core { receivers = core.receivers - 1 }))
-        (record { capacity = shut.capacity; messages = shut.messages; closed = shut.closed }) (record { capacity = refl; messages = refl; closed = refl })
-        (core.receivers == 1) core.closed refl e is
+      pub receiver_shuts : true ≡ ((core.receivers == 1) && not core.closed) → now ≡ (receiver_dropped_by ticket core).channel → IsShut core now × (core.closed ≡ false)
+      receiver_shuts e is = let shut = closing_shuts (record gone { receivers = 0 }) in
+          last_shuts core now (ending (closing (record gone { receivers = 0 }))) (unchanged (record gone { receivers = core.receivers - 1 }))
+          (record { capacity = shut.capacity; messages = shut.messages; closed = shut.closed }) (record { capacity = refl; messages = refl; closed = refl })
+          (core.receivers == 1) core.closed refl e is
+
+      pub receiver_keeps : false ≡ ((core.receivers == 1) && not core.closed) → now ≡ (receiver_dropped_by ticket core).channel → IsAlike core now
+      receiver_keeps e is = let shut = closing_shuts (record gone { receivers = 0 }) in
+          other_keeps core now (ending (closing (record gone { receivers = 0 }))) (unchanged (record gone { receivers = core.receivers - 1 }))
+          (record { capacity = shut.capacity; messages = shut.messages; closed = shut.closed }) (record { capacity = refl; messages = refl; closed = refl })
+          (core.receivers == 1) core.closed refl e is

@@ -3,3 +3,5 @@ pub mod Steps
 pub mod Same
 pub mod Views
 pub mod Dropped
+pub mod Logging
+pub mod Capacity

@@ -4,7 +4,7 @@ use Rattle.channel_core.specs.Channel.{Channel}
 use Rattle.channel_model.specs.declared.errors.OutOfMemory.{OutOfMemory}
 use Rattle.ruled_mutex.specs.declared.pass.Pass.{Pass}
 use Rattle.ruled_mutex.specs.Passes.{view, IsSamePass}
-use Rattle.channel_wakers.specs.declared.mark.Mark.{Mark}
+use Rattle.ruled_channel.specs.declared.mark.Mark.{Mark}
 use Rattle.ruled_channel.specs.declared.channel.RuledChannel.{RuledChannel}
 use Rattle.ruled_channel.specs.Passes.{IsPassOf}
 

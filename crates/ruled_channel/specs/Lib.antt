@@ -1,6 +1,9 @@
+pub mod Marks
+pub mod Rung
 pub mod Rule
 pub mod Guarded
 pub mod Passes
 pub mod Receiving
 pub mod Sending
 pub mod Closing
+pub mod Batches

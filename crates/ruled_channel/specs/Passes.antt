@@ -8,7 +8,7 @@ use Rattle.channel_model.specs.declared.errors.TryRecvError.TheVariants.{Empty, 
 use Rattle.ruled_mutex.specs.declared.pass.Pass.{Pass}
 use Rattle.ruled_mutex.specs.Passes.{IsPassOf as IsMutexPass}
 pub use Rattle.ruled_mutex.specs.Passes.{view}
-use Rattle.channel_wakers.specs.declared.mark.Mark.{Mark}
+use Rattle.ruled_channel.specs.declared.mark.Mark.{Mark}
 use Rattle.ruled_channel.specs.declared.channel.RuledChannel.{RuledChannel}
 use Rattle.ruled_channel.specs.Rule.{IsFilled}
 
@@ -48,7 +48,7 @@ abbrev pub IfFull : {T : Type 0} → TrySendError T → Type 0 → Type 0
 IfFull (Full m) Fact = Fact
 IfFull (Closed m) Fact = ⊤
 
--- a fact, if the channel was empty and open
-abbrev pub IfEmpty : TryRecvError → Type 0 → Type 0
-IfEmpty Empty Fact = Fact
-IfEmpty Closed Fact = ⊤
+-- a fact, if it was closed
+abbrev pub IfClosed : {T : Type 0} → TrySendError T → Type 0 → Type 0
+IfClosed (Full m) Fact = ⊤
+IfClosed (Closed m) Fact = Fact

@@ -5,7 +5,7 @@ use Rattle.channel_model.specs.declared.errors.OutOfMemory.{OutOfMemory}
 use Rattle.channel_model.specs.declared.errors.RecvError.{RecvError}
 use Rattle.ruled_mutex.specs.declared.pass.Pass.{Pass}
 use Rattle.ruled_mutex.specs.Passes.{view, number, IsSamePass}
-use Rattle.channel_wakers.specs.declared.mark.Mark.{Mark}
+use Rattle.ruled_channel.specs.declared.mark.Mark.{Mark}
 use Rattle.ruled_channel.specs.declared.channel.RuledChannel.{RuledChannel}
 use Rattle.ruled_channel.specs.Rule.{Receives, Ends, Fitted}
 use Rattle.ruled_channel.specs.Passes.{IsPassOf}

@@ -5,7 +5,7 @@ use Rattle.channel_model.specs.declared.errors.NoMemory.{NoMemory}
 use Rattle.channel_model.specs.declared.errors.SendError.{SendError}
 use Rattle.ruled_mutex.specs.declared.pass.Pass.{Pass}
 use Rattle.ruled_mutex.specs.Passes.{view, number, IsSamePass}
-use Rattle.channel_wakers.specs.declared.mark.Mark.{Mark}
+use Rattle.ruled_channel.specs.declared.mark.Mark.{Mark}
 use Rattle.ruled_channel.specs.declared.channel.RuledChannel.{RuledChannel}
 use Rattle.ruled_channel.specs.Rule.{Sends, Learns}
 use Rattle.ruled_channel.specs.Passes.{IsPassOf, LearnedOf, WantsToSend}

@@ -5,15 +5,16 @@ ghost use Rattle.channel_model.specs.Errors.{message_of};
 ghost use Rattle.ruled_mutex.specs.Passes.{IsSamePass, view, number, found, made, Holds};
 ghost use Rattle.ruled_channel.specs.Rule.{Sends, Forces, Receives, Ends, Closes, Forks, Merges, Learns};
 
+use crate::mark::{Mark, Woken};
 use crate::outcomes::{
     AtEnd, Closed, Displaced, Ended, Forced, Kept, Lesson, Popped, Pushed, Received, Sent, Shut,
     Undisplaced,
 };
 use crate::protocol::{Protocol, Ruled};
+use crate::ringer::Ringer;
 use channel_core::{Core, NoMemory, OutOfMemory, SendError, TryRecvError, TrySendError};
-use channel_wakers::{Mark, Ringer, Woken};
 use futures::task::Source;
-use ruled_mutex::{Held, Join, Outcome, RuledMutex, Split};
+use ruled_mutex::{Held, Join, Outcome, RuledMutex, Split, Unruled};
 use std::alloc::Global;
 use std::sync::Wait;
 
@@ -33,7 +34,6 @@ pub type Pass<T, V> = ruled_mutex::Pass<Core<T, Mark>, V>;
 /// let (channel, _): (RuledChannel<u64, (), Unruled>, _) = bounded_with(rt.alloc(), 1)?;
 /// drop(channel);
 /// ```
-#[derive(Drop)]
 pub struct RuledChannel<T, V, P: Protocol<T, V>> {
     pub(crate) mutex: RuledMutex<Core<T, Mark>, V, Ruled<P>>,
     // That of the core.
@@ -41,6 +41,36 @@ pub struct RuledChannel<T, V, P: Protocol<T, V>> {
     pub(crate) alloc: Global,
     // What tasks wait for.
     pub(crate) source: Source,
+}
+
+impl<T: Drop, V, P: Protocol<T, V>> Drop for RuledChannel<T, V, P> {
+    fn drop(self) {
+        let Self {
+            mutex,
+            capacity: _,
+            alloc: _,
+            source: _,
+        } = self;
+        drop(mutex);
+    }
+}
+
+impl<T: Drop> RuledChannel<T, (), Unruled> {
+    ghost use Rattle.ruled_channel.specs.Passes.{IsPassOf};
+
+    /// One more pass. The rule that asks nothing admits it at any time.
+    ///
+    /// ```
+    /// let (channel, _): (RuledChannel<u64, (), Unruled>, _) = bounded_with(rt.alloc(), 1)?;
+    /// let mut pass = channel.pass();
+    /// assert!(rt; channel.close_as::<Unruled, _>(&rt, &mut pass));
+    /// ```
+    #[inline(always)]
+    pub fn pass(&self) -> Pass<T, ()>
+        ensures { IsPassOf self.now result }
+    {
+        self.mutex.pass()
+    }
 }
 
 impl<T: Drop, V, P: Protocol<T, V>> RuledChannel<T, V, P> {
@@ -82,6 +112,29 @@ impl<T: Drop, V, P: Protocol<T, V>> RuledChannel<T, V, P> {
         ensures { result ≡ self.now.capacity }
     {
         self.capacity
+    }
+
+    /// Where the memory of its marks comes from.
+    ///
+    /// ```
+    /// let (channel, _): (RuledChannel<u64, (), Unruled>, _) = bounded_with(rt.alloc(), 4)?;
+    /// let list: Vec<u64> = Vec::new(channel.alloc());
+    /// assert!(rt; list.is_empty());
+    /// ```
+    pub fn alloc(&self) -> Global {
+        self.alloc
+    }
+
+    /// What the tasks of its operations wait for.
+    ///
+    /// ```
+    /// let (channel, _): (RuledChannel<u64, (), Unruled>, _) = bounded_with(rt.alloc(), 4)?;
+    /// let _source: &Source = channel.source();
+    /// ```
+    pub fn source(&self) -> &Source
+        ensures { result.now ≡ self.now.source }
+    {
+        &self.source
     }
 
     /// Cuts a view in two, so that a part of it can go to another thread.
@@ -293,23 +346,6 @@ impl<T: Drop, V, P: Protocol<T, V>> RuledChannel<T, V, P> {
         let was_open = pass.value_mut(&self.mutex, &held).close(&mut bell);
         self.give_back::<Shut<M>, R>(pass, held, bell);
         was_open
-    }
-
-    /// Learns what the rule says at one moment of the call.
-    ///
-    /// ```
-    /// let (channel, mut pass) = bounded_with::<u64, (), Unruled>(rt.alloc(), 1)?;
-    /// channel.learn_as::<Unruled, _>(&rt, &mut pass);
-    /// ```
-    pub fn learn_as<L: Lesson<T, V>, R: Wait>(&self, rt: &R, pass: &mut Pass<T, V>)
-        requires own { IsPassOf self.now pass.old }
-        requires rule { Learns P.holds (number pass.old) (view pass.old) (L.fact (view pass.old)) }
-        ensures own { IsPassOf self.now pass.new × IsSamePass pass.old pass.new }
-        ensures same { view pass.new ≡ view pass.old }
-        ensures learned { LearnedOf (λ messages. LearnedOf (L.fact (view pass.old) messages)) }
-    {
-        let held = self.mutex.lock(rt, pass);
-        self.mutex.unlock_as::<Kept<P, L>>(pass, held);
     }
 
     // Gives the lock back by a step of the rule, and wakes whom the step told: each mark that the

@@ -1,5 +1,5 @@
 //! The wait for the last receiver, as a future.
-ghost use Rattle.std.specs.Prelude.{◌≡◌, IsSome, Some};
+ghost use Rattle.std.specs.Prelude.{◌≡◌, IsSome, Some, None};
 ghost use Rattle.std.specs.Option.{ForSome};
 ghost use Rattle.futures.specs.Task.{Covers, Keeps};
 ghost use Rattle.futures.specs.Poll.{IfReady, OnPending};
@@ -8,9 +8,9 @@ ghost use Rattle.ruled_channel.specs.Receiving.{IsBack};
 ghost use Rattle.ruled_channel.specs.Closing.{MayWait, GivesBack};
 
 use crate::channel::{Pass, RuledChannel};
+use crate::mark::Marker;
 use crate::protocol::Protocol;
 use channel_core::{OutOfMemory, Ticket};
-use channel_wakers::Marker;
 use futures::future::Future;
 use futures::task::{Context, Poll};
 use std::sync::Wait;
@@ -85,6 +85,7 @@ impl<T: Drop, V, P: Protocol<T, V>, R: Wait> Future for UntilClosed<'_, '_, T, V
         ensures registered { OnPending result
             (Covers cx.new (λ source. source ≡ self.new.channel.now.source.id)) }
         ensures holds { OnPending result (IsSome self.new.ticket) }
+        ensures gone { IfReady result (λ _. self.new.ticket ≡ None) }
         ensures kept { Keeps cx.old cx.new }
     {
         let Some(mut pass) = self.pass.take() else {
@@ -97,7 +98,10 @@ impl<T: Drop, V, P: Protocol<T, V>, R: Wait> Future for UntilClosed<'_, '_, T, V
                 self.pass = Some(pass);
                 Poll::Pending
             }
-            Err(refused) => Poll::Ready((pass, Err(refused))),
+            Err(refused) => {
+                channel.give_up_closed(self.rt, &mut pass, ticket);
+                Poll::Ready((pass, Err(refused)))
+            }
         }
     }
 }

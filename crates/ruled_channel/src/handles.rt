@@ -3,7 +3,7 @@
 //! A new channel counts one sender and one receiver, and the last of either that is given up closes
 //! it. They are counted by calls: a pass that is dropped closes nothing, since a drop can't ask for
 //! a proof that the rule allows the closing.
-ghost use Rattle.std.specs.Prelude.{◌≡◌, true};
+ghost use Rattle.std.specs.Prelude.{◌≡◌, true, None};
 ghost use Rattle.std.specs.Bool.{OnTrue, OnFalse};
 ghost use Rattle.ruled_mutex.specs.Passes.{IsSamePass, view, number};
 ghost use Rattle.ruled_channel.specs.Rule.{Closes};
@@ -12,7 +12,8 @@ ghost use Rattle.ruled_channel.specs.Passes.{IsPassOf};
 use crate::channel::{Pass, RuledChannel};
 use crate::outcomes::{Closed, Kept, Shut};
 use crate::protocol::Protocol;
-use channel_wakers::Ringer;
+use crate::ringer::Ringer;
+use channel_core::{Ticket, Upgrade};
 use ruled_mutex::Unruled;
 use std::sync::Wait;
 
@@ -57,6 +58,44 @@ impl<T: Drop, V, P: Protocol<T, V>> RuledChannel<T, V, P> {
         is_counted
     }
 
+    /// Counts one more sender for one that counts for nothing, and says whether it is counted: not
+    /// if the channel is closed, or if there are more of them than half of what a `usize` can count.
+    ///
+    /// ```
+    /// let (channel, mut pass) = bounded_with::<u64, (), Unruled>(rt.alloc(), 1)?;
+    /// assert_eq!(rt; channel.upgrade_sender(&rt, &mut pass), Upgrade::Raised);
+    /// ```
+    pub fn upgrade_sender<R: Wait>(&self, rt: &R, pass: &mut Pass<T, V>) -> Upgrade
+        requires { IsPassOf self.now pass.old }
+        ensures own { IsPassOf self.now pass.new × IsSamePass pass.old pass.new }
+        ensures same { view pass.new ≡ view pass.old }
+    {
+        let held = self.mutex.lock(rt, pass);
+        let upgrade = pass.value_mut(&self.mutex, &held).upgrade_sender();
+        self.mutex.unlock_as::<Kept<P, Unruled>>(pass, held);
+        upgrade
+    }
+
+    /// Counts one more receiver for one that counts for nothing, and says whether it is counted:
+    /// not if the channel is closed, or if there are more of them than half of what a `usize` can
+    /// count.
+    ///
+    /// ```
+    /// let (channel, mut pass) = bounded_with::<u64, (), Unruled>(rt.alloc(), 1)?;
+    /// assert!(rt; channel.close_as::<Unruled, _>(&rt, &mut pass));
+    /// assert_eq!(rt; channel.upgrade_receiver(&rt, &mut pass), Upgrade::Closed);
+    /// ```
+    pub fn upgrade_receiver<R: Wait>(&self, rt: &R, pass: &mut Pass<T, V>) -> Upgrade
+        requires { IsPassOf self.now pass.old }
+        ensures own { IsPassOf self.now pass.new × IsSamePass pass.old pass.new }
+        ensures same { view pass.new ≡ view pass.old }
+    {
+        let held = self.mutex.lock(rt, pass);
+        let upgrade = pass.value_mut(&self.mutex, &held).upgrade_receiver();
+        self.mutex.unlock_as::<Kept<P, Unruled>>(pass, held);
+        upgrade
+    }
+
     /// Gives up one sender, and answers whether it was the last one and so closed the channel.
     ///
     /// ```
@@ -98,10 +137,32 @@ impl<T: Drop, V, P: Protocol<T, V>> RuledChannel<T, V, P> {
         ensures closed { OnTrue result (M.then (view pass.old) true (view pass.new)) }
         ensures same { OnFalse result (view pass.new ≡ view pass.old) }
     {
+        self.drop_receiver_with_as::<M, R>(rt, pass, &mut None)
+    }
+
+    /// `drop_receiver_as` of a receiver whose stream may wait: its entry leaves the list first.
+    ///
+    /// ```
+    /// let (channel, mut pass) = bounded_with::<u64, (), Unruled>(rt.alloc(), 1)?;
+    /// assert!(rt; channel.drop_receiver_with_as::<Unruled, _>(&rt, &mut pass, &mut None));
+    /// ```
+    pub fn drop_receiver_with_as<M: Closed<V>, R: Wait>(
+        &self,
+        rt: &R,
+        pass: &mut Pass<T, V>,
+        stream: &mut Option<Ticket>,
+    ) -> bool
+        requires own { IsPassOf self.now pass.old }
+        requires rule { Closes P.holds (number pass.old) (view pass.old) M.then }
+        ensures own { IsPassOf self.now pass.new × IsSamePass pass.old pass.new }
+        ensures closed { OnTrue result (M.then (view pass.old) true (view pass.new)) }
+        ensures same { OnFalse result (view pass.new ≡ view pass.old) }
+        ensures ticket { stream.new ≡ None }
+    {
         let held = self.mutex.lock(rt, pass);
         let mut bell = Ringer::new(rt);
         let core = pass.value_mut(&self.mutex, &held);
-        let has_closed = core.drop_receiver(&mut None, &mut bell);
+        let has_closed = core.drop_receiver(stream, &mut bell);
         if has_closed {
             self.give_back::<Shut<M>, R>(pass, held, bell);
         } else {

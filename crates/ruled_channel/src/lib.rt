@@ -22,21 +22,29 @@
 //! ```
 #![tactic(auto)]
 
+mod batches;
 mod blocking;
 mod channel;
 mod closing;
 mod handles;
+mod look;
 mod make;
+mod mark;
 mod outcomes;
 mod protocol;
 mod receiving;
+mod ringer;
 mod sending;
 mod waiting;
 
 pub use channel::{Pass, RuledChannel};
-pub use channel_core::{NoMemory, OutOfMemory, RecvError, SendError, TryRecvError, TrySendError};
+pub use channel_core::{
+    Group, NoMemory, OutOfMemory, RecvError, SendError, Ticket, TryRecvError, TrySendError, Upgrade,
+};
 pub use closing::UntilClosed;
+pub use look::{Status, Waiters};
 pub use make::{bounded_with, unbounded_with};
+pub use mark::{Mark, Marker, Sleeper, Slot, Waiter};
 pub use outcomes::{AtEnd, Closed, Forced, Lesson, Received, Sent};
 pub use protocol::Protocol;
 pub use receiving::Recv;

@@ -2,9 +2,9 @@
 ghost use Rattle.std.specs.Prelude.{◌≡◌, List, Bool, Option, None};
 ghost use Rattle.ruled_channel.specs.Guarded.{pushed, displaced, popped, ended, shut, kept};
 
+use crate::mark::Mark;
 use crate::protocol::Protocol;
 use channel_core::Core;
-use channel_wakers::Mark;
 use ruled_mutex::{Outcome, Unruled};
 use std::marker::PhantomData;
 

@@ -1,8 +1,8 @@
 //! The caller's rule.
 ghost use Rattle.std.specs.Prelude.{ℕ, List, Bool, Option};
 
+use crate::mark::Mark;
 use channel_core::Core;
-use channel_wakers::Mark;
 use ruled_mutex::Unruled;
 use std::marker::PhantomData;
 

@@ -1,5 +1,5 @@
 //! A receive as a future.
-ghost use Rattle.std.specs.Prelude.{◌≡◌, [], false, IfSome, IsSome, Some};
+ghost use Rattle.std.specs.Prelude.{◌≡◌, [], false, IfSome, IsSome, Some, None};
 ghost use Rattle.std.specs.Option.{ForSome};
 ghost use Rattle.futures.specs.Task.{Covers, Keeps};
 ghost use Rattle.futures.specs.Poll.{IfReady, OnPending};
@@ -9,10 +9,10 @@ ghost use Rattle.ruled_channel.specs.Passes.{IsPassOf};
 ghost use Rattle.ruled_channel.specs.Receiving.{MayPoll, Gives, IsBack};
 
 use crate::channel::{Pass, RuledChannel};
+use crate::mark::Marker;
 use crate::outcomes::{AtEnd, Received};
 use crate::protocol::Protocol;
-use channel_core::{OutOfMemory, RecvError, Ticket, TryRecvError};
-use channel_wakers::Marker;
+use channel_core::{OutOfMemory, RecvError, Ticket};
 use futures::future::Future;
 use futures::task::{Context, Poll};
 use std::marker::PhantomData;
@@ -102,6 +102,7 @@ impl<T: Drop, V, P: Protocol<T, V>, M: Received<T, V>, E: AtEnd<V>, R: Wait> Fut
         ensures registered { OnPending result
             (Covers cx.new (λ source. source ≡ self.new.channel.now.source.id)) }
         ensures holds { OnPending result (IsSome self.new.ticket) }
+        ensures gone { IfReady result (λ _. self.new.ticket ≡ None) }
         ensures kept { Keeps cx.old cx.new }
     {
         let Some(mut pass) = self.pass.take() else {
@@ -109,14 +110,16 @@ impl<T: Drop, V, P: Protocol<T, V>, M: Received<T, V>, E: AtEnd<V>, R: Wait> Fut
         };
         let (channel, ticket) = (self.channel, &mut self.ticket);
         let waiter = &mut self.marker;
-        match channel.recv_or_wait::<M, E, R, _, _>(self.rt, &mut pass, ticket, waiter, cx) {
-            Ok(Ok(message)) => Poll::Ready((pass, Ok(Ok(message)))),
-            Ok(Err(TryRecvError::Closed)) => Poll::Ready((pass, Ok(Err(RecvError)))),
-            Ok(Err(TryRecvError::Empty)) => {
+        match channel.recv_or_wait_as::<M, E, R, _, _>(self.rt, &mut pass, ticket, waiter, cx) {
+            Ok(Poll::Ready(answer)) => Poll::Ready((pass, Ok(answer))),
+            Ok(Poll::Pending) => {
                 self.pass = Some(pass);
                 Poll::Pending
             }
-            Err(refused) => Poll::Ready((pass, Err(refused))),
+            Err(refused) => {
+                channel.give_up_recv(self.rt, &mut pass, ticket);
+                Poll::Ready((pass, Err(refused)))
+            }
         }
     }
 }

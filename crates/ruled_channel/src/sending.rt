@@ -1,5 +1,5 @@
 //! A send as a future.
-ghost use Rattle.std.specs.Prelude.{◌≡◌, false, IfSome, IsSome, Some};
+ghost use Rattle.std.specs.Prelude.{◌≡◌, false, IfSome, IsSome, Some, None};
 ghost use Rattle.std.specs.Option.{ForSome};
 ghost use Rattle.futures.specs.Task.{Covers, Keeps};
 ghost use Rattle.futures.specs.Poll.{IfReady, OnPending};
@@ -9,10 +9,10 @@ ghost use Rattle.ruled_channel.specs.Passes.{IsPassOf, IsFullAt};
 ghost use Rattle.ruled_channel.specs.Sending.{MaySend, GivesSent, AreBack};
 
 use crate::channel::{Pass, RuledChannel};
+use crate::mark::Marker;
 use crate::outcomes::{Lesson, Sent};
 use crate::protocol::Protocol;
 use channel_core::{NoMemory, SendError, Ticket, TrySendError};
-use channel_wakers::Marker;
 use futures::future::Future;
 use futures::task::{Context, Poll};
 use std::marker::PhantomData;
@@ -102,6 +102,7 @@ impl<T: Drop, V, P: Protocol<T, V>, M: Sent<T, V>, L: Lesson<T, V>, R: Wait> Fut
         ensures registered { OnPending result
             (Covers cx.new (λ source. source ≡ self.new.channel.now.source.id)) }
         ensures holds { OnPending result (IsSome self.new.ticket) }
+        ensures gone { IfReady result (λ _. self.new.ticket ≡ None) }
         ensures kept { Keeps cx.old cx.new }
     {
         let Some((mut pass, message)) = self.parts.take() else {
@@ -109,14 +110,17 @@ impl<T: Drop, V, P: Protocol<T, V>, M: Sent<T, V>, L: Lesson<T, V>, R: Wait> Fut
         };
         let (channel, t) = (self.channel, &mut self.ticket);
         let waiter = &mut self.marker;
-        match channel.send_or_wait::<M, L, R, _, _>(self.rt, &mut pass, message, t, waiter, cx) {
+        match channel.send_or_wait_as::<M, L, R, _, _>(self.rt, &mut pass, message, t, waiter, cx) {
             Ok(Ok(())) => Poll::Ready((pass, Ok(Ok(())))),
             Ok(Err(TrySendError::Closed(back))) => Poll::Ready((pass, Ok(Err(SendError(back))))),
             Ok(Err(TrySendError::Full(back))) => {
                 self.parts = Some((pass, back));
                 Poll::Pending
             }
-            Err(refused) => Poll::Ready((pass, Err(refused))),
+            Err(refused) => {
+                channel.give_up_send(self.rt, &mut pass, t);
+                Poll::Ready((pass, Err(refused)))
+            }
         }
     }
 }

@@ -3,32 +3,32 @@
 //! A poll looks without a mark first. One that is ready needs none, nor memory for it; one that
 //! isn't has changed nothing. Then its mark is made, and left in the core's list under the same
 //! lock, so that whoever tells it finds it.
-ghost use Rattle.std.specs.Prelude.{◌≡◌, ◌==◌, ◌⊎◌, [], ◌∷◌, ◌++◌, false, IfOk, IfErr, IsSome, OnErr};
-ghost use Rattle.event_list.specs.Waiting.{RingsEach};
+ghost use Rattle.std.specs.Prelude.{◌≡◌, ◌==◌, ◌⊎◌, [], ◌++◌, false, None, IfOk, IfErr, IfSome, IfNone, IsSome, OnOk, OnErr};
+ghost use Rattle.futures.specs.Poll.{IfReady};
 ghost use Rattle.futures.specs.declared.task.Poll.TheVariants.{Pending};
 ghost use Rattle.channel_model.specs.Errors.{message_of};
-ghost use Rattle.channel_model.specs.Tables.{OnReady, OnWait, closed_poll, recv_poll, send_poll};
-ghost use Rattle.channel_core.specs.Channel.{ClosedWaits, GrowsWithMessages, RecvWaits, SendWaits, is_channel_full, oldest, polled_receive, polled_send};
+ghost use Rattle.channel_model.specs.Tables.{OnReady, OnWait, closed_poll, next_poll, recv_poll, send_poll};
+ghost use Rattle.channel_core.specs.Channel.{ClosedWaits, GrowsWithMessages, NextWaits, RecvWaits, SendWaits, is_channel_full, oldest, polled_receive, polled_send, polled_stream};
 ghost use Rattle.channel_core.specs.Tickets.{left};
-ghost use Rattle.channel_wakers.specs.declared.mark.Mark.{Mark};
+ghost use Rattle.ruled_channel.specs.declared.mark.Mark.{Mark};
 ghost use Rattle.ruled_mutex.specs.Passes.{IsSamePass, view, number};
 ghost use Rattle.ruled_channel.specs.Rule.{Sends, Receives, Ends, Learns, Fitted};
-ghost use Rattle.ruled_channel.specs.Passes.{IsPassOf, Refuses, FindsNone, IfEmpty, IfFull, WantsToSend};
+ghost use Rattle.ruled_channel.specs.Passes.{IsPassOf, Refuses, IfClosed, IfFull, WantsToSend};
 
 use crate::channel::{Pass, RuledChannel};
+use crate::mark::{Mark, Waiter};
 use crate::outcomes::{AtEnd, Ended, Kept, Lesson, Popped, Pushed, Received, Seen, Sent};
 use crate::protocol::Protocol;
-use channel_core::{
-    Core, NoMemory, OutOfMemory, RecvError, SendError, Ticket, TryRecvError, TrySendError,
-};
-use channel_wakers::{Mark, Ringer, Waiter};
+use crate::ringer::Ringer;
+use channel_core::{Core, NoMemory, OutOfMemory, RecvError, SendError, Ticket, TrySendError};
 use futures::task::Poll;
 use ruled_mutex::Unruled;
 use std::sync::Wait;
 
 // ## Under the lock
 impl<T: Drop, V, P: Protocol<T, V>> RuledChannel<T, V, P> {
-    fn poll_recv<C, W: Waiter<C>, R: Wait>(
+    #[tactic(auto, using(crate::proofs::Logging::logs, crate::proofs::Logging::logs_if_ready))]
+    pub(crate) fn poll_recv<C, W: Waiter<C>, R: Wait>(
         &self,
         core: &mut Core<T, Mark>,
         ticket: &mut Option<Ticket>,
@@ -39,12 +39,13 @@ impl<T: Drop, V, P: Protocol<T, V>> RuledChannel<T, V, P> {
         ensures reply { IfOk result (λ poll. poll ≡ recv_poll (oldest core.old) core.old.closed) }
         ensures after { OnReady result
             (core.new ≡ (polled_receive ticket.old core.old).channel) }
-        ensures rung { OnReady result (RingsEach (λ before mark after. after ≡ before ++ mark ∷ [])
-            bell.old (polled_receive ticket.old core.old).rung bell.new) }
+        ensures rung { OnReady result
+            (bell.new ≡ bell.old ++ (polled_receive ticket.old core.old).rung) }
+        ensures finished { OnReady result (ticket.new ≡ None) }
         ensures waits { OnWait result ((w : Mark) × W.waits_by cx.new self.now.source.id w
             × RecvWaits ticket.old core.old w ticket.new core.new) }
         ensures keeps { W.keeps cx.old cx.new }
-        ensures unchanged { OnErr result (core.new ≡ core.old) }
+        ensures unchanged { OnErr result ((core.new ≡ core.old) × (ticket.new ≡ ticket.old)) }
         ensures wanted { OnErr result (recv_poll (oldest core.old) core.old.closed ≡ Pending) }
     {
         let polled = core.poll_recv_with(ticket, &mut None, bell, &mut None)?;
@@ -55,7 +56,37 @@ impl<T: Drop, V, P: Protocol<T, V>> RuledChannel<T, V, P> {
         core.poll_recv(ticket, mark, bell)
     }
 
-    fn poll_send<C, W: Waiter<C>, R: Wait>(
+    #[tactic(auto, using(crate::proofs::Logging::logs, crate::proofs::Logging::logs_if_ready))]
+    fn poll_next<C, W: Waiter<C>, R: Wait>(
+        &self,
+        core: &mut Core<T, Mark>,
+        ticket: &mut Option<Ticket>,
+        waiter: &mut W,
+        cx: &mut C,
+        bell: &mut Ringer<'_, R>,
+    ) -> Result<Poll<Option<T>>, OutOfMemory>
+        ensures reply { IfOk result (λ poll. poll ≡ next_poll (oldest core.old) core.old.closed) }
+        ensures after { OnReady result
+            (core.new ≡ (polled_stream ticket.old core.old).channel) }
+        ensures rung { OnReady result
+            (bell.new ≡ bell.old ++ (polled_stream ticket.old core.old).rung) }
+        ensures finished { OnReady result (ticket.new ≡ None) }
+        ensures waits { OnWait result ((w : Mark) × W.waits_by cx.new self.now.source.id w
+            × NextWaits ticket.old core.old w ticket.new core.new) }
+        ensures keeps { W.keeps cx.old cx.new }
+        ensures unchanged { OnErr result ((core.new ≡ core.old) × (ticket.new ≡ ticket.old)) }
+        ensures wanted { OnErr result (next_poll (oldest core.old) core.old.closed ≡ Pending) }
+    {
+        let polled = core.poll_next_with(ticket, &mut None, bell, &mut None)?;
+        if let Poll::Ready(next) = polled {
+            return Ok(Poll::Ready(next));
+        }
+        let mark = waiter.mark(bell.runtime(), self.alloc, &self.source, cx)?;
+        core.poll_next(ticket, mark, bell)
+    }
+
+    #[tactic(auto, using(crate::proofs::Logging::logs, crate::proofs::Logging::logs_if_ready))]
+    pub(crate) fn poll_send<C, W: Waiter<C>, R: Wait>(
         &self,
         core: &mut Core<T, Mark>,
         message: &mut Option<T>,
@@ -68,14 +99,15 @@ impl<T: Drop, V, P: Protocol<T, V>> RuledChannel<T, V, P> {
             (λ poll. poll ≡ send_poll message.old core.old.closed (is_channel_full core.old)) }
         ensures after { OnReady result
             (core.new ≡ (polled_send message.old ticket.old core.old).channel) }
-        ensures rung { OnReady result (RingsEach (λ before mark after. after ≡ before ++ mark ∷ [])
-            bell.old (polled_send message.old ticket.old core.old).rung bell.new) }
+        ensures rung { OnReady result
+            (bell.new ≡ bell.old ++ (polled_send message.old ticket.old core.old).rung) }
+        ensures finished { OnReady result (ticket.new ≡ None) }
         ensures waits { OnWait result ((w : Mark) × W.waits_by cx.new self.now.source.id w
             × SendWaits message.old ticket.old core.old w ticket.new core.new) }
         ensures kept { OnWait result (message.new ≡ message.old) }
         ensures keeps { W.keeps cx.old cx.new }
-        ensures unchanged { OnErr result
-            ((core.new ≡ core.old) × (message.new ≡ message.old)) }
+        ensures unchanged { OnErr result ((core.new ≡ core.old)
+            × (message.new ≡ message.old) × (ticket.new ≡ ticket.old)) }
         ensures wanted { OnErr result (GrowsWithMessages core.old
             ⊎ (send_poll message.old core.old.closed (is_channel_full core.old) ≡ Pending)) }
     {
@@ -101,10 +133,12 @@ impl<T: Drop, V, P: Protocol<T, V>> RuledChannel<T, V, P> {
         ensures after { OnReady result (core.new ≡ record core.old {
           closeds = left ticket.old core.old.closeds;
         }) }
+        ensures finished { OnReady result (ticket.new ≡ None) }
         ensures waits { OnWait result ((w : Mark) × W.waits_by cx.new self.now.source.id w
             × ClosedWaits ticket.old core.old w ticket.new core.new) }
         ensures keeps { W.keeps cx.old cx.new }
         ensures kept { core.new ≡ record core.old { closeds = core.new.closeds } }
+        ensures unchanged { OnErr result ((core.new ≡ core.old) × (ticket.new ≡ ticket.old)) }
     {
         let polled = core.poll_closed_with(ticket, &mut None, &mut None)?;
         if let Poll::Ready(()) = polled {
@@ -117,8 +151,27 @@ impl<T: Drop, V, P: Protocol<T, V>> RuledChannel<T, V, P> {
 
 // ## With the lock
 impl<T: Drop, V, P: Protocol<T, V>> RuledChannel<T, V, P> {
-    /// `try_send_as`, which leaves its mark in the list if the channel is full.
-    pub(crate) fn send_or_wait<M, L, R, C, W>(
+    /// Polls a send: `try_send_as`, which leaves a mark in the list of sends if the channel is full.
+    ///
+    /// It is for who keeps the send's ticket and its waiter: the future of a send, or a thread that
+    /// blocks. After `Full` there is a ticket, and after every other answer none. If memory was
+    /// refused the ticket is as it was, and its entry stays; `give_up_send` takes it out.
+    ///
+    /// ```
+    /// let (channel, mut pass) = bounded_with::<u64, (), Unruled>(rt.alloc(), 1)?;
+    /// let (mut ticket, mut sleeper) = (None, Sleeper::new());
+    /// let sent = channel.send_or_wait_as::<Unruled, Unruled, _, _, _>(
+    ///     &rt,
+    ///     &mut pass,
+    ///     5,
+    ///     &mut ticket,
+    ///     &mut sleeper,
+    ///     &mut (),
+    /// )?;
+    /// assert_eq!(rt; sent, Ok(()));
+    /// ```
+    #[inline(always)]
+    pub fn send_or_wait_as<M, L, R, C, W>(
         &self,
         rt: &R,
         pass: &mut Pass<T, V>,
@@ -139,15 +192,19 @@ impl<T: Drop, V, P: Protocol<T, V>> RuledChannel<T, V, P> {
         ensures own { IsPassOf self.now pass.new × IsSamePass pass.old pass.new }
         ensures sent { IfOk result (λ answer. IfOk answer
             (λ _. M.then (view pass.old) message (view pass.new))) }
+        ensures finished { IfOk result (λ answer. OnOk answer (ticket.new ≡ None)) }
         ensures refused { IfOk result (λ answer. IfErr answer
             (λ error. (message_of error ≡ message) × (view pass.new ≡ view pass.old)
             × Refuses P.fits (L.fact (view pass.old)) error)) }
+        ensures closed { IfOk result (λ answer. IfErr answer
+            (λ error. IfClosed error (ticket.new ≡ None))) }
         ensures waits { IfOk result (λ answer. IfErr answer (λ error. IfFull error
             ((w : Mark) × W.waits_by cx.new self.now.source.id w × IsSome ticket.new))) }
         ensures keeps { W.keeps cx.old cx.new }
         ensures memory { IfErr result
             (λ error. (error.0 ≡ message) × (view pass.new ≡ view pass.old)
             × WantsToSend P.fits (L.fact (view pass.old))) }
+        ensures unpolled { OnErr result (ticket.new ≡ ticket.old) }
     {
         let held = self.mutex.lock(rt, pass);
         let mut bell = Ringer::new(rt);
@@ -167,22 +224,41 @@ impl<T: Drop, V, P: Protocol<T, V>> RuledChannel<T, V, P> {
                 Ok(Err(TrySendError::Full(waiting.unwrap())))
             }
             Err(OutOfMemory) => {
-                core.cancel_send(ticket, &mut bell);
                 self.give_back::<Kept<P, L>, R>(pass, held, bell);
                 Err(NoMemory(waiting.unwrap()))
             }
         }
     }
 
-    /// `try_recv_as`, which leaves its mark in the list if the channel is empty.
-    pub(crate) fn recv_or_wait<M, E, R, C, W>(
+    /// Polls a receive: `try_recv_as`, which leaves a mark in the list of receives if the channel is
+    /// empty and open.
+    ///
+    /// It is for who keeps the receive's ticket and its waiter. A pending poll leaves a ticket, and
+    /// a ready one none. If memory was refused the ticket is as it was, and its entry stays;
+    /// `give_up_recv` takes it out.
+    ///
+    /// ```
+    /// let (channel, mut pass) = bounded_with::<u64, (), Unruled>(rt.alloc(), 1)?;
+    /// let (mut ticket, mut sleeper) = (None, Sleeper::new());
+    /// let polled = channel.recv_or_wait_as::<Unruled, Unruled, _, _, _>(
+    ///     &rt,
+    ///     &mut pass,
+    ///     &mut ticket,
+    ///     &mut sleeper,
+    ///     &mut (),
+    /// )?;
+    /// assert!(rt; polled.is_pending());
+    /// channel.give_up_recv(&rt, &mut pass, &mut ticket);
+    /// ```
+    #[inline(always)]
+    pub fn recv_or_wait_as<M, E, R, C, W>(
         &self,
         rt: &R,
         pass: &mut Pass<T, V>,
         ticket: &mut Option<Ticket>,
         waiter: &mut W,
         cx: &mut C,
-    ) -> Result<Result<T, TryRecvError>, OutOfMemory>
+    ) -> Result<Poll<Result<T, RecvError>>, OutOfMemory>
     where
         M: Received<T, V>,
         E: AtEnd<V>,
@@ -192,16 +268,19 @@ impl<T: Drop, V, P: Protocol<T, V>> RuledChannel<T, V, P> {
         requires rule { Receives P.holds (number pass.old) (view pass.old) M.then }
         requires end { Ends P.holds (number pass.old) (view pass.old) E.then }
         ensures own { IsPassOf self.now pass.new × IsSamePass pass.old pass.new }
-        ensures received { IfOk result (λ answer. IfOk answer
-            (λ message. M.then (view pass.old) message (view pass.new))) }
-        ensures refused { IfOk result (λ answer. IfErr answer
-            (λ error. FindsNone E.then (Fitted P.holds (view pass.old))
-            (view pass.old) (view pass.new) error)) }
-        ensures waits { IfOk result (λ answer. IfErr answer (λ error. IfEmpty error
-            ((w : Mark) × W.waits_by cx.new self.now.source.id w × IsSome ticket.new))) }
+        ensures received { IfOk result (λ poll. IfReady poll (λ answer. IfOk answer
+            (λ message. M.then (view pass.old) message (view pass.new)))) }
+        ensures end { IfOk result (λ poll. IfReady poll (λ answer. IfErr answer
+            (λ _. E.then (view pass.old) (view pass.new)))) }
+        ensures finished { OnReady result (ticket.new ≡ None) }
+        ensures empty { OnWait result ((view pass.new ≡ view pass.old)
+            × Fitted P.holds (view pass.old) [] false) }
+        ensures waits { OnWait result ((w : Mark) × W.waits_by cx.new self.now.source.id w
+            × IsSome ticket.new) }
         ensures keeps { W.keeps cx.old cx.new }
         ensures memory { OnErr result ((view pass.new ≡ view pass.old)
             × Fitted P.holds (view pass.old) [] false) }
+        ensures unpolled { OnErr result (ticket.new ≡ ticket.old) }
     {
         let held = self.mutex.lock(rt, pass);
         let mut bell = Ringer::new(rt);
@@ -209,26 +288,112 @@ impl<T: Drop, V, P: Protocol<T, V>> RuledChannel<T, V, P> {
         match self.poll_recv(core, ticket, waiter, cx, &mut bell) {
             Ok(Poll::Ready(Ok(message))) => {
                 self.give_back::<Popped<M>, R>(pass, held, bell);
-                Ok(Ok(message))
+                Ok(Poll::Ready(Ok(message)))
             }
             Ok(Poll::Ready(Err(RecvError))) => {
                 self.give_back::<Ended<E>, R>(pass, held, bell);
-                Ok(Err(TryRecvError::Closed))
+                Ok(Poll::Ready(Err(RecvError)))
             }
             Ok(Poll::Pending) => {
                 self.give_back::<Kept<P, Seen<P>>, R>(pass, held, bell);
-                Ok(Err(TryRecvError::Empty))
+                Ok(Poll::Pending)
             }
             Err(OutOfMemory) => {
-                core.cancel_recv(ticket, &mut bell);
                 self.give_back::<Kept<P, Seen<P>>, R>(pass, held, bell);
                 Err(OutOfMemory)
             }
         }
     }
 
-    /// Whether no receiver is left. If one is, its mark is left in the list.
-    pub(crate) fn closed_or_wait<R, C, W>(
+    /// Polls a stream, which waits in the list of streams if the channel is empty and open.
+    ///
+    /// It is for who keeps the stream's ticket and its waiter. A pending poll leaves a ticket, and
+    /// a ready one none. If memory was refused the ticket is as it was, and its entry stays, until
+    /// a receiver is given up with it.
+    ///
+    /// ```
+    /// let (channel, mut pass) = bounded_with::<u64, (), Unruled>(rt.alloc(), 1)?;
+    /// assert!(rt; channel.close_as::<Unruled, _>(&rt, &mut pass));
+    /// let (mut ticket, mut sleeper) = (None, Sleeper::new());
+    /// let polled = channel.next_or_wait_as::<Unruled, Unruled, _, _, _>(
+    ///     &rt,
+    ///     &mut pass,
+    ///     &mut ticket,
+    ///     &mut sleeper,
+    ///     &mut (),
+    /// )?;
+    /// assert_eq!(rt; polled, Poll::Ready(None));
+    /// ```
+    pub fn next_or_wait_as<M, E, R, C, W>(
+        &self,
+        rt: &R,
+        pass: &mut Pass<T, V>,
+        ticket: &mut Option<Ticket>,
+        waiter: &mut W,
+        cx: &mut C,
+    ) -> Result<Poll<Option<T>>, OutOfMemory>
+    where
+        M: Received<T, V>,
+        E: AtEnd<V>,
+        R: Wait,
+        W: Waiter<C>,
+        requires own { IsPassOf self.now pass.old }
+        requires rule { Receives P.holds (number pass.old) (view pass.old) M.then }
+        requires end { Ends P.holds (number pass.old) (view pass.old) E.then }
+        ensures own { IsPassOf self.now pass.new × IsSamePass pass.old pass.new }
+        ensures received { IfOk result (λ poll. IfReady poll (λ next. IfSome next
+            (λ message. M.then (view pass.old) message (view pass.new)))) }
+        ensures end { IfOk result (λ poll. IfReady poll (λ next. IfNone next
+            (E.then (view pass.old) (view pass.new)))) }
+        ensures finished { OnReady result (ticket.new ≡ None) }
+        ensures empty { OnWait result ((view pass.new ≡ view pass.old)
+            × Fitted P.holds (view pass.old) [] false) }
+        ensures waits { OnWait result ((w : Mark) × W.waits_by cx.new self.now.source.id w
+            × IsSome ticket.new) }
+        ensures keeps { W.keeps cx.old cx.new }
+        ensures memory { OnErr result ((view pass.new ≡ view pass.old)
+            × Fitted P.holds (view pass.old) [] false) }
+        ensures unpolled { OnErr result (ticket.new ≡ ticket.old) }
+    {
+        let held = self.mutex.lock(rt, pass);
+        let mut bell = Ringer::new(rt);
+        let core = pass.value_mut(&self.mutex, &held);
+        match self.poll_next(core, ticket, waiter, cx, &mut bell) {
+            Ok(Poll::Ready(Some(message))) => {
+                self.give_back::<Popped<M>, R>(pass, held, bell);
+                Ok(Poll::Ready(Some(message)))
+            }
+            Ok(Poll::Ready(None)) => {
+                self.give_back::<Ended<E>, R>(pass, held, bell);
+                Ok(Poll::Ready(None))
+            }
+            Ok(Poll::Pending) => {
+                self.give_back::<Kept<P, Seen<P>>, R>(pass, held, bell);
+                Ok(Poll::Pending)
+            }
+            Err(OutOfMemory) => {
+                self.give_back::<Kept<P, Seen<P>>, R>(pass, held, bell);
+                Err(OutOfMemory)
+            }
+        }
+    }
+
+    /// Polls a wait for the last receiver: it is ready if none is left, and else leaves a mark in
+    /// the list of those who wait for that.
+    ///
+    /// It is for who keeps the ticket and the waiter of the wait. A pending poll leaves a ticket,
+    /// and a ready one none. If memory was refused the ticket is as it was, and its entry stays;
+    /// `give_up_closed` takes it out.
+    ///
+    /// ```
+    /// let (channel, mut pass) = bounded_with::<u64, (), Unruled>(rt.alloc(), 1)?;
+    /// let (mut ticket, mut sleeper) = (None, Sleeper::new());
+    /// let polled =
+    ///     channel.closed_or_wait(&rt, &mut pass, &mut ticket, &mut sleeper, &mut ())?;
+    /// assert!(rt; polled.is_pending());
+    /// channel.give_up_closed(&rt, &mut pass, &mut ticket);
+    /// ```
+    pub fn closed_or_wait<R, C, W>(
         &self,
         rt: &R,
         pass: &mut Pass<T, V>,
@@ -242,35 +407,30 @@ impl<T: Drop, V, P: Protocol<T, V>> RuledChannel<T, V, P> {
         requires { IsPassOf self.now pass.old }
         ensures own { IsPassOf self.now pass.new × IsSamePass pass.old pass.new }
         ensures same { view pass.new ≡ view pass.old }
+        ensures finished { OnReady result (ticket.new ≡ None) }
         ensures waits { OnWait result ((w : Mark) × W.waits_by cx.new self.now.source.id w
             × IsSome ticket.new) }
         ensures keeps { W.keeps cx.old cx.new }
+        ensures unpolled { OnErr result (ticket.new ≡ ticket.old) }
     {
         let held = self.mutex.lock(rt, pass);
         let core = pass.value_mut(&self.mutex, &held);
-        match self.poll_closed(rt, core, ticket, waiter, cx) {
-            Ok(polled) => {
-                self.mutex.unlock_as::<Kept<P, Unruled>>(pass, held);
-                Ok(polled)
-            }
-            Err(refused) => {
-                core.cancel_closed(ticket);
-                self.mutex.unlock_as::<Kept<P, Unruled>>(pass, held);
-                Err(refused)
-            }
-        }
+        let polled = self.poll_closed(rt, core, ticket, waiter, cx);
+        self.mutex.unlock_as::<Kept<P, Unruled>>(pass, held);
+        polled
     }
 
-    /// Who waits to send waits no more; a notice that it had goes on.
-    pub(crate) fn give_up_send<R: Wait>(
-        &self,
-        rt: &R,
-        pass: &mut Pass<T, V>,
-        ticket: &mut Option<Ticket>,
-    )
+    /// Who waits to send waits no more; a notice that it had goes on to the next one.
+    ///
+    /// ```
+    /// let (channel, mut pass) = bounded_with::<u64, (), Unruled>(rt.alloc(), 1)?;
+    /// channel.give_up_send(&rt, &mut pass, &mut None);
+    /// ```
+    pub fn give_up_send<R: Wait>(&self, rt: &R, pass: &mut Pass<T, V>, ticket: &mut Option<Ticket>)
         requires { IsPassOf self.now pass.old }
         ensures own { IsPassOf self.now pass.new × IsSamePass pass.old pass.new }
         ensures same { view pass.new ≡ view pass.old }
+        ensures ticket { ticket.new ≡ None }
     {
         let held = self.mutex.lock(rt, pass);
         let mut bell = Ringer::new(rt);
@@ -279,16 +439,17 @@ impl<T: Drop, V, P: Protocol<T, V>> RuledChannel<T, V, P> {
         self.give_back::<Kept<P, Unruled>, R>(pass, held, bell);
     }
 
-    /// Who waits to receive waits no more; a notice that it had goes on.
-    pub(crate) fn give_up_recv<R: Wait>(
-        &self,
-        rt: &R,
-        pass: &mut Pass<T, V>,
-        ticket: &mut Option<Ticket>,
-    )
+    /// Who waits to receive waits no more; a notice that it had goes on to the next one.
+    ///
+    /// ```
+    /// let (channel, mut pass) = bounded_with::<u64, (), Unruled>(rt.alloc(), 1)?;
+    /// channel.give_up_recv(&rt, &mut pass, &mut None);
+    /// ```
+    pub fn give_up_recv<R: Wait>(&self, rt: &R, pass: &mut Pass<T, V>, ticket: &mut Option<Ticket>)
         requires { IsPassOf self.now pass.old }
         ensures own { IsPassOf self.now pass.new × IsSamePass pass.old pass.new }
         ensures same { view pass.new ≡ view pass.old }
+        ensures ticket { ticket.new ≡ None }
     {
         let held = self.mutex.lock(rt, pass);
         let mut bell = Ringer::new(rt);
@@ -298,7 +459,12 @@ impl<T: Drop, V, P: Protocol<T, V>> RuledChannel<T, V, P> {
     }
 
     /// Who waits for the last receiver waits no more.
-    pub(crate) fn give_up_closed<R: Wait>(
+    ///
+    /// ```
+    /// let (channel, mut pass) = bounded_with::<u64, (), Unruled>(rt.alloc(), 1)?;
+    /// channel.give_up_closed(&rt, &mut pass, &mut None);
+    /// ```
+    pub fn give_up_closed<R: Wait>(
         &self,
         rt: &R,
         pass: &mut Pass<T, V>,
@@ -307,6 +473,7 @@ impl<T: Drop, V, P: Protocol<T, V>> RuledChannel<T, V, P> {
         requires { IsPassOf self.now pass.old }
         ensures own { IsPassOf self.now pass.new × IsSamePass pass.old pass.new }
         ensures same { view pass.new ≡ view pass.old }
+        ensures ticket { ticket.new ≡ None }
     {
         let held = self.mutex.lock(rt, pass);
         pass.value_mut(&self.mutex, &held).cancel_closed(ticket);

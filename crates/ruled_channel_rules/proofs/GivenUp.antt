@@ -1,7 +1,7 @@
 -- What is left of a send that is given up.
 use Rattle.std.proofs.Common.{◌≡◌, Option, Some, None, Err, rules, inl}
 use Rattle.channel_core.specs.Channel.{Channel as Core}
-use Rattle.channel_wakers.specs.declared.mark.Mark.{Mark}
+use Rattle.ruled_channel.specs.declared.mark.Mark.{Mark}
 use Rattle.ruled_mutex.specs.declared.pass.Pass.{Pass}
 use Rattle.ruled_channel.specs.declared.channel.RuledChannel.{RuledChannel}
 use Rattle.ruled_channel.specs.Sending.{AreBack}

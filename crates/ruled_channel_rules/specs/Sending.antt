@@ -3,7 +3,7 @@ use Rattle.std.specs.Prelude.{◌≡◌, true, [], ◌∷◌, ◌++◌, Option, 
 use Rattle.channel_core.specs.Channel.{Channel as Core}
 use Rattle.channel_model.specs.declared.errors.NoMemory.{NoMemory}
 use Rattle.channel_model.specs.declared.errors.SendError.{SendError}
-use Rattle.channel_wakers.specs.declared.mark.Mark.{Mark}
+use Rattle.ruled_channel.specs.declared.mark.Mark.{Mark}
 use Rattle.ruled_mutex.specs.declared.pass.Pass.{Pass}
 use Rattle.ruled_channel.specs.declared.channel.RuledChannel.{RuledChannel}
 use Rattle.ruled_channel.specs.Sending.{MaySend as MayPoll, GivesSent}

@@ -1,0 +1,10 @@
+use Rattle.std.proofs.Common.{◌∙◌}
+use Rattle.ruled_mutex.specs.Passes.{found}
+use Rattle.ruled_channel.proofs.Dropped.{receiver_keeps}
+use Rattle.ruled_channel.proofs.Steps.{keeps}
+use Rattle.ruled_channel.proofs.channel.RuledChannel.drop_receiver_with_as.Goals as goal
+
+pub give_back-requires-else-has_closed-clause-rule : goal.give_back-requires-else-has_closed-clause-rule
+give_back-requires-else-has_closed-clause-rule g c = let same = c.lock-held.ensures.same in let shows = c.value_mut-core.ensures.value ∙ c.lock-held.ensures.held.1 in
+    keeps c.value_mut-core.result.now c.drop_receiver-has_closed.new.self g.P.Protocol.fits g.P.Protocol.holds (found c.lock-held.result) (λ _ _ _. Unit {0}) _ _ _ _ same.0.1 same.1 shows
+    (receiver_keeps _ _ c.args.stream.now c.if-has_closed.ensures.reply c.if-has_closed.ensures.after) (λ _ _ _ _ _. tt)

@@ -1,0 +1,87 @@
+//! The bell of a locked channel.
+//!
+//! A step under the lock rings it with the marks of those whom it tells. It keeps the first mark,
+//! without an allocation, until the lock is free, so that who is woken doesn't run into it; further
+//! marks are woken under the lock.
+ghost use Rattle.std.specs.Prelude.{◌≡◌, ◌++◌, [], drop, take};
+
+use crate::mark::{Mark, Woken};
+use channel_core::Bell;
+use std::marker::Model;
+use std::sync::Wait;
+
+/// A bell that wakes each mark that it is rung with.
+///
+/// It can't be dropped: who takes it apart has to wake the first one.
+pub(crate) struct Ringer<'a, R: Wait> {
+    rt: &'a R,
+    // What it was rung with first, which isn't woken yet.
+    first: Option<Mark>,
+    // Those that it was rung with after the first.
+    woken: Woken,
+}
+
+/// The marks that it was rung with, in order.
+impl<'a, R: Wait> Model for Ringer<'a, R> {
+    ghost use Rattle.std.specs.Prelude.{◌≡◌, List, [], None};
+    ghost use Rattle.ruled_channel.specs.declared.mark.Mark.{Mark};
+    ghost use Rattle.ruled_channel.specs.Rung.{rung_with};
+
+    ghost Value = { List Mark };
+
+    ghost view = { λ ringer. rung_with ringer.first ringer.woken };
+
+    ghost invariant = { λ ringer. ringer.first ≡ None → ringer.woken ≡ [] };
+}
+
+impl<'a, R: Wait> Ringer<'a, R> {
+    /// One that wasn't rung yet.
+    #[inline(always)]
+    pub(crate) fn new(rt: &'a R) -> Ringer<'a, R>
+        ensures { result ≡ [] }
+    {
+        Ringer {
+            rt,
+            first: None,
+            woken: Woken::nobody(),
+        }
+    }
+
+    /// By what it wakes and sleeps.
+    #[inline(always)]
+    pub(crate) fn runtime(&self) -> &'a R {
+        self.rt
+    }
+
+    /// Wakes the first one, once the lock was given back. The answer is who was woken in all, the
+    /// first one last.
+    #[inline(always)]
+    pub(crate) fn wake_after<L>(self, _lock: &L) -> Woken
+        ensures { result ≡ drop 1 self.entry ++ take 1 self.entry }
+    {
+        let Self {
+            rt,
+            first,
+            mut woken,
+        } = self;
+        if let Some(mark) = first {
+            mark.wake(rt, &mut woken);
+        }
+        woken
+    }
+}
+
+/// A mark is woken, or kept as the first one.
+impl<R: Wait> Bell<Mark> for Ringer<'_, R> {
+    ghost use Rattle.std.specs.Prelude.{◌≡◌, ◌++◌, ◌∷◌, []};
+
+    ghost rings = { λ before mark after. after ≡ before ++ mark ∷ [] };
+
+    fn ring(&mut self, w: Mark) {
+        if self.first.is_some() {
+            w.wake(self.rt, &mut self.woken);
+        } else {
+            self.first = Some(w);
+        }
+    }
+}
