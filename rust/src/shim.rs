@@ -4,7 +4,10 @@
 //! Memory isn't refused here. If there is none the program ends, as with every collection of
 //! `std`, so that an answer which tells of a refusal can't be made.
 
-use std::collections::HashMap;
+mod blocks;
+
+use blocks::Blocks;
+use std::collections::{HashMap, VecDeque as Ring};
 
 /// Where memory comes from: the one allocator of a program.
 #[derive(Clone, Copy)]
@@ -47,9 +50,9 @@ fn is_sparse(values: usize, room: usize) -> bool {
 pub struct Over<C, K = Global>(C, K);
 pub type BTreeMap<K, V> = Over<std::collections::BTreeMap<K, V>>;
 pub type Vec<T> = Over<std::vec::Vec<T>>;
-pub type VecDeque<T, A> = Over<std::collections::VecDeque<T>, A>;
+pub type VecDeque<T, A> = Over<Blocks<T>, A>;
 /// A queue that never holds more than its number, for which it has room from the start.
-pub type HeapCircularBuffer<T> = VecDeque<T, usize>;
+pub type HeapCircularBuffer<T> = Over<Ring<T>, usize>;
 
 impl<C, K> std::ops::Deref for Over<C, K> {
     type Target = C;
@@ -74,10 +77,13 @@ impl<C: Default> Over<C> {
         Over(C::default(), alloc)
     }
     /// Lets `work` have the caller's own collection. None of its values is moved for that.
-    pub fn lent<A>(collection: &mut C, work: impl FnOnce(&mut Self) -> A) -> A {
-        let mut over = Over(std::mem::take(collection), Global);
+    pub fn lent<D, A>(collection: &mut D, work: impl FnOnce(&mut Self) -> A) -> A
+    where
+        D: Default + From<C> + Into<C>,
+    {
+        let mut over = Over(std::mem::take(collection).into(), Global);
         let answer = work(&mut over);
-        *collection = over.0;
+        *collection = over.0.into();
         answer
     }
 }
@@ -203,7 +209,7 @@ impl<T> VecDeque<T, Global> {
 }
 impl<T> HeapCircularBuffer<T> {
     pub fn with_capacity(_: Global, capacity: usize) -> Result<Self, Refused<()>> {
-        Ok(Over(std::collections::VecDeque::with_capacity(capacity), capacity))
+        Ok(Over(Ring::with_capacity(capacity), capacity))
     }
     pub fn try_push_back(&mut self, value: T) -> Result<(), T> {
         if self.0.len() == self.1 {

@@ -18,6 +18,8 @@ const FEW_KB: isize = 8 << 10;
 thread_local! {
     /// How many bytes this thread took and hasn't given back, and how often it took some.
     static TAKEN: Cell<(isize, usize)> = const { Cell::new((0, 0)) };
+    /// The most bytes that it took or gave back at once.
+    static MOST: Cell<usize> = const { Cell::new(0) };
 }
 
 struct Counting;
@@ -27,6 +29,7 @@ fn count(bytes: isize) {
         let (sum, times) = taken.get();
         taken.set((sum + bytes, times + usize::from(bytes > 0)));
     });
+    let _ = MOST.try_with(|most| most.set(most.get().max(bytes.unsigned_abs())));
 }
 
 // SAFETY: each call is the system's own.
@@ -126,7 +129,7 @@ fn a_queue_that_isn_t_empty_gives_memory_back_and_seldom_asks_for_some() {
     for left in [1, 10_000] {
         (0..MESSAGES).for_each(|message| s.try_send(message).unwrap());
         assert!((0..MESSAGES - left).all(|message| r.try_recv() == Ok(message)));
-        assert!(taken().0 - before.0 <= FEW_KB / 2 + 4 * 8 * left as isize);
+        assert!(taken().0 - before.0 <= FEW_KB + 9 * left as isize);
         let full = taken();
         for message in MESSAGES..2 * MESSAGES {
             s.try_send(message).unwrap();
@@ -135,7 +138,27 @@ fn a_queue_that_isn_t_empty_gives_memory_back_and_seldom_asks_for_some() {
         assert!(taken().1 - full.1 <= 1);
         assert!((0..left).all(|_| r.try_recv().is_ok()));
     }
-    assert!(taken().1 - before.1 <= 100);
+    assert!(taken().1 - before.1 <= 2 * MESSAGES as usize / 500);
+}
+
+#[test]
+fn no_call_takes_or_gives_back_much_memory_at_once() {
+    const MESSAGES: u64 = 1_000_000;
+    let (s, r) = unbounded();
+    MOST.with(|most| most.set(0));
+    (0..MESSAGES).for_each(|message| s.try_send(message).unwrap());
+    assert!((0..MESSAGES).all(|message| r.try_recv() == Ok(message)));
+    assert!(MOST.with(Cell::get) <= 8 * MESSAGES as usize / 100);
+}
+
+#[test]
+fn a_short_queue_takes_little() {
+    let (s, _r) = unbounded();
+    let before = taken().0;
+    for count in 1..=500 {
+        s.try_send(count as u64).unwrap();
+        assert!(taken().0 - before <= 16 * count.max(4));
+    }
 }
 
 #[test]
@@ -179,7 +202,7 @@ fn a_queue_that_grows_asks_for_memory_seldom() {
     let (s, _r) = unbounded();
     let before = taken().1;
     (0..100_000).for_each(|message: u64| s.try_send(message).unwrap());
-    assert!((10..=20).contains(&(taken().1 - before)));
+    assert!((10..=100_000 / 400).contains(&(taken().1 - before)));
 }
 
 /// Each of `waits` is polled once and waits, and then all are given up.

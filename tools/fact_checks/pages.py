@@ -12,7 +12,7 @@ PARTS = {
     '| the proved source, erased; the gate compares the bytes',
     'hand': 'the rest of `src`: handles and their counts, futures, batches, the lock, wakers, '
     'blocking calls | {} | by hand, and tested',
-    'shim': '`src/shim.rs`: slab, box, queue and list over std and slab | {} '
+    'shim': '`src/shim`: slab, box, queue and list over std and slab | {} '
     '| by hand, and tested; the proofs assume it',
 }
 
@@ -46,9 +46,9 @@ def part_of(path):
     if any(path.is_relative_to(it) for it in UNPACKED):
         return None
     inside = path.relative_to(RUST).with_suffix('').parts
-    if inside[0] == 'proved' or inside == ('shim',):
-        return inside[0]
-    return None if 'tests' in inside else 'hand'
+    if 'tests' in inside:
+        return None
+    return inside[0] if inside[0] in PARTS else 'hand'
 
 
 def lines():

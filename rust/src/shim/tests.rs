@@ -1,6 +1,7 @@
 //! What the proofs rely on, each rule once.
 
 use super::{BTreeMap, Blank, Brand, Global, HeapCircularBuffer, Over, Slab, Vec, VecDeque, KEPT};
+use std::collections::VecDeque as Ring;
 
 /// The source never asks for more than it may, and never looks up a key that it wasn't given.
 fn slab_of(values: &[u64]) -> Slab<u64> {
@@ -173,9 +174,56 @@ fn a_list_that_was_lent_is_the_callers_own() {
     let place = list.as_ptr();
     assert!(Over::lent(&mut list, |list: &mut Vec<_>| list.push(2).is_ok()));
     assert_eq!((&list[..], list.as_ptr()), (&[1, 2][..], place));
-    let mut queue = std::collections::VecDeque::from([1, 2]);
+    let mut queue = Ring::from([1, 2]);
     let first = Over::lent(&mut queue, |queue: &mut VecDeque<_, Global>| queue.pop_front());
     assert_eq!((first, queue), (Some(1), [2].into()));
+}
+
+#[test]
+fn what_a_queue_was_lent_is_all_there_after_it() {
+    let mut values: Ring<_> = (0..5_000_u64).collect();
+    Over::lent(&mut values, |queue: &mut VecDeque<_, Global>| {
+        assert!((0..5).all(|value| queue.pop_front() == Some(value)));
+        assert!((5_000..10_000).all(|value| queue.push_back(value).is_ok()));
+        queue.push_front_reserved(4);
+    });
+    assert!(values.into_iter().eq(4..10_000));
+}
+
+/// Queues of values of these bytes are as long as `lengths` says, one after the other.
+fn goes_through<const BYTES: usize>(lengths: &[usize]) {
+    let value = |number: usize| {
+        let mut value = [0_u8; BYTES];
+        value.iter_mut().zip(number.to_le_bytes()).for_each(|(place, byte)| *place = byte);
+        value
+    };
+    let (mut queue, mut first, mut next) = (VecDeque::<_, Global>::new(Global), 0, 0);
+    for length in lengths {
+        while next - first < *length {
+            assert!(queue.push_back(value(next)).is_ok());
+            next += 1;
+        }
+        while next - first > *length {
+            assert!(queue.pop_front() == Some(value(first)));
+            first += 1;
+            let used = queue.len();
+            queue.shrink_to(2 * used);
+        }
+        assert!(queue.len() == *length && *length <= queue.capacity());
+        assert!((0..*length).all(|place| queue.get(place) == Some(&value(first + place))));
+        assert!(queue.get(*length).is_none());
+    }
+    assert!(queue.len() > 0 || queue.pop_front().is_none());
+}
+
+#[test]
+fn a_queue_of_any_length_keeps_the_order() {
+    let lengths = [0, 3, 0, 4, 1, 5, 4, 8, 0, 9, 3, 20, 7, 600, 512, 1_100, 511, 513, 0, 2_000, 0];
+    goes_through::<0>(&lengths);
+    goes_through::<1>(&[5_000, 4_096, 20_000, 4_097, 10, 0]);
+    goes_through::<8>(&lengths);
+    goes_through::<24>(&lengths);
+    goes_through::<3_000>(&lengths);
 }
 
 #[test]

@@ -10,14 +10,13 @@ use vamorilesh::{SendError, TryRecvError, TrySendError};
 use crate::lines::{Answer, Line};
 use crate::runs::Runs;
 
-/// The run's own lists of messages.
+/// The run's own list of messages.
 type List = Over<Vec<u64>>;
-type Queue = Over<VecDeque<u64>>;
 
 /// An operation of many messages. To the run it is a receive or a send of one.
 pub enum Batch {
     Receive { receiver: u64, into: List, limit: usize },
-    Send { sender: u64, left: Queue, sent: usize },
+    Send { sender: u64, left: VecDeque<u64>, sent: usize },
 }
 
 impl Runs {
@@ -30,17 +29,14 @@ impl Runs {
                 let answer = self.receive(receiver, &mut into, limit)?;
                 Some(Answer::TryReceived(answer, into.to_vec()))
             }
-            Line::TrySendMany { sender, messages } => {
-                let mut from = queue(messages);
+            Line::TrySendMany { sender, messages: mut from } => {
                 let answer = self.send(sender, &mut from)?;
                 Some(Answer::TrySent(answer, from.clone()))
             }
             Line::RecvManyBlocking { receiver, before, limit } => {
                 self.receive_blocking(receiver, list(before), limit)
             }
-            Line::SendManyBlocking { sender, messages } => {
-                self.send_blocking(sender, queue(messages))
-            }
+            Line::SendManyBlocking { sender, messages } => self.send_blocking(sender, messages),
             Line::TryIter { receiver, limit } => {
                 let mut into = list(Vec::new());
                 let _ = self.receive(receiver, &mut into, limit)?;
@@ -52,7 +48,7 @@ impl Runs {
             }
             Line::StartSendMany { op, sender, messages } => {
                 let msg = first_of(&messages);
-                let batch = Batch::Send { sender, left: queue(messages), sent: 0 };
+                let batch = Batch::Send { sender, left: messages, sent: 0 };
                 self.start(Step::StartSend { op, sender, msg }, op, batch)
             }
             Line::IntoUnsent(op) => self.unsent(op),
@@ -76,9 +72,14 @@ impl Runs {
     }
 
     /// The run's batch, and as many single sends.
-    fn send(&mut self, sender: u64, from: &mut Queue) -> Option<Result<usize, TrySendError<()>>> {
+    fn send(
+        &mut self,
+        sender: u64,
+        from: &mut VecDeque<u64>,
+    ) -> Option<Result<usize, TrySendError<()>>> {
         let messages = from.clone();
-        let answer = self.run.try_send_many(sender, from, usize::MAX).ok()?;
+        let send = |from: &mut _| self.run.try_send_many(sender, from, usize::MAX);
+        let answer = Over::lent(from, send).ok()?;
         for message in messages.iter().take(answer.unwrap_or(0)) {
             let single = self.step_single(Step::TrySend(sender, *message));
             assert_eq!(single, Reply::TrySent(Ok(())), "a batch sends in turn");
@@ -100,7 +101,7 @@ impl Runs {
     }
 
     /// A send that doesn't wait. With no message it makes no step.
-    fn send_blocking(&mut self, sender: u64, mut from: Queue) -> Option<Answer> {
+    fn send_blocking(&mut self, sender: u64, mut from: VecDeque<u64>) -> Option<Answer> {
         let count = from.len();
         if count == 0 {
             return Some(Answer::Sent(Poll::Ready(Ok(())), 0));
@@ -147,7 +148,7 @@ impl Runs {
                 if polled.is_ready() {
                     self.finished.insert(op);
                 }
-                Answer::Sent(polled.map_err(|SendError(())| left.drain(..).collect()), *sent)
+                Answer::Sent(polled.map_err(|SendError(())| std::mem::take(left)), *sent)
             }
         };
         self.batches.insert(op, batch);
@@ -182,7 +183,7 @@ impl Runs {
         &mut self,
         op: u64,
         sender: u64,
-        left: &mut Queue,
+        left: &mut VecDeque<u64>,
     ) -> Poll<Result<(), SendError<()>>> {
         while !left.is_empty() {
             match self.step(Step::Poll(op)) {
@@ -216,12 +217,6 @@ fn list(messages: Vec<u64>) -> List {
     let mut list = List::new(Global);
     list.extend(messages);
     list
-}
-
-fn queue(messages: VecDeque<u64>) -> Queue {
-    let mut queue = Queue::new(Global);
-    queue.extend(messages);
-    queue
 }
 
 /// The first message. If there is none, one that is never sent.

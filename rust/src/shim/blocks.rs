@@ -1,0 +1,140 @@
+//! A queue in blocks, of which none is large. No call moves much, or takes or frees much memory, so
+//! that one under a lock keeps nobody out for long.
+
+use super::{is_sparse, Ring};
+use std::mem::{replace, size_of, take};
+
+/// How many bytes a block has room for.
+const BLOCK_BYTES: usize = 4096;
+
+/// How many values it has room for in any case.
+const BLOCK_VALUES: usize = 4;
+
+/// How many values a block holds.
+#[inline]
+fn block_of<T>() -> usize {
+    BLOCK_VALUES.max(BLOCK_BYTES / size_of::<T>().max(1))
+}
+
+/// Values in order, the oldest first. As many as a block holds are one ring, which grows with them.
+/// Later ones come in further blocks, each of which goes as it becomes empty.
+pub struct Blocks<T> {
+    first: Ring<T>,
+    later: Option<Box<Later<T>>>,
+}
+
+/// The blocks after the first, one at least. Each but the last is full.
+struct Later<T> {
+    blocks: Ring<Ring<T>>,
+    /// How many values are in them.
+    values: usize,
+    /// The block that became empty last, if there was one: the next one is made of it.
+    spare: Ring<T>,
+}
+
+impl<T> Default for Later<T> {
+    fn default() -> Self {
+        Later { blocks: Ring::new(), values: 0, spare: Ring::new() }
+    }
+}
+
+impl<T> Later<T> {
+    #[inline]
+    fn push_back(&mut self, value: T) {
+        self.values += 1;
+        match self.blocks.back_mut() {
+            Some(last) if last.len() < block_of::<T>() => last.push_back(value),
+            _ => self.push_block(value),
+        }
+    }
+    fn push_block(&mut self, value: T) {
+        let mut block = take(&mut self.spare);
+        block.reserve_exact(block_of::<T>());
+        block.push_back(value);
+        self.blocks.push_back(block);
+    }
+    /// Puts the oldest block in the place of an empty one.
+    fn pop_block(&mut self, empty: &mut Ring<T>) {
+        if let Some(oldest) = self.blocks.pop_front() {
+            self.values -= oldest.len();
+            self.spare = replace(empty, oldest);
+        }
+        if is_sparse(self.blocks.len(), self.blocks.capacity()) {
+            self.blocks.shrink_to(2 * self.blocks.len());
+        }
+    }
+    fn get(&self, place: usize) -> Option<&T> {
+        self.blocks.get(place / block_of::<T>())?.get(place % block_of::<T>())
+    }
+}
+
+impl<T> Default for Blocks<T> {
+    fn default() -> Self {
+        Ring::new().into()
+    }
+}
+
+/// The values are one block, also if they are many.
+impl<T> From<Ring<T>> for Blocks<T> {
+    fn from(first: Ring<T>) -> Self {
+        Blocks { first, later: None }
+    }
+}
+
+impl<T> From<Blocks<T>> for Ring<T> {
+    fn from(Blocks { mut first, later }: Blocks<T>) -> Self {
+        first.extend(later.into_iter().flat_map(|later| later.blocks).flatten());
+        first
+    }
+}
+
+impl<T> Blocks<T> {
+    #[inline]
+    pub fn push_back(&mut self, value: T) {
+        match &mut self.later {
+            Some(later) => later.push_back(value),
+            None if self.first.len() < block_of::<T>() => self.first.push_back(value),
+            none => none.insert(Box::default()).push_back(value),
+        }
+    }
+    pub fn push_front(&mut self, value: T) {
+        self.first.push_front(value);
+    }
+    #[inline]
+    pub fn pop_front(&mut self) -> Option<T> {
+        let value = self.first.pop_front();
+        if self.first.is_empty() && self.later.is_some() {
+            self.go_on();
+        }
+        value
+    }
+    /// Goes on to the next block.
+    fn go_on(&mut self) {
+        let Some(later) = &mut self.later else { return };
+        later.pop_block(&mut self.first);
+        if later.blocks.is_empty() {
+            self.later = None;
+        }
+    }
+    pub fn get(&self, place: usize) -> Option<&T> {
+        match place.checked_sub(self.first.len()) {
+            None => self.first.get(place),
+            Some(place) => self.later.as_ref()?.get(place),
+        }
+    }
+    #[inline]
+    pub fn len(&self) -> usize {
+        self.first.len() + self.later.as_ref().map_or(0, |later| later.values)
+    }
+    #[inline]
+    pub fn capacity(&self) -> usize {
+        let later = self.later.as_ref().map_or(0, |later| later.blocks.len());
+        self.first.capacity().saturating_add(later.saturating_mul(block_of::<T>()))
+    }
+    /// Further blocks have no room to give back.
+    pub fn shrink_to(&mut self, capacity: usize) {
+        if self.later.is_none() {
+            self.first.shrink_to(capacity);
+        }
+    }
+}
