@@ -1,7 +1,8 @@
 //! Sends and receives beside one another, beside the last drops, closes and upgrades.
 
-use std::future::poll_fn;
+use std::future::{poll_fn, Future};
 use std::pin::Pin;
+use std::task::{Context, Poll};
 
 use futures_core::{FusedStream, Stream};
 use loom::model;
@@ -172,6 +173,78 @@ fn a_receive_given_up_beside_a_send_and_another() {
         assert!(!is_ready(&mut wait, caller(&s)));
         let send = || s.try_send(7).unwrap();
         beside!(send, move || drop(wait), move || assert_eq!(r.recv_blocking(), Ok(7)));
+    });
+}
+
+#[test]
+fn a_send_given_up_beside_a_receive_and_another() {
+    model(|| {
+        let (s, r) = bounded(1);
+        s.try_send(0).unwrap();
+        let (first, waker) = (s.clone(), caller(&s));
+        let mut wait = Box::pin(async move { first.send(1).await.unwrap() });
+        assert!(!is_ready(&mut wait, waker));
+        let receive = || assert_eq!(r.try_recv(), Ok(0));
+        beside!(receive, move || drop(wait), move || s.send_blocking(7).unwrap());
+    });
+}
+
+#[test]
+fn a_send_polled_and_given_up_beside_a_receive_and_a_close() {
+    model(|| {
+        let (s, r) = bounded(1);
+        s.try_send(0).unwrap();
+        let (first, waker, other) = (s.clone(), caller(&s), r.clone());
+        let mut wait = Box::pin(async move { first.send(1).await.is_ok() });
+        assert!(!is_ready(&mut wait, waker.clone()));
+        let mut is_sent = false;
+        let look = || {
+            let polled = wait.as_mut().poll(&mut Context::from_waker(&waker));
+            is_sent = polled == Poll::Ready(true);
+            drop(wait);
+        };
+        let close = move || assert!(s.close());
+        beside!(look, move || assert_eq!(other.try_recv(), Ok(0)), close);
+        assert_eq!(r.try_recv(), if is_sent { Ok(1) } else { Err(TryRecvError::Closed) });
+    });
+}
+
+#[test]
+fn a_forced_send_beside_a_receive_and_a_send() {
+    model(|| {
+        let (s, r) = bounded(1);
+        let (forces, sends) = (s.clone(), s.clone());
+        let force = loom::thread::spawn(move || forces.force_send(2).unwrap());
+        let send = loom::thread::spawn(move || sends.send_blocking(1).unwrap());
+        let taken = r.recv_blocking().unwrap();
+        let displaced = force.join().unwrap();
+        send.join().unwrap();
+        let ends = [(1, None, Ok(2)), (2, None, Ok(1)), (2, Some(1), Err(TryRecvError::Empty))];
+        assert!(ends.contains(&(taken, displaced, r.try_recv())));
+        drop(s);
+    });
+}
+
+#[test]
+fn a_forced_send_displaces_one_message_beside_a_receive_and_a_send() {
+    model(|| {
+        let (s, r) = bounded(1);
+        s.try_send(0).unwrap();
+        let (forces, sends) = (s.clone(), s.clone());
+        let force = loom::thread::spawn(move || forces.force_send(2).unwrap());
+        let send = loom::thread::spawn(move || sends.send_blocking(1).unwrap());
+        let mut taken = vec![r.recv_blocking().unwrap()];
+        let displaced = force.join().unwrap();
+        while taken.len() + displaced.iter().len() < 3 {
+            taken.push(r.recv_blocking().unwrap());
+        }
+        send.join().unwrap();
+        match displaced {
+            None => assert!(taken == [0, 1, 2] || taken == [0, 2, 1]),
+            Some(0) => assert_eq!(taken, [2, 1]),
+            Some(other) => assert_eq!((other, taken), (1, vec![0, 2])),
+        }
+        drop(s);
     });
 }
 
