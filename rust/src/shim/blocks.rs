@@ -2,7 +2,7 @@
 //! that one under a lock keeps nobody out for long.
 
 use super::{is_sparse, Ring};
-use std::mem::{replace, size_of, take};
+use std::mem::{replace, size_of, swap, take};
 
 /// How many bytes a block has room for.
 const BLOCK_BYTES: usize = 4096;
@@ -24,17 +24,23 @@ pub struct Blocks<T> {
 }
 
 /// The blocks after the first, one at least. Each but the last is full.
+///
+/// While they become fewer, the newest move into those that become empty, each once, and their
+/// memory goes, the last taken first. So an allocator that gives its end back to the system can do it
+/// bit by bit.
 struct Later<T> {
     blocks: Ring<Ring<T>>,
     /// How many values are in them.
     values: usize,
     /// The block that became empty last, if there was one: the next one is made of it.
     spare: Ring<T>,
+    /// How many of the newest have moved.
+    moved: usize,
 }
 
 impl<T> Default for Later<T> {
     fn default() -> Self {
-        Later { blocks: Ring::new(), values: 0, spare: Ring::new() }
+        Later { blocks: Ring::new(), values: 0, spare: Ring::new(), moved: 0 }
     }
 }
 
@@ -49,6 +55,7 @@ impl<T> Later<T> {
     }
     fn push_block(&mut self, value: T) {
         let mut block = take(&mut self.spare);
+        self.moved = if block.capacity() == 0 { 0 } else { self.moved + 1 };
         block.reserve_exact(block_of::<T>());
         block.push_back(value);
         self.blocks.push_back(block);
@@ -57,10 +64,22 @@ impl<T> Later<T> {
     fn pop_block(&mut self, empty: &mut Ring<T>) {
         if let Some(oldest) = self.blocks.pop_front() {
             self.values -= oldest.len();
-            self.spare = replace(empty, oldest);
+            let last = replace(&mut self.spare, replace(empty, oldest));
+            if last.capacity() > 0 {
+                self.move_newest();
+            }
         }
         if is_sparse(self.blocks.len(), self.blocks.capacity()) {
             self.blocks.shrink_to(2 * self.blocks.len());
+        }
+    }
+    /// Moves the newest that hasn't moved into the spare one, and keeps its own for that.
+    fn move_newest(&mut self) {
+        if let Some(place) = self.blocks.len().checked_sub(1 + self.moved) {
+            let newest = &mut self.blocks[place];
+            self.spare.append(newest);
+            swap(&mut self.spare, newest);
+            self.moved += 1;
         }
     }
     fn get(&self, place: usize) -> Option<&T> {

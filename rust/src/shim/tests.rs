@@ -1,7 +1,7 @@
 //! What the proofs rely on, each rule once.
 
 use super::{BTreeMap, Blank, Brand, Global, HeapCircularBuffer, Over, Slab, Vec, VecDeque, KEPT};
-use std::collections::VecDeque as Ring;
+use std::collections::{HashSet, VecDeque as Ring};
 
 /// The source never asks for more than it may, and never looks up a key that it wasn't given.
 fn slab_of(values: &[u64]) -> Slab<u64> {
@@ -144,6 +144,20 @@ fn what_left_a_queue_may_go_back_to_its_front() {
     assert_eq!(queue.pop_front(), Some(1));
     queue.push_front_reserved(1);
     assert_eq!((queue.pop_front(), queue.pop_front(), queue.pop_front()), (Some(1), Some(2), None));
+}
+
+#[test]
+fn a_queue_that_shrinks_frees_its_newest_blocks() {
+    const VALUES: usize = 100_000;
+    const LEFT: usize = VALUES / 2 - 1_000;
+    let mut queue = VecDeque::<usize, Global>::new(Global);
+    assert!((0..VALUES).all(|value| queue.push_back(value).is_ok()));
+    let place =
+        |queue: &VecDeque<usize, Global>, at| queue.get(at).map(|value| value as *const usize);
+    let left: HashSet<_> = (0..VALUES - LEFT).map(|at| place(&queue, at)).collect();
+    assert!((0..VALUES - LEFT).all(|value| queue.pop_front() == Some(value)));
+    assert!((0..LEFT).all(|at| left.contains(&place(&queue, at))));
+    assert!((VALUES - LEFT..VALUES).all(|value| queue.pop_front() == Some(value)));
 }
 
 #[test]
