@@ -68,7 +68,7 @@ rust-scripts:
 	. tools/rust_cargo.sh && timeout --verbose 900 tools/rust_scripts
 
 clients:
-	. tools/rust_cargo.sh && tools/rust_clients
+	. tools/rust_cargo.sh && tools/rust_clients && tools/rust_clients trixie
 
 original:
 	tools/rust_original

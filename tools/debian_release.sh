@@ -26,6 +26,14 @@ unpack() {
     for package in "$room"/packages/*.deb; do dpkg-deb -x "$package" "$room/tree"; done
 }
 
+# Unpacks these packages of crates, and those of the crates that they depend on.
+unpack_crates() {
+    crates=$(apt apt-cache depends --recurse --no-recommends --no-suggests --no-conflicts \
+        --no-breaks --no-replaces --no-enhances "$@" | grep -E '^librust-.*-dev$' | sort -u)
+    # shellcheck disable=SC2086
+    unpack $crates
+}
+
 # Has cargo take crates from a folder in place of the registry, with a home that is given.
 source_from() {
     mkdir -p "$1"
