@@ -5,7 +5,8 @@ use Rattle.std.proofs.lemmas.List.{length-map, length-append}
 use Rattle.slab.specs.Slab.{Slab, get, slab_len}
 use Rattle.identity.specs.Keys.{is_among, AreDifferent}
 use Rattle.event_list.specs.Waiting.{Waiting, LosesOne, IsWaiting, keys, untold_keys, is_told, payload_of, told_flag, payload_in, joined, without, renewed, told_one, payloads, RingsEach}
-use Rattle.event_list.specs.Entries.{with_notice, payload_at, Rewrites}
+use Rattle.event_list.specs.Calls.{IsEntryAt}
+use Rattle.event_list.specs.Entries.{notice_at, with_notice, payload_at, Rewrites}
 use Rattle.event_list.specs.Chain.{first_key, IsChain, untold_item, items, shown, IsLinked, Keeps}
 use Rattle.event_list.specs.declared.entries.Entry.{Entry}
 use Rattle.event_list.specs.declared.ends.Ends.{Ends}
@@ -13,7 +14,7 @@ use Rattle.event_list.specs.declared.entries.EntryState.{EntryState}
 use Rattle.event_list.specs.declared.entries.EntryState.TheVariants.{Told, Untold}
 use Rattle.event_list.proofs.Splits.{payload_told, without_told, without_untold, without_absent, renewed_absent, loses_one, joined_waits, renewed_waits}
 use Rattle.event_list.proofs.ChainLemmas.{Keeps-shown}
-use Rattle.event_list.proofs.KeptEntries.{mark_is, payload_is, told_entry, untold_entry, told_from_flag, untold_from_flag}
+use Rattle.event_list.proofs.KeptEntries.{entry_is, told_entry, untold_entry, told_from_flag, untold_from_flag}
 use Rattle.event_list.proofs.Writes.{linked_renewed, FirstUntold, first_untold, linked_told_one}
 
 module _ {W : Type 0} where
@@ -44,12 +45,17 @@ module _ {W : Type 0} where
       → Keeps slab ends len told list → LosesOne list key
   loses {list = list} key keeps = loses_one list key keeps.links.different
 
-  -- what the entries say of a key is its told flag
-  pub marked : {slab : Slab (Entry W)} {ends : Ends} {len told key name : ℕ} {list : Waiting W} {result : Option Bool}
-      → Keeps slab ends len told list → key ≡ name → result ≡ option_map (λ entry. is_told entry.notice) (get slab key)
-      → result ≡ told_flag list name
-  marked {slab} {ends} {key = key} {list = list} keeps same is = is ∙ mark_is slab ends list key keeps.links
-      ∙ ap (told_flag list) same
+  -- the notice under a key is the list's entry
+  pub entry_of : {slab : Slab (Entry W)} {ends : Ends} {len told key name : ℕ} {list : Waiting W}
+      {entry : Option (EntryState W)} → Keeps slab ends len told list → key ≡ name → entry ≡ notice_at slab key
+      → IsEntryAt list name entry
+  entry_of {slab} {ends} {key = key} {list = list} {entry} keeps same is =
+      subst (λ (k : ℕ). IsEntryAt list k entry) same (entry_is slab ends list key keeps.links is)
+
+  -- and so it gives the told flag
+  pub flag_is : {list : Waiting W} {key : ℕ} {entry : Option (EntryState W)} {state : EntryState W} {told : Bool}
+      → IsEntryAt list key entry → entry ≡ Some state → is_told state ≡ told → told_flag list key ≡ Some told
+  flag_is here is marked = sym here.was_told ∙ ap (option_map is_told) is ∙ ap Some marked
 
   -- a told entry has no payload, as the list says
   pub no_payload : {slab : Slab (Entry W)} {ends : Ends} {len told key name : ℕ} {list : Waiting W}
@@ -61,11 +67,9 @@ module _ {W : Type 0} where
 
   -- the payload that an entry had is the list's
   pub had : {slab : Slab (Entry W)} {ends : Ends} {len told key name : ℕ} {list : Waiting W} {result : Option W}
-      → Keeps slab ends len told list → key ≡ name
-      → result ≡ option_and_then (λ entry. payload_of entry.notice) (get slab key)
+      → Keeps slab ends len told list → key ≡ name → result ≡ option_and_then payload_of (notice_at slab key)
       → result ≡ payload_in name list.untold
-  had {slab} {ends} {key = key} {list = list} keeps same is = is ∙ payload_is slab ends list key keeps.links
-      ∙ ap (λ k. payload_in k list.untold) same
+  had keeps same is = is ∙ (entry_of keeps same refl).payload
 
   chain_same : (old new : Slab (Entry W)) (before behind : Option ℕ) (xs : List (ℕ × EntryState W))
       → ((key : ℕ) → get new key ≡ get old key) → IsChain old before xs behind → IsChain new before xs behind

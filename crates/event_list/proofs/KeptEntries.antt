@@ -1,11 +1,12 @@
 -- What the slab says of a key, by the list that the entries keep: its entry, between its neighbours.
 use Rattle.std.proofs.Common.{◌≡◌, ℕ, Bool, true, false, cond, List, ◌∷◌, ◌++◌, map, Option, Some, None, refl, sym, ap, ◌∙◌, subst, inl, inr}
-use Rattle.std.specs.Option.{option_map, option_and_then}
 use Rattle.std.proofs.lemmas.Bool.{cases_Bool}
 use Rattle.std.proofs.lemmas.List.{map-id, map-append, append_assoc}
 use Rattle.slab.specs.Slab.{Slab, get}
 use Rattle.identity.specs.Keys.{is_among}
-use Rattle.event_list.specs.Waiting.{Waiting, untold_keys, is_told, payload_of, told_flag, payload_in}
+use Rattle.event_list.specs.Waiting.{Waiting, untold_keys, told_flag}
+use Rattle.event_list.specs.Calls.{IsEntryAt}
+use Rattle.event_list.specs.Entries.{notice_at}
 use Rattle.event_list.specs.Chain.{first_key, last_key, IsChain, told_item, untold_item, items, IsLinked}
 use Rattle.event_list.specs.declared.entries.Entry.{Entry}
 use Rattle.event_list.specs.declared.ends.Ends.{Ends}
@@ -101,35 +102,27 @@ module _ {W : Type 0} where
             (map untold_item back) linked.linked whole;
       }
 
-  -- what the slab says of a key is its told flag
-  pub mark_is : (slab : Slab (Entry W)) (ends : Ends) (list : Waiting W) (key : ℕ) → IsLinked slab ends list
-      → option_map (λ entry. is_told entry.notice) (get slab key) ≡ told_flag list key
-  mark_is slab ends list key linked =
+  -- the notice under a key is the list's entry
+  pub entry_is : (slab : Slab (Entry W)) (ends : Ends) (list : Waiting W) (key : ℕ) {entry : Option (EntryState W)}
+      → IsLinked slab ends list → entry ≡ notice_at slab key → IsEntryAt list key entry
+  entry_is slab ends list key linked is =
       elim (cases_Bool (is_among key list.told)) [
-        | inl told ↦ rw told (ap (option_map (λ (entry : Entry W). is_told entry.notice))
-            (told_entry slab ends list key linked told).entry)
-        | inr not_told ↦ elim (cases_Bool (is_among key (untold_keys list))) [
-          | inl untold ↦ rw (not_told, untold) (ap (option_map (λ (entry : Entry W). is_told entry.notice))
-              (untold_entry slab ends list key linked untold).entry)
-          | inr absent ↦ rw (not_told, absent) (ap (option_map (λ (entry : Entry W). is_told entry.notice))
-              (linked.only key (absent_both key list.told (untold_keys list) not_told absent)))
-        ]
-      ]
-
-  -- and the payload in its entry is the list's
-  pub payload_is : (slab : Slab (Entry W)) (ends : Ends) (list : Waiting W) (key : ℕ) → IsLinked slab ends list
-      → option_and_then (λ entry. payload_of entry.notice) (get slab key) ≡ payload_in key list.untold
-  payload_is slab ends list key linked =
-      let held : Option (Entry W) → Option W = option_and_then (λ (entry : Entry W). payload_of entry.notice) in
-      elim (cases_Bool (is_among key list.told)) [
-        | inl told ↦ ap held (told_entry slab ends list key linked told).entry
-            ∙ sym (payload_told list key linked.different told)
+        | inl told ↦ rw (is, (told_entry slab ends list key linked told).entry) (record {
+          was_told = rw told refl;
+          payload = sym (payload_told list key linked.different told);
+        })
         | inr not_told ↦ elim (cases_Bool (is_among key (untold_keys list))) [
           | inl untold ↦
               let at = untold_entry slab ends list key linked untold in
-              ap held at.entry ∙ sym (payload_cut list key at.payload at.front at.back at.cut)
-          | inr absent ↦ ap held (linked.only key (absent_both key list.told (untold_keys list) not_told absent))
-              ∙ sym (payload_none key list.untold absent)
+              rw (is, at.entry) (record {
+                was_told = rw (not_told, untold) refl;
+                payload = sym (payload_cut list key at.payload at.front at.back at.cut);
+              })
+          | inr absent ↦
+              rw (is, linked.only key (absent_both key list.told (untold_keys list) not_told absent)) (record {
+                was_told = rw (not_told, absent) refl;
+                payload = sym (payload_none key list.untold absent);
+              })
         ]
       ]
 

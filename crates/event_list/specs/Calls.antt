@@ -9,6 +9,11 @@ use Rattle.event_list.specs.declared.entries.EntryState.{EntryState}
 use Rattle.event_list.specs.declared.list.NoRoom.{NoRoom}
 
 module _ {W : Type 0} where
+  -- This is the key's entry, or nothing if it isn't in the list.
+  pub record IsEntryAt (list : Waiting W) (key : ℕ) (entry : Option (EntryState W)) : Type 0 where
+    pub was_told : option_map is_told entry ≡ told_flag list key
+    pub payload : option_and_then payload_of entry ≡ payload_in key list.untold
+
   -- A new entry goes last, untold, under a key that isn't in the list, or its payload comes back.
   pub record Listens (list : Waiting W) (payload : W) (result : Result ℕ (NoRoom W))
       (list' : Waiting W) : Type 0 where

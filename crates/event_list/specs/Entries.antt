@@ -29,6 +29,10 @@ ends_with ends key = record {
 }
 
 module _ {W : Type 0} where
+  -- the notice under a key, if there is an entry
+  abbrev pub notice_at : Slab (Entry W) → ℕ → Option (EntryState W)
+  notice_at slab key = option_map (λ entry. entry.notice) (get slab key)
+
   -- an entry with another neighbour behind
   abbrev pub with_behind : Option ℕ → Entry W → Entry W
   with_behind behind entry = record entry { behind = behind }

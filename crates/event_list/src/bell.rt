@@ -16,7 +16,7 @@ ghost use Rattle.std.specs.Prelude.{◌≡◌};
 ///     ghost rings = { λ _ payload after. after.0 ≡ Some payload };
 ///
 ///     fn ring(&mut self, w: u64) {
-///         self.0 = Some(w);
+///         self.0 = Some(payload);
 ///     }
 /// }
 ///
@@ -29,8 +29,8 @@ pub trait Bell<W> {
     ghost rings: { Self → W → Self → Type 0 };
 
     /// Rings with the payload of an entry that has just been told.
-    fn ring(&mut self, w: W)
-        ensures { rings self.old w self.new };
+    fn ring(&mut self, payload: W)
+        ensures { rings self.old payload self.new };
 }
 
 /// A bell that does nothing, for a list whose waiters are looked after by its owner.
@@ -49,7 +49,7 @@ pub struct Quiet;
 impl<W: Drop> Bell<W> for Quiet {
     ghost rings = { λ before _ after. after ≡ before };
 
-    fn ring(&mut self, w: W) {
-        let _ = w;
+    fn ring(&mut self, payload: W) {
+        let _ = payload;
     }
 }

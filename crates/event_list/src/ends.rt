@@ -1,9 +1,9 @@
 //! The ends of a waiting list, and how an entry comes and goes.
 ghost use Rattle.std.specs.Prelude.{◌≡◌, ◌+◌, ◌^◌, ◌<◌, ◌≤◌, false, OnSome, IfNone};
-ghost use Rattle.std.specs.Option.{option_map, option_and_then};
 ghost use Rattle.slab.specs.Slab.{slab_len, HasRoomFor};
 ghost use Rattle.identity.specs.Keys.{is_among};
-ghost use Rattle.event_list.specs.Waiting.{Waiting, keys, is_told, payload_of, told_flag, payload_in, joined, without};
+ghost use Rattle.event_list.specs.Waiting.{Waiting, keys, joined, without};
+ghost use Rattle.event_list.specs.Calls.{IsEntryAt};
 ghost use Rattle.event_list.specs.Entries.{ends_with, ends_without};
 ghost use Rattle.event_list.specs.Chain.{IsLinked};
 
@@ -59,16 +59,13 @@ impl Ends {
     ) -> Option<EntryState<W>>
         ensures leaves { (list : Waiting W) → IsLinked entries.old self.old list
             → IsLinked entries.new self.new (without list key) }
-        ensures was_told { (list : Waiting W) → IsLinked entries.old self.old list
-            → option_map is_told result ≡ told_flag list key }
-        ensures payload { (list : Waiting W) → IsLinked entries.old self.old list
-            → option_and_then payload_of result ≡ payload_in key list.untold }
+        ensures entry { (list : Waiting W) → IsLinked entries.old self.old list
+            → IsEntryAt list key result }
         ensures absent { IfNone result (entries.new ≡ entries.old) }
         ensures held { OnSome result (slab_len entries.new + 1 ≡ slab_len entries.old) }
         ensures next { OnSome result (entries.new.vacant_key ≡ key) }
         ensures room { OnSome result (HasRoomFor entries.new 1) }
-        ensures counted { lookups.new ≤ lookups.old + 3 }
-        ensures on_this_ledger { lookups.old < lookups.new }
+        ensures counted { (lookups.old < lookups.new) × (lookups.new ≤ lookups.old + 3) }
     {
         let entry = entries.remove(key, lookups)?;
         entries.set_behind(entry.before, entry.behind, lookups);
@@ -92,8 +89,7 @@ impl Ends {
             → IsLinked entries.new self.new (joined list result payload) }
         ensures held { slab_len entries.new ≡ slab_len entries.old + 1 }
         ensures fits { slab_len entries.new < 2 ^ 64 }
-        ensures counted { lookups.new ≤ lookups.old + 2 }
-        ensures on_this_ledger { lookups.old < lookups.new }
+        ensures counted { (lookups.old < lookups.new) × (lookups.new ≤ lookups.old + 2) }
     {
         let entry = Entry {
             before: self.last,

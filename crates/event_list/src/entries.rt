@@ -4,7 +4,7 @@ ghost use Rattle.std.specs.Bool.{OnTrue};
 ghost use Rattle.std.specs.Option.{option_map, option_and_then, option_copied};
 ghost use Rattle.slab.specs.Slab.{get, slab_len, HasRoomFor, Updates};
 ghost use Rattle.event_list.specs.Waiting.{is_told, payload_of};
-ghost use Rattle.event_list.specs.Entries.{with_behind, with_before, with_notice, payload_at, Rewrites, MayRewrite};
+ghost use Rattle.event_list.specs.Entries.{notice_at, with_behind, with_before, with_notice, payload_at, Rewrites, MayRewrite};
 
 use crate::list::steps::Lookups;
 use slab::Slab;
@@ -48,7 +48,7 @@ impl<W> EntryState<W> {
     }
 
     /// The payload of an untold entry, which stays.
-    fn payload(&self) -> Option<&W>
+    pub(crate) fn payload(&self) -> Option<&W>
         ensures { option_copied result ≡ payload_of self.now }
     {
         match self {
@@ -197,8 +197,7 @@ impl<W: Drop> Entries<W> {
         payload: W,
         lookups: &mut Lookups<L>,
     ) -> Option<W>
-        ensures replaced { result ≡
-            option_and_then (λ entry. payload_of entry.notice) (get self.old key) }
+        ensures replaced { result ≡ option_and_then payload_of (notice_at self.old key) }
         ensures rewrites { Rewrites self.old self.new key
             (option_map (with_notice (EntryState.Untold payload)) (get self.old key)) }
         ensures counted { lookups.new ≡ lookups.old + 1 }
@@ -228,22 +227,12 @@ impl<W: Drop> Entries<W> {
         }
     }
 
-    /// Whether an entry is told, if it is there.
-    pub fn is_told<L: Ledger>(&self, key: usize, lookups: &mut Lookups<L>) -> Option<bool>
-        ensures value { result ≡ option_map (λ entry. is_told entry.notice) (get self.now key) }
+    /// Whether an entry is told, and its payload if it isn't, if there is an entry.
+    pub fn notice<L: Ledger>(&self, key: usize, lookups: &mut Lookups<L>) -> Option<&EntryState<W>>
+        ensures value { option_copied result ≡ notice_at self.now key }
         ensures counted { lookups.new ≡ lookups.old + 1 }
     {
         lookups.raise();
-        self.slab.get(key).map(|entry| entry.notice.is_told())
-    }
-
-    /// The payload of an untold entry, if it is there.
-    pub fn payload<L: Ledger>(&self, key: usize, lookups: &mut Lookups<L>) -> Option<&W>
-        ensures value { option_copied result ≡
-            option_and_then (λ entry. payload_of entry.notice) (get self.now key) }
-        ensures counted { lookups.new ≡ lookups.old + 1 }
-    {
-        lookups.raise();
-        self.slab.get(key)?.notice.payload()
+        Some(&self.slab.get(key)?.notice)
     }
 }

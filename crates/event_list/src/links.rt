@@ -1,10 +1,19 @@
 //! The entries of a waiting list with what is kept beside them, and all work on them.
 //!
-//! A new entry goes behind the last one, untold. Those told are the front of the list, and
-//! `cursor` is the first behind them: to tell one is to tell the entry at the cursor and to move
-//! the cursor to its neighbour behind. An entry leaves by letting its neighbours name one another,
-//! and an end or the cursor that named it names its neighbour. Who waits again leaves and comes
-//! last if it was told, and stays where it is otherwise. So no call walks along the list.
+//! Entries stand in order of arrival, and those that were told are always the front of the list. So
+//! three keys serve every call: the first entry's, the last one's, and the cursor, which is the key
+//! of the first entry that isn't told.
+//!
+//! ```text
+//! told  <->  told  <->  untold  <->  untold
+//! first                 cursor           last
+//! ```
+//!
+//! A new entry goes behind the last one, untold. To tell one is to tell the entry at the cursor and
+//! to move the cursor to its neighbour behind. An entry leaves by letting its neighbours name one
+//! another, and an end or the cursor that named it names its neighbour. Who waits again leaves and
+//! comes last, under the same key, if it was told, and stays where it is otherwise. So no call walks
+//! along the list.
 //!
 //! Each look-up is counted on the ledger that a call is handed. No other can be opened here, and no
 //! entry is reached without one: see `steps`.
@@ -12,8 +21,8 @@ ghost use Rattle.std.specs.Prelude.{◌≡◌, ◌+◌, ◌<◌, ◌≤◌, ◌�
 ghost use Rattle.std.specs.Bool.{OnTrue};
 ghost use Rattle.std.specs.Option.{option_copied};
 ghost use Rattle.identity.specs.Keys.{AreDifferent};
-ghost use Rattle.event_list.specs.Waiting.{nobody, keys, told_count, payloads, told_flag, payload_in};
-ghost use Rattle.event_list.specs.Calls.{Listens, Renews, Unregisters, TellsOne, TellsAll, Withdraws};
+ghost use Rattle.event_list.specs.Waiting.{nobody, keys, told_count, payloads};
+ghost use Rattle.event_list.specs.Calls.{IsEntryAt, Listens, Renews, Unregisters, TellsOne, TellsAll};
 
 use crate::bell::Bell;
 use crate::ends::Ends;
@@ -73,17 +82,16 @@ impl<W: Drop> Links<W> {
     /// A new entry goes last, untold, under a key that isn't in the list. At most 6 look-ups.
     pub(crate) fn listen<L: Ledger>(
         &mut self,
-        w: W,
+        payload: W,
         lookups: &mut Lookups<L>,
     ) -> Result<Ticket, NoRoom<W>>
-        ensures does { Listens self.old w result self.new }
-        ensures counted { lookups.new ≤ lookups.old + 6 }
-        ensures on_this_ledger { lookups.old < lookups.new }
+        ensures does { Listens self.old payload result self.new }
+        ensures counted { (lookups.old < lookups.new) × (lookups.new ≤ lookups.old + 6) }
     {
         if !self.entries.reserve(lookups) {
-            return Err(NoRoom(w));
+            return Err(NoRoom(payload));
         }
-        let key = self.ends.put_last(&mut self.entries, w, lookups);
+        let key = self.ends.put_last(&mut self.entries, payload, lookups);
         self.len += 1;
         Ok(Ticket { key })
     }
@@ -91,22 +99,21 @@ impl<W: Drop> Links<W> {
     /// The entry waits again with this payload, and gives the one that it had. At most 6 look-ups.
     pub(crate) fn renew<L: Ledger>(
         &mut self,
-        t: &Ticket,
-        w: W,
+        ticket: &Ticket,
+        payload: W,
         lookups: &mut Lookups<L>,
     ) -> Result<Option<W>, W>
-        ensures does { Renews self.old t.now w result self.new }
-        ensures counted { lookups.new ≤ lookups.old + 6 }
-        ensures on_this_ledger { lookups.old < lookups.new }
+        ensures does { Renews self.old ticket.now payload result self.new }
+        ensures counted { (lookups.old < lookups.new) × (lookups.new ≤ lookups.old + 6) }
     {
-        let Some(was_told) = self.entries.is_told(t.key, lookups) else {
-            return Err(w);
+        let Some(notice) = self.entries.notice(ticket.key, lookups) else {
+            return Err(payload);
         };
-        if !was_told {
-            return Ok(self.entries.set_payload(t.key, w, lookups));
+        if !notice.is_told() {
+            return Ok(self.entries.set_payload(ticket.key, payload, lookups));
         }
-        self.ends.take_out(&mut self.entries, t.key, lookups);
-        self.ends.put_last(&mut self.entries, w, lookups);
+        self.ends.take_out(&mut self.entries, ticket.key, lookups);
+        self.ends.put_last(&mut self.entries, payload, lookups);
         self.told -= 1;
         Ok(None)
     }
@@ -151,14 +158,13 @@ impl<W: Drop> Links<W> {
     /// The entry leaves, and is the answer. At most 6 look-ups.
     pub(crate) fn unregister<L: Ledger>(
         &mut self,
-        t: Ticket,
+        ticket: Ticket,
         lookups: &mut Lookups<L>,
     ) -> Option<EntryState<W>>
-        ensures does { Unregisters self.old t result self.new }
-        ensures counted { lookups.new ≤ lookups.old + 6 }
-        ensures on_this_ledger { lookups.old < lookups.new }
+        ensures does { Unregisters self.old ticket result self.new }
+        ensures counted { (lookups.old < lookups.new) × (lookups.new ≤ lookups.old + 6) }
     {
-        let entry = self.ends.take_out(&mut self.entries, t.key, lookups)?;
+        let entry = self.ends.take_out(&mut self.entries, ticket.key, lookups)?;
         self.len -= 1;
         if entry.is_told() {
             self.told -= 1;
@@ -166,39 +172,16 @@ impl<W: Drop> Links<W> {
         Some(entry)
     }
 
-    /// The entry leaves, and if it was told, one is told in its place. The answer is the payload
-    /// of one that was untold. At most 12 look-ups.
-    pub(crate) fn withdraw<B: Bell<W>, L: Ledger>(
-        &mut self,
-        t: Ticket,
-        bell: &mut B,
+    /// The ticket's entry, or nothing if it isn't in the list. One look-up.
+    pub(crate) fn entry<L: Ledger>(
+        &self,
+        ticket: &Ticket,
         lookups: &mut Lookups<L>,
-    ) -> Option<W>
-        ensures does { Withdraws B.rings self.old t bell.old result self.new bell.new }
-        ensures counted { lookups.new ≤ lookups.old + 12 }
-        ensures on_this_ledger { lookups.old < lookups.new }
-    {
-        let entry = self.unregister(t, lookups)?;
-        if entry.is_told() {
-            self.tell_one(bell, lookups);
-        }
-        entry.into_payload()
-    }
-
-    /// Whether the ticket's entry is told, or nothing if it isn't in the list. One look-up.
-    pub(crate) fn is_told<L: Ledger>(&self, t: &Ticket, lookups: &mut Lookups<L>) -> Option<bool>
-        ensures value { result ≡ told_flag self.now t.now }
+    ) -> Option<&EntryState<W>>
+        ensures entry { IsEntryAt self.now ticket.now (option_copied result) }
         ensures counted { lookups.new ≡ lookups.old + 1 }
     {
-        self.entries.is_told(t.key, lookups)
-    }
-
-    /// The payload of the ticket's entry, if it is untold. One look-up.
-    pub(crate) fn payload<L: Ledger>(&self, t: &Ticket, lookups: &mut Lookups<L>) -> Option<&W>
-        ensures value { option_copied result ≡ payload_in t.now self.now.untold }
-        ensures counted { lookups.new ≡ lookups.old + 1 }
-    {
-        self.entries.payload(t.key, lookups)
+        self.entries.notice(ticket.key, lookups)
     }
 
     /// Whether somebody is untold.

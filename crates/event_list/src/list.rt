@@ -1,34 +1,14 @@
 //! The waiting list: its public calls.
 //!
-//! Entries stand in order of arrival, and those that were told are always the front of the list. So
-//! three keys serve every call: the first entry's, the last one's, and the cursor, which is the key
-//! of the first entry that isn't told.
-//!
-//! ```text
-//! told  <->  told  <->  untold  <->  untold
-//! first                 cursor           last
-//! ```
-//!
-//! To tell one is to mark the entry at the cursor, to ring with its payload, and to move the cursor
-//! to its neighbour behind; to tell all is to do this until the cursor is past the last one. Who is
-//! new goes behind the last one. Who leaves lets its neighbours name one another, and a key that
-//! named it names a neighbour. Who waits again after a notice leaves and goes last, under its old
-//! key; who waits again untold keeps its place, with a new payload. So no call walks along the
-//! list, and the told front stays in one piece.
-//!
-//! A counted call hands the ledger that it is given to the call of the same name of `links`, where
-//! the work is done. A call of the plain name opens a ledger and runs the counted one on it.
-//!
-//! The first who waits takes the memory in which `links` stand, and who leaves last gives it back
-//! if it is much. Without it a list is a pointer, and a call that looks for an entry counts one
-//! look-up and finds none.
-ghost use Rattle.std.specs.Prelude.{◌≡◌, ◌+◌, ◌<◌, ◌≤◌, ◌↔◌, length, take, is_some, IsTrue, IfNone, IfSome, slice_get};
+//! The work is done in `links`, on the ledger that a counted call is given. A call of the plain name
+//! opens a ledger of its own. Without memory a list is a pointer, and a call that looks for an entry
+//! counts one look-up and finds none.
+ghost use Rattle.std.specs.Prelude.{◌≡◌, ◌+◌, ◌<◌, ◌≤◌, ◌↔◌, length, take, is_some, IsTrue, slice_get};
 ghost use Rattle.std.specs.Option.{option_copied};
 ghost use Rattle.identity.specs.Keys.{AreDifferent};
 ghost use Rattle.event_list.specs.Waiting.{nobody, keys, told_count, payloads, told_flag, payload_in};
-ghost use Rattle.event_list.specs.Calls.{Listens, WaitsAgain, Renews, Removes, Unregisters, TellsOne, TellsAll, Cancels, Withdraws};
+ghost use Rattle.event_list.specs.Calls.{IsEntryAt, Listens, WaitsAgain, Renews, Removes, Unregisters, TellsOne, TellsAll, Cancels, Withdraws};
 ghost use Rattle.event_list.specs.Opens.{Opens};
-ghost use Rattle.event_list.specs.Chain.{kept_list};
 
 pub(crate) mod steps;
 
@@ -39,7 +19,7 @@ use crate::ticket::Ticket;
 use std::alloc::Global;
 use std::marker::{Brand, Model};
 use std::sync::ledger::{Blank, Ledger};
-use steps::{Lookups, Steps};
+use steps::Steps;
 
 /// There was no memory for another entry. It hands the payload back.
 ///
@@ -57,7 +37,7 @@ pub struct NoRoom<W>(pub W);
 /// The entries lie in a slab, each with the keys of the one before and the one behind it. So each
 /// call looks up a fixed number of them, however many wait; `tell_all` looks up one for each that
 /// it tells. The counted calls say how many: they have the contracts of the calls of the plain
-/// names, which run them on a ledger of their own. Each counts on the ledger that it is handed, at
+/// names, which count on a ledger of their own. Each counts on the ledger that it is handed, at
 /// most that number and at least one if it reaches an entry.
 ///
 /// A list takes memory with the first who waits. Who leaves last gives it back, if there is room
@@ -125,10 +105,10 @@ impl<W: Drop> WaitList<W> {
     /// assert!(rt; list.contains(&ticket));
     /// assert_eq!(rt; list.is_told(&ticket), Some(false));
     /// ```
-    pub fn listen(&mut self, w: W) -> Result<Ticket, NoRoom<W>>
-        ensures { Listens self.old w result self.new }
+    pub fn listen(&mut self, payload: W) -> Result<Ticket, NoRoom<W>>
+        ensures { Listens self.old payload result self.new }
     {
-        self.listen_from::<Brand>(w, Blank::new(1))
+        self.listen_from::<Brand>(payload, Blank::new(1))
     }
 
     /// The entry waits again with this payload. The answer is whether it is in the list.
@@ -148,10 +128,10 @@ impl<W: Drop> WaitList<W> {
     /// assert_eq!(rt; bell.0, Some(11));
     /// assert_eq!(rt; list.is_told(&second), Some(true));
     /// ```
-    pub fn again(&mut self, t: &Ticket, w: W) -> bool
-        ensures { WaitsAgain self.old t.now w result self.new }
+    pub fn again(&mut self, ticket: &Ticket, payload: W) -> bool
+        ensures { WaitsAgain self.old ticket.now payload result self.new }
     {
-        self.again_from::<Brand>(t, w, Blank::new(1))
+        self.renew(ticket, payload).is_ok()
     }
 
     /// Tells the longest waiting untold entry. The answer is whether there was one.
@@ -172,10 +152,7 @@ impl<W: Drop> WaitList<W> {
     pub fn tell_one<B: Bell<W>>(&mut self, bell: &mut B) -> bool
         ensures { TellsOne B.rings self.old bell.old result self.new bell.new }
     {
-        if !self.has_untold() {
-            return false;
-        }
-        self.tell_one_from::<B, Brand>(bell, Blank::new(1))
+        self.has_untold() && self.tell_one_from::<B, Brand>(bell, Blank::new(1))
     }
 
     /// Tells every untold entry, and answers how many there were.
@@ -213,10 +190,10 @@ impl<W: Drop> WaitList<W> {
     /// assert_eq!(rt; list.remove(ticket), Some(true));
     /// assert_eq!(rt; list.len(), 0);
     /// ```
-    pub fn remove(&mut self, t: Ticket) -> Option<bool>
-        ensures { Removes self.old t result self.new }
+    pub fn remove(&mut self, ticket: Ticket) -> Option<bool>
+        ensures { Removes self.old ticket result self.new }
     {
-        self.remove_from::<Brand>(t, Blank::new(1))
+        Some(self.unregister(ticket)?.is_told())
     }
 
     /// The entry leaves, and if it was told, one is told in its place.
@@ -232,14 +209,14 @@ impl<W: Drop> WaitList<W> {
     /// list.cancel(first, &mut bell);
     /// assert_eq!(rt; bell.0, Some(11));
     /// ```
-    pub fn cancel<B: Bell<W>>(&mut self, t: Ticket, bell: &mut B)
-        ensures { Cancels B.rings self.old t bell.old self.new bell.new }
+    pub fn cancel<B: Bell<W>>(&mut self, ticket: Ticket, bell: &mut B)
+        ensures { Cancels B.rings self.old ticket bell.old self.new bell.new }
     {
-        self.cancel_from::<B, Brand>(t, bell, Blank::new(1));
+        self.withdraw(ticket, bell);
     }
 
     /// `again`, which gives the payload that an untold entry had. If the entry isn't in the list,
-    /// `w` comes back.
+    /// `payload` comes back.
     ///
     /// # Examples
     ///
@@ -252,10 +229,10 @@ impl<W: Drop> WaitList<W> {
     /// list.tell_one(&mut Quiet);
     /// assert_eq!(rt; list.renew(&ticket, 12), Ok(None));
     /// ```
-    pub fn renew(&mut self, t: &Ticket, w: W) -> Result<Option<W>, W>
-        ensures { Renews self.old t.now w result self.new }
+    pub fn renew(&mut self, ticket: &Ticket, payload: W) -> Result<Option<W>, W>
+        ensures { Renews self.old ticket.now payload result self.new }
     {
-        self.renew_from::<Brand>(t, w, Blank::new(1))
+        self.renew_from::<Brand>(ticket, payload, Blank::new(1))
     }
 
     /// `remove`, which gives the entry: told, or untold with its payload.
@@ -268,10 +245,10 @@ impl<W: Drop> WaitList<W> {
     /// let entry = list.unregister(ticket).ok_or("an entry")?;
     /// assert_eq!(rt; entry.into_payload(), Some(10));
     /// ```
-    pub fn unregister(&mut self, t: Ticket) -> Option<EntryState<W>>
-        ensures { Unregisters self.old t result self.new }
+    pub fn unregister(&mut self, ticket: Ticket) -> Option<EntryState<W>>
+        ensures { Unregisters self.old ticket result self.new }
     {
-        self.unregister_from::<Brand>(t, Blank::new(1))
+        self.unregister_from::<Brand>(ticket, Blank::new(1))
     }
 
     /// `cancel`, which gives the payload of an untold entry.
@@ -293,10 +270,14 @@ impl<W: Drop> WaitList<W> {
     /// assert_eq!(rt; bell.0, Some(11));
     /// assert_eq!(rt; list.is_told(&second), Some(true));
     /// ```
-    pub fn withdraw<B: Bell<W>>(&mut self, t: Ticket, bell: &mut B) -> Option<W>
-        ensures { Withdraws B.rings self.old t bell.old result self.new bell.new }
+    pub fn withdraw<B: Bell<W>>(&mut self, ticket: Ticket, bell: &mut B) -> Option<W>
+        ensures { Withdraws B.rings self.old ticket bell.old result self.new bell.new }
     {
-        self.withdraw_from::<B, Brand>(t, bell, Blank::new(1))
+        let entry = self.unregister(ticket)?;
+        if entry.is_told() {
+            self.tell_one(bell);
+        }
+        entry.into_payload()
     }
 
     /// `listen`, which counts its look-ups: at most 6.
@@ -317,29 +298,35 @@ impl<W: Drop> WaitList<W> {
     /// ```
     pub fn listen_counted<L: Ledger>(
         &mut self,
-        w: W,
+        payload: W,
         steps: &mut Steps<L>,
     ) -> Result<Ticket, NoRoom<W>>
-        ensures does { Listens self.old w result self.new }
+        ensures does { Listens self.old payload result self.new }
         ensures counted { steps.new ≤ steps.old + 6 }
         ensures on_this_ledger { steps.old < steps.new }
     {
-        let Some(mut links) = made(self.alloc, self.links.take()) else {
+        if self.links.is_none() {
+            self.links = Box::new(self.alloc, Links::new(self.alloc)).ok();
+        }
+        let Some(links) = &mut self.links else {
             steps.lookups.raise();
-            return Err(NoRoom(w));
+            return Err(NoRoom(payload));
         };
-        let answer = links.listen(w, &mut steps.lookups);
-        self.links = Some(links);
-        answer
+        links.listen(payload, &mut steps.lookups)
     }
 
     /// `again`, which counts its look-ups: at most 6.
-    pub fn again_counted<L: Ledger>(&mut self, t: &Ticket, w: W, steps: &mut Steps<L>) -> bool
-        ensures does { WaitsAgain self.old t.now w result self.new }
+    pub fn again_counted<L: Ledger>(
+        &mut self,
+        ticket: &Ticket,
+        payload: W,
+        steps: &mut Steps<L>,
+    ) -> bool
+        ensures does { WaitsAgain self.old ticket.now payload result self.new }
         ensures counted { steps.new ≤ steps.old + 6 }
         ensures on_this_ledger { steps.old < steps.new }
     {
-        self.renew_by(t, w, &mut steps.lookups).is_ok()
+        self.renew_counted(ticket, payload, steps).is_ok()
     }
 
     /// `tell_one`, which counts its look-ups: one if one is told, and else none.
@@ -373,26 +360,32 @@ impl<W: Drop> WaitList<W> {
     }
 
     /// `remove`, which counts its look-ups: at most 6.
-    pub fn remove_counted<L: Ledger>(&mut self, t: Ticket, steps: &mut Steps<L>) -> Option<bool>
-        ensures does { Removes self.old t result self.new }
+    pub fn remove_counted<L: Ledger>(
+        &mut self,
+        ticket: Ticket,
+        steps: &mut Steps<L>,
+    ) -> Option<bool>
+        ensures does { Removes self.old ticket result self.new }
         ensures counted { steps.new ≤ steps.old + 6 }
         ensures on_this_ledger { steps.old < steps.new }
     {
-        Some(self.unregister_by(t, &mut steps.lookups)?.is_told())
+        Some(self.unregister_counted(ticket, steps)?.is_told())
     }
 
     /// `cancel`, which counts its look-ups: at most 12.
     pub fn cancel_counted<B: Bell<W>, L: Ledger>(
         &mut self,
-        t: Ticket,
+        ticket: Ticket,
         bell: &mut B,
         steps: &mut Steps<L>,
     )
-        ensures does { Cancels B.rings self.old t bell.old self.new bell.new }
+        ensures does { Cancels B.rings self.old ticket bell.old self.new bell.new }
         ensures counted { steps.new ≤ steps.old + 12 }
         ensures on_this_ledger { steps.old < steps.new }
     {
-        self.withdraw_by(t, bell, &mut steps.lookups);
+        if self.remove_counted(ticket, steps) == Some(true) {
+            self.tell_one_counted(bell, steps);
+        }
     }
 
     /// How many wait. All have different keys.
@@ -417,17 +410,17 @@ impl<W: Drop> WaitList<W> {
     }
 
     /// Whether the ticket's entry is in the list.
-    pub fn contains(&self, t: &Ticket) -> bool
-        ensures { result ≡ is_some (told_flag self.now t.now) }
+    pub fn contains(&self, ticket: &Ticket) -> bool
+        ensures { result ≡ is_some (told_flag self.now ticket.now) }
     {
-        self.is_told(t).is_some()
+        self.is_told(ticket).is_some()
     }
 
     /// Whether the ticket's entry is told, or nothing if it isn't in the list.
-    pub fn is_told(&self, t: &Ticket) -> Option<bool>
-        ensures { result ≡ told_flag self.now t.now }
+    pub fn is_told(&self, ticket: &Ticket) -> Option<bool>
+        ensures { result ≡ told_flag self.now ticket.now }
     {
-        self.is_told_from::<Brand>(t, Blank::new(1))
+        Some(self.entry_from::<Brand>(ticket, Blank::new(1))?.is_told())
     }
 
     /// The payload of the ticket's entry, or nothing if it is told or isn't in the list.
@@ -442,20 +435,17 @@ impl<W: Drop> WaitList<W> {
     /// list.tell_one(&mut Quiet);
     /// assert_eq!(rt; list.payload(&ticket).copied(), None);
     /// ```
-    pub fn payload(&self, t: &Ticket) -> Option<&W>
-        ensures { option_copied result ≡ payload_in t.now self.now.untold }
+    pub fn payload(&self, ticket: &Ticket) -> Option<&W>
+        ensures { option_copied result ≡ payload_in ticket.now self.now.untold }
     {
-        self.payload_from::<Brand>(t, Blank::new(1))
+        self.entry_from::<Brand>(ticket, Blank::new(1))?.payload()
     }
 
     /// The key of the first entry, if somebody is told.
     pub fn first_told(&self) -> Option<usize>
         ensures { result ≡ slice_get self.now.told 0 }
     {
-        match &self.links {
-            Some(links) => links.first_told(),
-            None => None,
-        }
+        self.links.as_ref()?.first_told()
     }
 }
 
@@ -472,58 +462,39 @@ impl<W: Drop> WaitList<W> {
         }
     }
 
-    fn renew_by<L: Ledger>(
+    /// `renew`, which counts its look-ups: at most 6.
+    fn renew_counted<L: Ledger>(
         &mut self,
-        t: &Ticket,
-        w: W,
-        lookups: &mut Lookups<L>,
+        ticket: &Ticket,
+        payload: W,
+        steps: &mut Steps<L>,
     ) -> Result<Option<W>, W>
-        ensures does { Renews self.old t.now w result self.new }
-        ensures counted { lookups.new ≤ lookups.old + 6 }
-        ensures on_this_ledger { lookups.old < lookups.new }
+        ensures does { Renews self.old ticket.now payload result self.new }
+        ensures counted { (steps.old < steps.new) × (steps.new ≤ steps.old + 6) }
     {
         let Some(links) = &mut self.links else {
-            lookups.raise();
-            return Err(w);
+            steps.lookups.raise();
+            return Err(payload);
         };
-        links.renew(t, w, lookups)
+        links.renew(ticket, payload, &mut steps.lookups)
     }
 
-    fn unregister_by<L: Ledger>(
+    /// `unregister`, which counts its look-ups: at most 6.
+    fn unregister_counted<L: Ledger>(
         &mut self,
-        t: Ticket,
-        lookups: &mut Lookups<L>,
+        ticket: Ticket,
+        steps: &mut Steps<L>,
     ) -> Option<EntryState<W>>
-        ensures does { Unregisters self.old t result self.new }
-        ensures counted { lookups.new ≤ lookups.old + 6 }
-        ensures on_this_ledger { lookups.old < lookups.new }
+        ensures does { Unregisters self.old ticket result self.new }
+        ensures counted { (steps.old < steps.new) × (steps.new ≤ steps.old + 6) }
     {
         let Some(links) = &mut self.links else {
-            lookups.raise();
+            steps.lookups.raise();
             return None;
         };
-        let entry = links.unregister(t, lookups);
+        let entry = links.unregister(ticket, &mut steps.lookups);
         self.give_room_back();
         entry
-    }
-
-    fn withdraw_by<B: Bell<W>, L: Ledger>(
-        &mut self,
-        t: Ticket,
-        bell: &mut B,
-        lookups: &mut Lookups<L>,
-    ) -> Option<W>
-        ensures does { Withdraws B.rings self.old t bell.old result self.new bell.new }
-        ensures counted { lookups.new ≤ lookups.old + 12 }
-        ensures on_this_ledger { lookups.old < lookups.new }
-    {
-        let Some(links) = &mut self.links else {
-            lookups.raise();
-            return None;
-        };
-        let payload = links.withdraw(t, bell, lookups);
-        self.give_room_back();
-        payload
     }
 
     /// Gives the memory back of a list in which nobody waits any more, if it is more than is kept.
@@ -539,32 +510,33 @@ impl<W: Drop> WaitList<W> {
     }
 }
 
-/// The entries, for which memory is taken if there are none yet.
-fn made<W: Drop>(alloc: Global, links: Option<Box<Links<W>>>) -> Option<Box<Links<W>>>
-    ensures kept { IfSome result (λ made. made.value ≡ kept_list links) }
-    ensures refused { IfNone result (kept_list links ≡ nobody) }
-{
-    match links {
-        Some(links) => Some(links),
-        None => Box::new(alloc, Links::new(alloc)).ok(),
-    }
-}
-
-// What the calls of the plain names run, on the ledger of a blank: the counted ones, if there are
-// any. They stand apart since a ledger gets its name when a call passes a blank on.
+// What the calls of the plain names run, on the ledger of a blank. They stand apart since a ledger
+// gets its name when a call passes a blank on.
 impl<W: Drop> WaitList<W> {
-    fn listen_from<L: Ledger>(&mut self, w: W, blank: Blank) -> Result<Ticket, NoRoom<W>>
+    fn listen_from<L: Ledger>(&mut self, payload: W, blank: Blank) -> Result<Ticket, NoRoom<W>>
         requires { Opens blank.name blank.parts L.name L.parts }
-        ensures { Listens self.old w result self.new }
+        ensures { Listens self.old payload result self.new }
     {
-        self.listen_counted(w, &mut Steps::<L>::of(blank))
+        self.listen_counted(payload, &mut Steps::<L>::of(blank))
     }
 
-    fn again_from<L: Ledger>(&mut self, t: &Ticket, w: W, blank: Blank) -> bool
+    fn renew_from<L: Ledger>(
+        &mut self,
+        ticket: &Ticket,
+        payload: W,
+        blank: Blank,
+    ) -> Result<Option<W>, W>
         requires { Opens blank.name blank.parts L.name L.parts }
-        ensures { WaitsAgain self.old t.now w result self.new }
+        ensures { Renews self.old ticket.now payload result self.new }
     {
-        self.again_counted(t, w, &mut Steps::<L>::of(blank))
+        self.renew_counted(ticket, payload, &mut Steps::<L>::of(blank))
+    }
+
+    fn unregister_from<L: Ledger>(&mut self, ticket: Ticket, blank: Blank) -> Option<EntryState<W>>
+        requires { Opens blank.name blank.parts L.name L.parts }
+        ensures { Unregisters self.old ticket result self.new }
+    {
+        self.unregister_counted(ticket, &mut Steps::<L>::of(blank))
     }
 
     fn tell_one_from<B: Bell<W>, L: Ledger>(&mut self, bell: &mut B, blank: Blank) -> bool
@@ -581,68 +553,12 @@ impl<W: Drop> WaitList<W> {
         self.tell_all_counted(bell, &mut Steps::<L>::of(blank))
     }
 
-    fn remove_from<L: Ledger>(&mut self, t: Ticket, blank: Blank) -> Option<bool>
+    fn entry_from<L: Ledger>(&self, ticket: &Ticket, blank: Blank) -> Option<&EntryState<W>>
         requires { Opens blank.name blank.parts L.name L.parts }
-        ensures { Removes self.old t result self.new }
+        ensures { IsEntryAt self.now ticket.now (option_copied result) }
     {
-        self.remove_counted(t, &mut Steps::<L>::of(blank))
-    }
-
-    fn cancel_from<B: Bell<W>, L: Ledger>(&mut self, t: Ticket, bell: &mut B, blank: Blank)
-        requires { Opens blank.name blank.parts L.name L.parts }
-        ensures { Cancels B.rings self.old t bell.old self.new bell.new }
-    {
-        self.cancel_counted(t, bell, &mut Steps::<L>::of(blank));
-    }
-
-    fn renew_from<L: Ledger>(&mut self, t: &Ticket, w: W, blank: Blank) -> Result<Option<W>, W>
-        requires { Opens blank.name blank.parts L.name L.parts }
-        ensures { Renews self.old t.now w result self.new }
-    {
-        let mut steps = Steps::<L>::of(blank);
-        self.renew_by(t, w, &mut steps.lookups)
-    }
-
-    fn unregister_from<L: Ledger>(&mut self, t: Ticket, blank: Blank) -> Option<EntryState<W>>
-        requires { Opens blank.name blank.parts L.name L.parts }
-        ensures { Unregisters self.old t result self.new }
-    {
-        let mut steps = Steps::<L>::of(blank);
-        self.unregister_by(t, &mut steps.lookups)
-    }
-
-    fn withdraw_from<B: Bell<W>, L: Ledger>(
-        &mut self,
-        t: Ticket,
-        bell: &mut B,
-        blank: Blank,
-    ) -> Option<W>
-        requires { Opens blank.name blank.parts L.name L.parts }
-        ensures { Withdraws B.rings self.old t bell.old result self.new bell.new }
-    {
-        let mut steps = Steps::<L>::of(blank);
-        self.withdraw_by(t, bell, &mut steps.lookups)
-    }
-
-    fn is_told_from<L: Ledger>(&self, t: &Ticket, blank: Blank) -> Option<bool>
-        requires { Opens blank.name blank.parts L.name L.parts }
-        ensures { result ≡ told_flag self.now t.now }
-    {
-        let mut steps = Steps::<L>::of(blank);
-        match &self.links {
-            Some(links) => links.is_told(t, &mut steps.lookups),
-            None => None,
-        }
-    }
-
-    fn payload_from<L: Ledger>(&self, t: &Ticket, blank: Blank) -> Option<&W>
-        requires { Opens blank.name blank.parts L.name L.parts }
-        ensures { option_copied result ≡ payload_in t.now self.now.untold }
-    {
-        let mut steps = Steps::<L>::of(blank);
-        match &self.links {
-            Some(links) => links.payload(t, &mut steps.lookups),
-            None => None,
-        }
+        self.links
+            .as_ref()?
+            .entry(ticket, &mut Steps::<L>::of(blank).lookups)
     }
 }

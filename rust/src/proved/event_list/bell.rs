@@ -7,7 +7,7 @@
 /// contracts which payloads it was rung with, in which order.
 pub trait Bell<W> {
     /// Rings with the payload of an entry that has just been told.
-    fn ring(&mut self, w: W);
+    fn ring(&mut self, payload: W);
 }
 
 /// A bell that does nothing, for a list whose waiters are looked after by its owner.
@@ -15,7 +15,7 @@ pub struct Quiet;
 
 impl<W> Bell<W> for Quiet {
     #[inline]
-    fn ring(&mut self, w: W) {
-        let _ = w;
+    fn ring(&mut self, payload: W) {
+        let _ = payload;
     }
 }

@@ -26,7 +26,7 @@ impl<W> EntryState<W> {
 
     /// The payload of an untold entry, which stays.
     #[inline]
-    fn payload(&self) -> Option<&W> {
+    pub(super) fn payload(&self) -> Option<&W> {
         match self {
             EntryState::Told => None,
             EntryState::Untold(payload) => Some(payload),
@@ -159,17 +159,10 @@ impl<W> Entries<W> {
         }
     }
 
-    /// Whether an entry is told, if it is there.
+    /// Whether an entry is told, and its payload if it isn't, if there is an entry.
     #[inline]
-    pub fn is_told<L: Ledger>(&self, key: usize, lookups: &mut Lookups<L>) -> Option<bool> {
+    pub fn notice<L: Ledger>(&self, key: usize, lookups: &mut Lookups<L>) -> Option<&EntryState<W>> {
         lookups.raise();
-        self.slab.get(key).map(|entry| entry.notice.is_told())
-    }
-
-    /// The payload of an untold entry, if it is there.
-    #[inline]
-    pub fn payload<L: Ledger>(&self, key: usize, lookups: &mut Lookups<L>) -> Option<&W> {
-        lookups.raise();
-        self.slab.get(key)?.notice.payload()
+        Some(&self.slab.get(key)?.notice)
     }
 }

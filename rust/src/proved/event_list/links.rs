@@ -1,11 +1,20 @@
 // Taken out of crates/event_list/src/links.rt by tools/erase. Change that file, not this one.
 //! The entries of a waiting list with what is kept beside them, and all work on them.
 //!
-//! A new entry goes behind the last one, untold. Those told are the front of the list, and
-//! `cursor` is the first behind them: to tell one is to tell the entry at the cursor and to move
-//! the cursor to its neighbour behind. An entry leaves by letting its neighbours name one another,
-//! and an end or the cursor that named it names its neighbour. Who waits again leaves and comes
-//! last if it was told, and stays where it is otherwise. So no call walks along the list.
+//! Entries stand in order of arrival, and those that were told are always the front of the list. So
+//! three keys serve every call: the first entry's, the last one's, and the cursor, which is the key
+//! of the first entry that isn't told.
+//!
+//! ```text
+//! told  <->  told  <->  untold  <->  untold
+//! first                 cursor           last
+//! ```
+//!
+//! A new entry goes behind the last one, untold. To tell one is to tell the entry at the cursor and
+//! to move the cursor to its neighbour behind. An entry leaves by letting its neighbours name one
+//! another, and an end or the cursor that named it names its neighbour. Who waits again leaves and
+//! comes last, under the same key, if it was told, and stays where it is otherwise. So no call walks
+//! along the list.
 //!
 //! Each look-up is counted on the ledger that a call is handed. No other can be opened here, and no
 //! entry is reached without one: see `steps`.
@@ -54,13 +63,13 @@ impl<W> Links<W> {
     #[inline]
     pub(super) fn listen<L: Ledger>(
         &mut self,
-        w: W,
+        payload: W,
         lookups: &mut Lookups<L>,
     ) -> Result<Ticket, NoRoom<W>> {
         if !self.entries.reserve(lookups) {
-            return Err(NoRoom(w));
+            return Err(NoRoom(payload));
         }
-        let key = self.ends.put_last(&mut self.entries, w, lookups);
+        let key = self.ends.put_last(&mut self.entries, payload, lookups);
         self.len += 1;
         Ok(Ticket { key })
     }
@@ -69,18 +78,18 @@ impl<W> Links<W> {
     #[inline]
     pub(super) fn renew<L: Ledger>(
         &mut self,
-        t: &Ticket,
-        w: W,
+        ticket: &Ticket,
+        payload: W,
         lookups: &mut Lookups<L>,
     ) -> Result<Option<W>, W> {
-        let Some(was_told) = self.entries.is_told(t.key, lookups) else {
-            return Err(w);
+        let Some(notice) = self.entries.notice(ticket.key, lookups) else {
+            return Err(payload);
         };
-        if !was_told {
-            return Ok(self.entries.set_payload(t.key, w, lookups));
+        if !notice.is_told() {
+            return Ok(self.entries.set_payload(ticket.key, payload, lookups));
         }
-        self.ends.take_out(&mut self.entries, t.key, lookups);
-        self.ends.put_last(&mut self.entries, w, lookups);
+        self.ends.take_out(&mut self.entries, ticket.key, lookups);
+        self.ends.put_last(&mut self.entries, payload, lookups);
         self.told -= 1;
         Ok(None)
     }
@@ -122,10 +131,10 @@ impl<W> Links<W> {
     #[inline]
     pub(super) fn unregister<L: Ledger>(
         &mut self,
-        t: Ticket,
+        ticket: Ticket,
         lookups: &mut Lookups<L>,
     ) -> Option<EntryState<W>> {
-        let entry = self.ends.take_out(&mut self.entries, t.key, lookups)?;
+        let entry = self.ends.take_out(&mut self.entries, ticket.key, lookups)?;
         self.len -= 1;
         if entry.is_told() {
             self.told -= 1;
@@ -133,32 +142,14 @@ impl<W> Links<W> {
         Some(entry)
     }
 
-    /// The entry leaves, and if it was told, one is told in its place. The answer is the payload
-    /// of one that was untold. At most 12 look-ups.
+    /// The ticket's entry, or nothing if it isn't in the list. One look-up.
     #[inline]
-    pub(super) fn withdraw<B: Bell<W>, L: Ledger>(
-        &mut self,
-        t: Ticket,
-        bell: &mut B,
+    pub(super) fn entry<L: Ledger>(
+        &self,
+        ticket: &Ticket,
         lookups: &mut Lookups<L>,
-    ) -> Option<W> {
-        let entry = self.unregister(t, lookups)?;
-        if entry.is_told() {
-            self.tell_one(bell, lookups);
-        }
-        entry.into_payload()
-    }
-
-    /// Whether the ticket's entry is told, or nothing if it isn't in the list. One look-up.
-    #[inline]
-    pub(super) fn is_told<L: Ledger>(&self, t: &Ticket, lookups: &mut Lookups<L>) -> Option<bool> {
-        self.entries.is_told(t.key, lookups)
-    }
-
-    /// The payload of the ticket's entry, if it is untold. One look-up.
-    #[inline]
-    pub(super) fn payload<L: Ledger>(&self, t: &Ticket, lookups: &mut Lookups<L>) -> Option<&W> {
-        self.entries.payload(t.key, lookups)
+    ) -> Option<&EntryState<W>> {
+        self.entries.notice(ticket.key, lookups)
     }
 
     /// Whether somebody is untold.

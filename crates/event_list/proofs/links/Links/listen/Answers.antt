@@ -13,7 +13,7 @@ pub invariant_of-self-2 : goal.invariant_of-self-2
 invariant_of-self-2 g c =
     let roomy = keeps_same (ap (λ (s : Slab (Entry g.row.W.Denot)). s.slots) c.reserve.ensures.same)
     (opened c.self.invariant c.self.view_is) in
-    closed (keeps_joined c.put_last-key.result c.args.w roomy
+    closed (keeps_joined c.put_last-key.result c.args.payload roomy
     (c.put_last-key.ensures.joins c.args.self.now roomy.links) c.put_last-key.ensures.held)
 
 pub returns-clause-does : goal.returns-clause-does
@@ -21,12 +21,12 @@ returns-clause-does g c =
     let roomy = keeps_same (ap (λ (s : Slab (Entry g.row.W.Denot)). s.slots) c.reserve.ensures.same)
     (opened c.self.invariant c.self.view_is) in
     let fresh = c.put_last-key.ensures.fresh c.args.self.now roomy.links in
-    let after = shows (keeps_joined c.put_last-key.result c.args.w roomy
+    let after = shows (keeps_joined c.put_last-key.result c.args.payload roomy
     (c.put_last-key.ensures.joins c.args.self.now roomy.links) c.put_last-key.ensures.held) in
     record {
       fresh = fresh;
       after = after;
-      waits = waits_newly c.args.self.now c.put_last-key.result c.args.w fresh after;
+      waits = waits_newly c.args.self.now c.put_last-key.result c.args.payload fresh after;
       handed_back = search rules;
       unchanged = search rules;
     }
