@@ -15,7 +15,7 @@ ghost use Rattle.std.specs.Prelude.{◌≡◌};
 /// impl Bell<u64> for Last {
 ///     ghost rings = { λ _ payload after. after.0 ≡ Some payload };
 ///
-///     fn ring(&mut self, w: u64) {
+///     fn ring(&mut self, payload: u64) {
 ///         self.0 = Some(payload);
 ///     }
 /// }

@@ -12,8 +12,8 @@
 //! A new entry goes behind the last one, untold. To tell one is to tell the entry at the cursor and
 //! to move the cursor to its neighbour behind. An entry leaves by letting its neighbours name one
 //! another, and an end or the cursor that named it names its neighbour. Who waits again leaves and
-//! comes last, under the same key, if it was told, and stays where it is otherwise. So no call walks
-//! along the list.
+//! comes last, under the same key, if it was told, and stays where it is otherwise. So no call
+//! walks along the list.
 //!
 //! Each look-up is counted on the ledger that a call is handed. No other can be opened here, and no
 //! entry is reached without one: see `steps`.

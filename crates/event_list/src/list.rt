@@ -1,8 +1,8 @@
 //! The waiting list: its public calls.
 //!
-//! The work is done in `links`, on the ledger that a counted call is given. A call of the plain name
-//! opens a ledger of its own. Without memory a list is a pointer, and a call that looks for an entry
-//! counts one look-up and finds none.
+//! The work is done in `links`, on the ledger that a counted call is given. A call of the plain
+//! name opens a ledger of its own. Without memory a list is a pointer, and a call that looks for an
+//! entry counts one look-up and finds none.
 ghost use Rattle.std.specs.Prelude.{◌≡◌, ◌+◌, ◌<◌, ◌≤◌, ◌↔◌, length, take, is_some, IsTrue, slice_get};
 ghost use Rattle.std.specs.Option.{option_copied};
 ghost use Rattle.identity.specs.Keys.{AreDifferent};

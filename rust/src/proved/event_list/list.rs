@@ -1,9 +1,9 @@
 // Taken out of crates/event_list/src/list.rt by tools/erase. Change that file, not this one.
 //! The waiting list: its public calls.
 //!
-//! The work is done in `links`, on the ledger that a counted call is given. A call of the plain name
-//! opens a ledger of its own. Without memory a list is a pointer, and a call that looks for an entry
-//! counts one look-up and finds none.
+//! The work is done in `links`, on the ledger that a counted call is given. A call of the plain
+//! name opens a ledger of its own. Without memory a list is a pointer, and a call that looks for an
+//! entry counts one look-up and finds none.
 
 use crate::shim::Box;
 
