@@ -16,7 +16,7 @@ class Owner:
 
     def __init__(self, name, trait, arguments=''):
         self.name, self.trait = name, trait
-        # The types that the trait is given, in one word.
+        # The types that the trait is given, in one word, or those of a type's own block.
         self.arguments = arguments
 
 
@@ -35,8 +35,8 @@ class Call:
 
     def name_in_proofs(self):
         """What the prover calls it, without its module. Of a trait, but for `Drop`, the type and the
-        trait with its types are one word."""
-        trait = self.trait + self.arguments if self.trait and self.trait != 'Drop' else ''
+        trait with its types are one word, and so are a type and those that its own block is for."""
+        trait = '' if self.trait == 'Drop' else (self.trait or '') + self.arguments
         return f'{self.owner}{trait}::{self.name}' if self.owner else self.name
 
     def path_in_proofs(self):
@@ -104,10 +104,13 @@ def owner_of(lines):
     rest = without_generics(head.removeprefix('impl')).strip()
     trait, is_for, type_name = rest.partition(' for ')
     first = re.match(r'[\w:]+', trait)[0].split('::')[-1]
+    given = re.split(r' where |\{', trait)[0].partition('<')[2]
+    types = re.findall(r"(?<!')\b[A-Za-z]\w*|\(\)", given)
     if not is_for:
-        return Owner(first, None)
+        is_open = {*types} <= {*re.findall(r'\w+', head.partition(first)[0])}
+        words = [] if is_open else ['', *(it.replace('()', 'unit') for it in types)]
+        return Owner(first, None, '+'.join(words))
     name = re.search(r'\w+', type_name)
-    types = re.findall(r"(?<!')\b[A-Za-z]\w*|\(\)", trait.partition('<')[2])
     arguments = ''.join('Unit' if it == '()' else it for it in types)
     return Owner(name[0] if name else '()', first, arguments)
 
