@@ -1,6 +1,6 @@
 -- What a batch leaves, round by round.
-use Rattle.std.proofs.Common.{◌≡◌, ◌≤◌, List, ◌++◌, take, length, refl, sym, ap, ◌∙◌, arith}
-use Rattle.std.proofs.lemmas.List.{length-append, take_at, take-take}
+use Rattle.std.proofs.Common.{◌≡◌, ◌≤◌, List, ◌++◌, take, length, refl, sym, ap, ◌∙◌}
+use Rattle.std.proofs.lemmas.List.{take_at, take-take}
 
 module _ {T : Type 0} where
   -- what was put behind a list leaves it in front
@@ -12,10 +12,3 @@ module _ {T : Type 0} where
       → take (length before) after ≡ before → length first ≤ length before → take (length first) after ≡ first
   front_stays_on first before after stays more few =
       sym (take-take (length first) (length before) after few) ∙ ap (take (length first)) more ∙ stays
-
-  -- what is put behind what was put behind a list leaves it in front, too
-  pub front_stays_behind : (first before after more : List T) → before ≡ first ++ more
-      → take (length before) after ≡ before → take (length first) after ≡ first
-  front_stays_behind first before after more is stays =
-      front_stays_on first before after (front_stays first before more is) stays
-      (rw (is, length-append first more) (omega arith))
