@@ -8,13 +8,14 @@ export RT_JOBS ?= $(PROCESSORS)
 help:
 	@echo 'make run    proves and builds the channel, and runs trysend'
 	@echo 'make tour   the same of chanrun, on examples/tour.chan'
-	@echo 'make try    runs both before any proof, in about a minute'
+	@echo 'make try    runs both before any proof, in a minute or two'
 	@echo 'make test   proves and tests everything over what earlier checks kept'
 	@echo 'make rust   builds and tests the Rust crate'
 	@echo 'make clients runs the tests of Debian'"'"'s crates over async-channel and over the Rust crate'
 	@echo 'make original makes random runs beside async-channel itself'
 	@echo 'make oldest builds the Rust crate with the compiler of Debian 12'
 	@echo 'make check  proves every crate, lowest first, over what earlier checks kept'
+	@echo 'make pages  checks what needs no proof: the pages, and the places of wrong bodies'
 	@echo 'make facts  writes the tables of the pages that come from the sources'
 	@echo 'make bench  measures the waiting list, the handles, the parallel map, scripts, runs and orders,'
 	@echo '            and writes it into docs/figures.txt'
@@ -47,10 +48,12 @@ pages:
 	tools/facts_tests
 	tools/examples_tests
 	tools/edits --places
+	tools/wrong_bodies --places
 	tools/refused_requests_tests
+	tools/rust_wrong_bodies_tests
 
 # What needs the proved programs and libraries.
-programs:
+programs: kit
 	tools/compare_handles
 	tools/compare_handles_tests
 	tools/examples
@@ -82,14 +85,14 @@ check: kit
 facts:
 	tools/facts --write
 
-bench:
+bench: kit
 	cd crates/bench_channel && rt run > /dev/null
 	for table in waiters channel map; do \
 	    tools/figures $$table crates/bench_channel/out/bench_channel measure $$table || exit 1; done
 	tools/figures held tools/held_bytes
 	cd crates/program_chanrun && rt run < ../../examples/tour.chan > /dev/null
 	tools/figures scripts tools/script_times.py
-	cd crates/program_chanexplore && rt run < stdin > /dev/null
+	cd crates/chanexplore && rt run < stdin > /dev/null
 	tools/figures orders tools/explore_times.py
 	. tools/rust_cargo.sh && cd rust/scripts && \
 	    ../../tools/figures runs cargo run --quiet --release --bin run_steps

@@ -1,4 +1,4 @@
-# Unpacks packages of a Debian release that isn't the machine's: to be sourced. Nothing is installed.
+# Unpacks packages of another Debian release: to be sourced. Nothing is installed.
 
 # Says which release, and below which folder the packages and what apt knows of them are kept.
 use_release() {

@@ -1,5 +1,5 @@
 #!/usr/bin/env python3
-"""Compares a step of the built chanexplore with the same line of the built chanrun.
+"""Compares a step of chanexplore with the same line of chanrun.
 
 One row has one party with many lines, and so one order; the other has three parties with 34,650
 orders, each made on a channel of its own. A row's time is the best of some runs, without what a
@@ -50,7 +50,7 @@ def rows():
 
 def main():
     chanrun = program("program_chanrun")
-    explore = program("program_chanexplore")
+    explore = program("chanexplore")
     many = LINES * 15_000
     idle = seconds([chanrun], script(LINES[:1]))
     plain = (seconds([chanrun], script(many)) - idle) / len(many)

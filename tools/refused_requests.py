@@ -4,9 +4,8 @@
     tools/refused_requests.py            compares, too, what is stored of each row
     tools/refused_requests.py --write    stores it, in refused_requests/requests.txt
 
-Three built programs make the rows: chanrun and test_channel the scripts of test_channel/data that
-both make, test_channel also those of batches; chanrun those of tools/chanrun_runs; and test_memory
-what no script says. An allocator laid in front of a program counts its requests, and refuses the one
+Two built programs make the rows: chanrun and test_channel the scripts of test_channel/data that both
+make, test_channel also those of batches, and what no script says; chanrun those of tools/chanrun_runs. An allocator laid in front of a program counts its requests, and refuses the one
 that it is told to. It stands in front of each call of the C library that gives memory.
 
 Each row is made once with all memory, and must write and end with what it is to. Then it is made
@@ -18,7 +17,7 @@ again for each request, and that one request is refused. Four things may come of
   holds and who waits was as before; and all that came later was as if nothing had been. A batch may
   have moved a part before, and is made again for the rest.
 - ended: it writes a beginning of the same, and ends with status 1 and the line that there is no
-  memory. chanrun ends like this; the other two if it is their own memory, and no call's.
+  memory. chanrun ends like this; the other one if it is its own memory, and no call's.
 - different: anything else, which is a fault.
 
 A line is printed for each row, with how many of its requests came to each. Of the longest scripts
@@ -197,10 +196,11 @@ def long_scripts():
 
 
 def other_rows():
-    """The rows of test_memory, as its stored run names them."""
-    for name in (CRATES / "test_memory" / "stdout").read_text("utf-8").splitlines():
+    """The rows that no script has, as the stored run of test_channel names them."""
+    _rows, _random, *names = (CRATES / "test_channel" / "stdout").read_text("utf-8").splitlines()
+    for name in names:
         output, is_by_threads = as_lines([name]).encode(), name.startswith("a map ")
-        yield Row("test_memory", name, output, (name,), is_by_threads=is_by_threads)
+        yield Row("test_channel", name, output, (name,), is_by_threads=is_by_threads)
 
 
 def numbered(rows):

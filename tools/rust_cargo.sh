@@ -37,7 +37,8 @@ install_missing() {
 gather() {
     rm -rf "$target/debian/registry"
     mkdir -p "$target/debian"
-    cp -rL "$debian" "$target/debian/registry"
+    # Links that lead nowhere, as to a licence that isn't installed, are left out.
+    cp -rL "$debian" "$target/debian/registry" 2> /dev/null || true
     for loom in "$debian"/loom-0.5.*; do
         [ -d "$loom" ] && return
     done

@@ -1,5 +1,5 @@
 #!/usr/bin/env python3
-"""How long the built chanrun takes for scripts with many names, to a cheap one of its size.
+"""Times scripts with many names in chanrun.
 
     tools/script_times.py [PROGRAM]
 

@@ -1,5 +1,5 @@
 #!/usr/bin/env python3
-"""Says which functions of a crate take longest to prove, and what of them.
+"""Says which functions take longest to prove.
 
     tools/slow_proofs.py CRATE [--test] [--keep]
 

@@ -94,6 +94,8 @@ class Trial:
         if mine[0][2] == 'proved':
             return True
         if mine[0][2] != 'could not tell' and (is_alone or own_reasons(mine[0][3])):
+            folder = change.function.split('::')[-1]
+            change.breaks_a_proof = bool(re.search(rf'^\./proofs/.*/{folder}/.*: error', said, re.M))
             return False
         if is_alone:
             raise Refused('the prover could not tell')

@@ -12,22 +12,18 @@
 //! is one sender as long as there is any, and one receiver likewise. The core is told when the last
 //! one goes, and decides what that means. It is asked for each upgrade, too.
 
-mod batches;
-
 use crate::lock::Lock;
-use crate::marks::{Mark, Marks, Told};
-use crate::operations::Wait;
+use crate::marks::{Marks, Told};
 use crate::primitives::{abort, pause, turns, AtomicUsize};
-use crate::proved::channel_core::{Core as ProvedCore, Group, Upgrade, HANDLE_LIMIT};
+use crate::proved::channel_core::{Core as ProvedCore, Group, OutOfMemory, HANDLE_LIMIT};
 use crate::proved::event_list::Ticket;
 use crate::shim::Global;
-use crate::{RecvError, SendError, TryRecvError, TrySendError};
 use std::num::NonZeroUsize;
 use std::sync::atomic::Ordering;
 use std::sync::{Arc, Weak};
-use std::task::{Context, Poll};
+use std::task::{Context, Poll, Waker};
 
-type Core<T> = ProvedCore<T, Mark>;
+pub(crate) type Core<T> = ProvedCore<T, Waker>;
 
 /// How often a thread looks before it waits.
 const LOOKS: u32 = turns(20);
@@ -43,6 +39,9 @@ const SEEN: Ordering = if cfg!(any(target_arch = "x86", target_arch = "x86_64"))
 } else {
     Ordering::SeqCst
 };
+
+/// The answer of a step that polls.
+pub(crate) type Polled<A> = Result<Poll<A>, OutOfMemory>;
 
 /// The way of a waiting operation to its channel, which it doesn't keep.
 pub(crate) type Link<T> = Option<Weak<Channel<T>>>;
@@ -80,7 +79,7 @@ impl<T> Channel<T> {
 
     /// Makes a step under the lock, and then wakes those whom it told.
     #[inline]
-    fn step<A>(&self, step: impl FnOnce(&mut Core<T>, &mut Told) -> A) -> A {
+    pub(crate) fn step<A>(&self, step: impl FnOnce(&mut Core<T>, &mut Told) -> A) -> A {
         self.step_beside(|core, _spare, told| step(core, told))
     }
 
@@ -104,143 +103,50 @@ impl<T> Channel<T> {
 
     /// Makes a poll by the owner of a ticket.
     ///
-    /// One that is ready needs no waker. A first one waits most likely, but for a closed operation's:
-    /// so the waker is copied at once, and dropped here if it isn't needed after all. Any other
-    /// looks without one. If it can't go on, and the waker that waits for it
-    /// doesn't wake the same task, the caller's is copied without the lock, and the poll is made
-    /// again.
+    /// One that is ready needs no waker. A first one that doesn't seem to be waits most likely: so
+    /// the waker is copied at once, and dropped here if it isn't needed after all. Any other looks
+    /// without one. If it can't go on, and the waker that waits for it doesn't wake the same task,
+    /// the caller's is copied without the lock, and the poll is made again.
     #[inline]
-    fn poll<A>(
+    pub(crate) fn poll<A>(
         self: &Arc<Self>,
         group: Group,
         ticket: &mut Option<Ticket>,
         mut link: Option<&mut Link<T>>,
         context: &Context<'_>,
-        mut poll: impl FnMut(&mut Core<T>, &mut Option<Ticket>, &mut Marks, &mut Told) -> Poll<A>,
+        mut poll: impl FnMut(&mut Core<T>, &mut Option<Ticket>, &mut Marks, &mut Told) -> Polled<A>,
     ) -> Poll<A> {
-        let will_wait = ticket.is_none() && group != Group::Closeds;
-        let mut marks = Marks { own: will_wait.then(|| Mark::of(context)), back: None };
+        let will_wait = ticket.is_none() && !self.seems_ready(group);
+        let mut marks = Marks { own: will_wait.then(|| context.waker().clone()), back: None };
         loop {
             let answer = self.step_beside(|core, spare, told| {
                 let only_looks = marks.own.is_none();
-                let answer = poll(core, ticket, &mut marks, told);
+                let answer = with_memory(poll(core, ticket, &mut marks, told));
                 self.settle(ticket, link.as_deref_mut(), spare);
                 let is_done = answer.is_ready() || !only_looks || {
                     let left = ticket.as_ref().and_then(|ticket| core.payload(group, ticket));
-                    left.map_or(false, |left| left.will_wake(context))
+                    left.map_or(false, |left| left.will_wake(context.waker()))
                 };
                 is_done.then_some(answer)
             });
             match answer {
                 Some(answer) => return answer,
-                None => marks.own = Some(Mark::of(context)),
+                None => marks.own = Some(context.waker().clone()),
             }
         }
     }
 
+    /// Gives the wait of an operation or a stream up, if it waits. The answer is the waker that it
+    /// left there.
     #[inline]
-    pub(crate) fn try_send(&self, message: T) -> Result<(), TrySendError<T>> {
-        self.step(|core, told| with_memory(core.try_send(message, told)))
-    }
-
-    pub(crate) fn force_send(&self, message: T) -> Result<Option<T>, SendError<T>> {
-        self.step(|core, told| with_memory(core.force_send(message, told)))
-    }
-
-    #[inline]
-    pub(crate) fn try_recv(&self) -> Result<T, TryRecvError> {
-        self.step(|core, told| core.try_recv(told))
-    }
-
-    pub(crate) fn close(&self) -> bool {
-        self.step(|core, told| core.close(told))
-    }
-
-    #[inline]
-    pub(crate) fn poll_send(
-        self: &Arc<Self>,
-        message: &mut Option<T>,
-        wait: &mut Wait<T>,
-        context: &Context<'_>,
-    ) -> Poll<Result<(), SendError<T>>> {
-        let Wait { ticket, link, .. } = wait;
-        let may_go_on = ticket.is_none() && self.has_room();
-        if let Some(sent) = may_go_on.then(|| message.take()).flatten() {
-            match self.try_send(sent) {
-                Ok(()) => return Poll::Ready(Ok(())),
-                Err(TrySendError::Closed(sent)) => return Poll::Ready(Err(SendError(sent))),
-                Err(TrySendError::Full(sent)) => *message = Some(sent),
-            }
-        }
-        self.poll(Group::Sends, ticket, Some(link), context, |core, ticket, marks, told| {
-            let Marks { own, back } = marks;
-            with_memory(core.poll_send_with(message, ticket, own, told, back))
-        })
-    }
-
-    #[inline]
-    pub(crate) fn poll_recv(
-        self: &Arc<Self>,
-        wait: &mut Wait<T>,
-        context: &Context<'_>,
-    ) -> Poll<Result<T, RecvError>> {
-        let Wait { ticket, link, .. } = wait;
-        if ticket.is_none() && self.has_message() {
-            match self.try_recv() {
-                Ok(message) => return Poll::Ready(Ok(message)),
-                Err(TryRecvError::Closed) => return Poll::Ready(Err(RecvError)),
-                Err(TryRecvError::Empty) => {}
-            }
-        }
-        self.poll(Group::Receives, ticket, Some(link), context, |core, ticket, marks, told| {
-            let Marks { own, back } = marks;
-            with_memory(core.poll_recv_with(ticket, own, told, back))
-        })
-    }
-
-    #[inline]
-    pub(crate) fn poll_next(
-        self: &Arc<Self>,
-        ticket: &mut Option<Ticket>,
-        context: &Context<'_>,
-    ) -> Poll<Option<T>> {
-        if ticket.is_none() && self.has_message() {
-            match self.try_recv() {
-                Ok(message) => return Poll::Ready(Some(message)),
-                Err(TryRecvError::Closed) => return Poll::Ready(None),
-                Err(TryRecvError::Empty) => {}
-            }
-        }
-        self.poll(Group::Streams, ticket, None, context, |core, ticket, marks, told| {
-            let Marks { own, back } = marks;
-            with_memory(core.poll_next_with(ticket, own, told, back))
-        })
-    }
-
-    pub(crate) fn poll_closed(
-        self: &Arc<Self>,
-        wait: &mut Wait<T>,
-        context: &Context<'_>,
-    ) -> Poll<()> {
-        let Wait { ticket, link, .. } = wait;
-        self.poll(Group::Closeds, ticket, Some(link), context, |core, ticket, marks, _told| {
-            let Marks { own, back } = marks;
-            with_memory(core.poll_closed_with(ticket, own, back))
-        })
-    }
-
-    /// Gives the wait of an operation or a stream up, if it waits.
-    #[inline]
-    pub(crate) fn cancel(
+    pub(crate) fn withdraw(
         self: &Arc<Self>,
         group: Group,
         ticket: &mut Option<Ticket>,
         link: Option<&mut Link<T>>,
-    ) {
-        if ticket.is_none() {
-            return;
-        }
-        let _left = self.step_beside(|core, spare, told| {
+    ) -> Option<Waker> {
+        ticket.as_ref()?;
+        self.step_beside(|core, spare, told| {
             let left = match group {
                 Group::Sends => core.withdraw_send(ticket, told),
                 Group::Receives => core.withdraw_recv(ticket, told),
@@ -249,7 +155,7 @@ impl<T> Channel<T> {
             };
             self.settle(ticket, link, spare);
             left
-        });
+        })
     }
 
     /// An operation has a link exactly while it has a ticket. A stream has its handle.
@@ -269,60 +175,44 @@ impl<T> Channel<T> {
         }
     }
 
-    #[inline]
     pub(crate) fn is_closed(&self) -> bool {
         self.seen() % 2 == 1
-    }
-
-    #[inline]
-    pub(crate) fn is_empty(&self) -> bool {
-        self.len() == 0
-    }
-
-    #[inline]
-    pub(crate) fn is_full(&self) -> bool {
-        self.capacity() == Some(self.len())
     }
 
     pub(crate) fn is_terminated(&self) -> bool {
         self.seen() == 1
     }
 
-    #[inline]
     pub(crate) fn len(&self) -> usize {
         self.seen() / 2
     }
 
-    #[inline]
     fn seen(&self) -> usize {
         self.seen.load(Ordering::SeqCst)
     }
 
-    /// Whether a send seems to go on: there is room, or the channel is closed.
+    /// Whether who waits for this seems to go on. A closed operation does: it waits seldom.
     #[inline]
-    fn has_room(&self) -> bool {
-        !self.is_full() || self.is_closed()
+    pub(crate) fn seems_ready(&self, group: Group) -> bool {
+        match group {
+            Group::Sends => self.capacity() != Some(self.len()) || self.is_closed(),
+            Group::Receives | Group::Streams => self.seen() != 0,
+            Group::Closeds => true,
+        }
     }
 
-    /// Whether a receive seems to go on: there is a message, or the channel is closed.
+    /// Lets others run for a while, at most until who waits for this seems to go on. That is cheaper
+    /// than to sleep if another thread is about to make it so.
     #[inline]
-    fn has_message(&self) -> bool {
-        self.seen() != 0
+    pub(crate) fn await_turn(&self, group: Group) {
+        for _look in 0..LOOKS {
+            if self.seems_ready(group) {
+                return;
+            }
+            pause(PAUSES);
+        }
     }
 
-    /// Lets others run for a while, at most until a send seems to go on.
-    #[inline]
-    pub(crate) fn await_room(&self) {
-        await_turn(|| self.has_room());
-    }
-
-    /// Lets others run for a while, at most until a receive seems to go on.
-    #[inline]
-    pub(crate) fn await_message(&self) {
-        await_turn(|| self.has_message());
-    }
-
-    #[inline]
     pub(crate) fn capacity(&self) -> Option<usize> {
         self.capacity.map(NonZeroUsize::get)
     }
@@ -340,16 +230,18 @@ impl<T> Channel<T> {
     pub(crate) fn receiver_count(&self) -> usize {
         let count = self.receivers.load(Ordering::SeqCst);
         if count == 0 {
-            self.step(|core, told| core.drop_receiver(&mut None, told));
+            self.end_receivers();
         }
         count
     }
 
+    /// Counts one more sender, a copy of one that there is.
     #[inline]
     pub(crate) fn add_sender(&self) {
         add(&self.senders);
     }
 
+    /// Counts one more receiver, a copy of one that there is.
     #[inline]
     pub(crate) fn add_receiver(&self) {
         add(&self.receivers);
@@ -357,43 +249,27 @@ impl<T> Channel<T> {
 
     /// Counts one more sender if the channel is open, and answers whether it is.
     pub(crate) fn upgrade_sender(&self) -> bool {
-        self.step(|core, told| {
-            if !is_raised(core.upgrade_sender()) {
-                return false;
-            }
-            // To the core there is one as long as there is any.
-            core.drop_sender(told);
-            let raised = add_to_some(&self.senders);
-            if !raised {
-                // The last one is on its way out, and hasn't said so under the lock yet.
-                core.drop_sender(told);
-            }
-            raised
-        })
+        self.upgrade(&self.senders, |core, told| core.drop_sender(told))
     }
 
     /// Counts one more receiver if the channel is open, and answers whether it is.
     pub(crate) fn upgrade_receiver(&self) -> bool {
+        self.upgrade(&self.receivers, |core, told| core.drop_receiver(&mut None, told))
+    }
+
+    /// Counts one more handle if the channel is open. The core isn't told: it knows of one.
+    fn upgrade(&self, count: &AtomicUsize, end: fn(&mut Core<T>, &mut Told) -> bool) -> bool {
         self.step(|core, told| {
-            if !is_raised(core.upgrade_receiver()) {
+            if core.is_closed() {
                 return false;
             }
-            // To the core there is one as long as there is any.
-            core.drop_receiver(&mut None, told);
-            let raised = add_to_some(&self.receivers);
+            let raised = add_to_some(count);
             if !raised {
                 // The last one is on its way out, and hasn't said so under the lock yet.
-                core.drop_receiver(&mut None, told);
+                end(core, told);
             }
             raised
         })
-    }
-
-    /// Sets the numbers of handles, which no test can reach by copies.
-    #[cfg(test)]
-    pub(crate) fn set_counts(&self, count: usize) {
-        self.senders.store(count, Ordering::SeqCst);
-        self.receivers.store(count, Ordering::SeqCst);
     }
 
     /// Gives a sender up. The core is told of the last one.
@@ -404,36 +280,25 @@ impl<T> Channel<T> {
         }
     }
 
+    /// Gives a receiver up, and its stream's wait before it. The core is told of the last one.
+    #[inline]
+    pub(crate) fn drop_receiver(self: &Arc<Self>, stream: &mut Option<Ticket>) {
+        let _left = self.withdraw(Group::Streams, stream, None);
+        if self.receivers.fetch_sub(1, Ordering::SeqCst) == 1 {
+            self.end_receivers();
+        }
+    }
+
     /// Tells the core that no sender is left.
     #[cold]
     fn end_senders(&self) {
         self.step(|core, told| core.drop_sender(told));
     }
 
-    /// Gives a receiver up, and its stream's wait with it. The core is told of the last one.
-    #[inline]
-    pub(crate) fn drop_receiver(self: &Arc<Self>, stream: &mut Option<Ticket>) {
-        if self.receivers.fetch_sub(1, Ordering::SeqCst) == 1 {
-            let _left = self.step(|core, told| {
-                let left = core.withdraw_stream(stream);
-                core.drop_receiver(&mut None, told);
-                left
-            });
-        } else {
-            self.cancel(Group::Streams, stream, None);
-        }
-    }
-}
-
-/// Looks whether a thread may go on, and pauses in between. That is cheaper than to sleep if another
-/// thread is about to make it so.
-#[inline]
-fn await_turn(may_go_on: impl Fn() -> bool) {
-    for _look in 0..LOOKS {
-        if may_go_on() {
-            return;
-        }
-        pause(PAUSES);
+    /// Tells the core that no receiver is left.
+    #[cold]
+    fn end_receivers(&self) {
+        self.step(|core, told| core.drop_receiver(&mut None, told));
     }
 }
 
@@ -450,23 +315,13 @@ fn add_to_some(count: &AtomicUsize) -> bool {
     let raise = |count: usize| (count > 0).then_some(count.wrapping_add(1));
     match count.fetch_update(Ordering::SeqCst, Ordering::SeqCst, raise) {
         Ok(before) if before > HANDLE_LIMIT => abort(),
-        Ok(_) => true,
-        Err(_) => false,
-    }
-}
-
-/// Whether the core made an upgrade. It counts one or two handles, so they aren't too many for it.
-fn is_raised(upgrade: Upgrade) -> bool {
-    match upgrade {
-        Upgrade::Raised => true,
-        Upgrade::Closed => false,
-        Upgrade::TooMany => abort(),
+        raised => raised.is_ok(),
     }
 }
 
 /// The answer of a call that could be refused memory: here memory isn't refused.
 #[inline]
-fn with_memory<A, E>(answer: Result<A, E>) -> A {
+pub(crate) fn with_memory<A, E>(answer: Result<A, E>) -> A {
     match answer {
         Ok(answer) => answer,
         Err(_) => unreachable!("memory isn't refused"),

@@ -203,8 +203,24 @@ pub fn unbounded<T>() -> (Sender<T>, Receiver<T>) {
     handles(Channel::new(None))
 }
 
+/// The text of each type is its name. It asks nothing of the message.
+macro_rules! write_names {
+    ($($name:literal $of:ty,)*) => {$(
+        impl<T> std::fmt::Debug for $of {
+            fn fmt(&self, f: &mut std::fmt::Formatter<'_>) -> std::fmt::Result {
+                f.write_str(concat!($name, " { .. }"))
+            }
+        }
+    )*};
+}
+write_names! {
+    "Sender" Sender<T>, "WeakSender" WeakSender<T>, "Receiver" Receiver<T>,
+    "WeakReceiver" WeakReceiver<T>, "Send" Send<'_, T>, "Recv" Recv<'_, T>, "Closed" Closed<'_, T>,
+    "SendMany" SendMany<'_, T>, "RecvMany" RecvMany<'_, T>, "TryIter" TryIter<'_, T>,
+}
+
 /// The first two handles of a channel.
 fn handles<T>(channel: Channel<T>) -> (Sender<T>, Receiver<T>) {
     let channel = Arc::new(channel);
-    (Sender::new(channel.clone()), Receiver::new(channel))
+    (Sender { channel: channel.clone() }, Receiver { channel, stream: None })
 }

@@ -1,10 +1,17 @@
 //! Many messages in one call, and the messages that there are one after the other.
+//!
+//! Many messages move in rounds. A round is one step under the lock, of at most [`ROUND_LIMIT`]
+//! messages, so that a large batch keeps nobody out for long. What a round needs of its caller is
+//! there before it begins: room for what it takes, and the messages that it sends. So no list of the
+//! caller's grows under the lock, and no code of the caller's runs there.
 
+use crate::channel::{with_memory, Channel, Core};
+use crate::marks::{Marks, Told};
 use crate::operations::Wait;
 use crate::proved::channel_core::Group;
+use crate::shim::Over;
 use crate::{Receiver, SendError, Sender, TryRecvError, TrySendError};
 use std::collections::VecDeque;
-use std::fmt;
 use std::future::Future;
 use std::pin::Pin;
 use std::task::{Context, Poll};
@@ -53,7 +60,14 @@ impl<T> Sender<T> {
     /// assert_eq!(from, [3]);
     /// ```
     pub fn try_send_many(&self, from: &mut VecDeque<T>) -> Result<usize, TrySendError<()>> {
-        self.channel().try_send_many(from)
+        let mut sent = self.channel.send_round(from)?;
+        while !from.is_empty() && self.channel.seems_ready(Group::Sends) {
+            match self.channel.send_round(from) {
+                Ok(more) => sent += more,
+                Err(_) => break,
+            }
+        }
+        Ok(sent)
     }
 
     /// Sends all messages, in order, and waits while the channel is full.
@@ -118,15 +132,9 @@ impl<T> Sender<T> {
         &self,
         messages: I,
     ) -> Result<(), SendError<VecDeque<T>>> {
-        let mut messages = messages.into_iter();
-        // One alone goes the way of a single message, without a list.
-        let one = (messages.size_hint().1 == Some(1)).then(|| messages.next()).flatten();
-        let mut left: VecDeque<T> = messages.collect();
-        if let Some(one) = one {
-            self.send_blocking(one).map_err(|unsent| before(unsent, &mut left))?;
-        }
+        let mut left: VecDeque<T> = messages.into_iter().collect();
         while !left.is_empty() {
-            self.channel().await_room();
+            self.channel.await_turn(Group::Sends);
             match self.try_send_many(&mut left) {
                 Ok(_) => {}
                 Err(TrySendError::Closed(())) => return Err(SendError(left)),
@@ -142,15 +150,11 @@ impl<T> Sender<T> {
         let Some(first) = left.pop_front() else {
             return Ok(());
         };
-        crate::blocking::block_on(self.send(first)).map_err(|unsent| before(unsent, left))
+        crate::blocking::block_on(self.send(first)).map_err(|SendError(first)| {
+            left.push_front(first);
+            SendError(std::mem::take(left))
+        })
     }
-}
-
-/// The error of a message that wasn't sent, and of those after it.
-#[cfg(not(target_family = "wasm"))]
-fn before<T>(SendError(first): SendError<T>, left: &mut VecDeque<T>) -> SendError<VecDeque<T>> {
-    left.push_front(first);
-    SendError(std::mem::take(left))
 }
 
 impl<T> Receiver<T> {
@@ -182,7 +186,8 @@ impl<T> Receiver<T> {
     /// assert_eq!(r.try_recv_many(&mut into, 2), Err(TryRecvError::Closed));
     /// ```
     pub fn try_recv_many(&self, into: &mut Vec<T>, limit: usize) -> Result<usize, TryRecvError> {
-        self.channel().try_recv_many(into, limit)
+        let first = self.channel.recv_round(into, limit)?;
+        Ok(first + self.channel.recv_more(into, limit - first))
     }
 
     /// Takes up to `limit` messages, the oldest first, puts them after those in `into`, and waits
@@ -228,21 +233,13 @@ impl<T> Receiver<T> {
     /// ```
     #[cfg(not(target_family = "wasm"))]
     pub fn recv_many_blocking(&self, into: &mut Vec<T>, limit: usize) -> usize {
-        match limit {
-            0 => return 0,
-            1 => {
-                return self.recv_blocking().map_or(0, |message| {
-                    into.push(message);
-                    1
-                })
-            }
-            _ => {}
+        if limit == 0 {
+            return 0;
         }
-        self.channel().await_message();
+        self.channel.await_turn(Group::Receives);
         match self.try_recv_many(into, limit) {
-            Ok(count) => count,
-            Err(TryRecvError::Closed) => 0,
             Err(TryRecvError::Empty) => crate::blocking::block_on(self.recv_many(into, limit)),
+            answer => answer.unwrap_or(0),
         }
     }
 
@@ -339,19 +336,28 @@ impl<T> Future for SendMany<'_, T> {
     fn poll(self: Pin<&mut Self>, cx: &mut Context<'_>) -> Poll<Self::Output> {
         let SendMany { sender, left, count, done, wait } = self.get_mut();
         assert!(!*done, "a send was polled after it had finished");
-        let channel = sender.channel();
-        let polled = channel.poll_send_many(left, wait, cx);
-        *done = polled.is_ready();
-        polled.map_err(|SendError(())| {
-            *count -= left.len();
-            SendError(std::mem::take(left))
-        })
-    }
-}
-
-impl<T> fmt::Debug for SendMany<'_, T> {
-    fn fmt(&self, f: &mut fmt::Formatter<'_>) -> fmt::Result {
-        f.write_str("SendMany { .. }")
+        while !left.is_empty() {
+            let polled =
+                wait.poll(&sender.channel, cx, |core, ticket, Marks { own, back }, told| {
+                    let mut first = left.pop_front();
+                    let polled = core.poll_send_with(&mut first, ticket, own, told, back)?;
+                    let polled = polled.map_err(|SendError(unsent)| first = Some(unsent));
+                    match first {
+                        Some(unsent) => left.push_front(unsent),
+                        // Those that don't fit stay.
+                        None => drop(put(core, left, ROUND_LIMIT - 1, told)),
+                    }
+                    Ok(polled)
+                });
+            match polled {
+                Poll::Ready(Ok(())) => {}
+                Poll::Ready(Err(())) => break,
+                Poll::Pending => return Poll::Pending,
+            }
+        }
+        *done = true;
+        *count -= left.len();
+        Poll::Ready(if left.is_empty() { Ok(()) } else { Err(SendError(std::mem::take(left))) })
     }
 }
 
@@ -389,14 +395,19 @@ impl<T> Future for RecvMany<'_, T> {
 
     fn poll(self: Pin<&mut Self>, cx: &mut Context<'_>) -> Poll<usize> {
         let RecvMany { receiver, into, limit, wait } = self.get_mut();
-        let channel = receiver.channel();
-        channel.poll_recv_many(into, *limit, wait, cx)
-    }
-}
-
-impl<T> fmt::Debug for RecvMany<'_, T> {
-    fn fmt(&self, f: &mut fmt::Formatter<'_>) -> fmt::Result {
-        f.write_str("RecvMany { .. }")
+        let (channel, limit) = (&receiver.channel, *limit);
+        if limit == 0 {
+            return Poll::Ready(0);
+        }
+        let room = channel.make_room(into, limit);
+        let first = wait.poll(channel, cx, |core, ticket, Marks { own, back }, told| {
+            let polled = core.poll_recv_with(ticket, own, told, back)?;
+            Ok(polled.map_ok(|message| {
+                into.push(message);
+                1 + take(core, into, room - 1, told).unwrap_or(0)
+            }))
+        });
+        first.map(|first| first.map_or(0, |first| first + channel.recv_more(into, limit - first)))
     }
 }
 
@@ -431,8 +442,54 @@ impl<T> Iterator for TryIter<'_, T> {
     }
 }
 
-impl<T> fmt::Debug for TryIter<'_, T> {
-    fn fmt(&self, f: &mut fmt::Formatter<'_>) -> fmt::Result {
-        f.write_str("TryIter { .. }")
+impl<T> Channel<T> {
+    /// Makes room for a round, and answers how many messages it may take.
+    fn make_room(&self, into: &mut Vec<T>, limit: usize) -> usize {
+        let most = limit.min(ROUND_LIMIT);
+        into.reserve(most.min(self.len().max(1)));
+        most.min(into.capacity() - into.len())
     }
+
+    /// Takes messages while it has the lock.
+    fn recv_round(&self, into: &mut Vec<T>, limit: usize) -> Result<usize, TryRecvError> {
+        let room = self.make_room(into, limit);
+        self.step(|core, told| take(core, into, room, told))
+    }
+
+    /// Takes up to so many messages more, in rounds, as long as there seem to be any.
+    fn recv_more(&self, into: &mut Vec<T>, limit: usize) -> usize {
+        let mut taken = 0;
+        while taken < limit && self.len() > 0 {
+            match self.recv_round(into, limit - taken) {
+                Ok(more) => taken += more,
+                Err(_) => break,
+            }
+        }
+        taken
+    }
+
+    /// Sends messages from the front while it has the lock.
+    fn send_round(&self, from: &mut VecDeque<T>) -> Result<usize, TrySendError<()>> {
+        self.step(|core, told| put(core, from, ROUND_LIMIT, told))
+    }
+}
+
+/// The core's step that takes up to `limit` messages. There is room for them.
+fn take<T>(
+    core: &mut Core<T>,
+    into: &mut Vec<T>,
+    limit: usize,
+    told: &mut Told,
+) -> Result<usize, TryRecvError> {
+    Over::lent(into, |into| with_memory(core.try_recv_many(into, limit, told)))
+}
+
+/// The core's step that sends up to `limit` messages from the front.
+fn put<T>(
+    core: &mut Core<T>,
+    from: &mut VecDeque<T>,
+    limit: usize,
+    told: &mut Told,
+) -> Result<usize, TrySendError<()>> {
+    Over::lent(from, |from| with_memory(core.try_send_many(from, limit, told)))
 }

@@ -9,31 +9,14 @@
 use crate::proved::event_list::Bell;
 use std::mem;
 use std::panic::{catch_unwind, resume_unwind, AssertUnwindSafe};
-use std::task::{Context, Waker};
+use std::task::Waker;
 
-/// What a waiter leaves in a waiting list: the waker of its task.
-pub(crate) struct Mark(Waker);
-
-impl Mark {
-    /// A copy of the caller's waker.
-    #[inline]
-    pub(crate) fn of(context: &Context<'_>) -> Self {
-        Mark(context.waker().clone())
-    }
-
-    /// Whether it wakes the task that polls now.
-    #[inline]
-    pub(crate) fn will_wake(&self, context: &Context<'_>) -> bool {
-        self.0.will_wake(context.waker())
-    }
-}
-
-/// The marks that a poll leaves to its caller.
+/// The wakers that a poll leaves to its caller.
 pub(crate) struct Marks {
     /// The caller's own, as long as it isn't in a list.
-    pub(crate) own: Option<Mark>,
+    pub(crate) own: Option<Waker>,
     /// The one that came back from the caller's entry.
-    pub(crate) back: Option<Mark>,
+    pub(crate) back: Option<Waker>,
 }
 
 /// The wakers of those whom a step told, in the order in which it told them.
@@ -57,8 +40,10 @@ impl Told {
             Told::Many(wakers) => wake_all(wakers),
         }
     }
+}
 
-    fn add(&mut self, waker: Waker) {
+impl Bell<Waker> for Told {
+    fn ring(&mut self, waker: Waker) {
         *self = match mem::take(self) {
             Told::Nobody => Told::One(waker),
             Told::One(first) => Told::Many(vec![first, waker]),
@@ -77,11 +62,5 @@ fn wake_all(wakers: Vec<Waker>) {
     let panics: Vec<_> = wakers.into_iter().filter_map(wake).collect();
     if let Some(first) = panics.into_iter().next() {
         resume_unwind(first);
-    }
-}
-
-impl Bell<Mark> for Told {
-    fn ring(&mut self, mark: Mark) {
-        self.add(mark.0);
     }
 }

@@ -2,14 +2,14 @@
 //! operation of its own that isn't polled any more. So no future here is dropped by code of its
 //! own. What has to be done then is done by its [`Wait`], which borrows nothing.
 
-use crate::channel::Link;
+use crate::channel::{Channel, Core, Link, Polled};
+use crate::marks::{Marks, Told};
 use crate::proved::channel_core::Group;
 use crate::proved::event_list::Ticket;
 use crate::{Receiver, RecvError, SendError, Sender};
-use std::fmt;
 use std::future::Future;
 use std::pin::Pin;
-use std::sync::Weak;
+use std::sync::{Arc, Weak};
 use std::task::{Context, Poll};
 
 /// The place of an operation in a waiting list. It is given up when it is dropped.
@@ -17,9 +17,9 @@ pub(crate) struct Wait<T> {
     /// Whose list it is.
     group: Group,
     /// The place, while the operation waits.
-    pub(crate) ticket: Option<Ticket>,
+    ticket: Option<Ticket>,
     /// The channel, while the operation waits. Once all handles are gone there is no list to leave.
-    pub(crate) link: Link<T>,
+    link: Link<T>,
 }
 
 impl<T> Wait<T> {
@@ -27,14 +27,40 @@ impl<T> Wait<T> {
     pub(crate) fn new(group: Group) -> Self {
         Wait { group, ticket: None, link: None }
     }
+
+    /// Whether the operation seems to go on without a wait. It does so sooner by a call at once.
+    #[inline]
+    fn seems_over(&self, channel: &Channel<T>) -> bool {
+        self.ticket.is_none() && channel.seems_ready(self.group)
+    }
+
+    /// Makes a poll of a channel by this operation.
+    #[inline]
+    pub(crate) fn poll<A>(
+        &mut self,
+        channel: &Arc<Channel<T>>,
+        context: &Context<'_>,
+        poll: impl FnMut(&mut Core<T>, &mut Option<Ticket>, &mut Marks, &mut Told) -> Polled<A>,
+    ) -> Poll<A> {
+        let Wait { group, ticket, link } = self;
+        channel.poll(*group, ticket, Some(link), context, poll)
+    }
+
+    /// Leaves the list. Not in line, so that to drop an operation that doesn't wait is a short piece.
+    #[inline(never)]
+    fn give_up(&mut self) {
+        let Wait { group, ticket, link } = self;
+        if let Some(channel) = link.as_ref().and_then(Weak::upgrade) {
+            channel.withdraw(*group, ticket, Some(link));
+        }
+    }
 }
 
 impl<T> Drop for Wait<T> {
     #[inline]
     fn drop(&mut self) {
-        let Wait { group, ticket, link } = self;
-        if let Some(channel) = link.as_ref().and_then(Weak::upgrade) {
-            channel.cancel(*group, ticket, Some(link));
+        if self.ticket.is_some() {
+            self.give_up();
         }
     }
 }
@@ -67,18 +93,11 @@ impl<T> Drop for Wait<T> {
 #[must_use = "futures do nothing unless you `.await` or poll them"]
 pub struct Send<'a, T> {
     /// Whose send it is.
-    sender: &'a Sender<T>,
+    pub(crate) sender: &'a Sender<T>,
     /// The message, until it is sent or handed back.
-    message: Option<T>,
+    pub(crate) message: Option<T>,
     /// Where it waits.
-    wait: Wait<T>,
-}
-
-impl<'a, T> Send<'a, T> {
-    #[inline]
-    pub(crate) fn new(sender: &'a Sender<T>, message: T) -> Self {
-        Send { sender, message: Some(message), wait: Wait::new(Group::Sends) }
-    }
+    pub(crate) wait: Wait<T>,
 }
 
 // No reference into a future is handed out, so it may be moved between its polls.
@@ -91,14 +110,16 @@ impl<T> Future for Send<'_, T> {
     fn poll(self: Pin<&mut Self>, cx: &mut Context<'_>) -> Poll<Self::Output> {
         let Send { sender, message, wait } = self.get_mut();
         assert!(message.is_some(), "a send was polled after it had finished");
-        let channel = sender.channel();
-        channel.poll_send(message, wait, cx)
-    }
-}
-
-impl<T> fmt::Debug for Send<'_, T> {
-    fn fmt(&self, f: &mut fmt::Formatter<'_>) -> fmt::Result {
-        f.write_str("Send { .. }")
+        if wait.seems_over(&sender.channel) {
+            match message.take().map(|message| sender.send_at_once(message)) {
+                Some(Err(unsent)) => *message = Some(unsent),
+                Some(Ok(answer)) => return Poll::Ready(answer),
+                None => {}
+            }
+        }
+        wait.poll(&sender.channel, cx, |core, ticket, Marks { own, back }, told| {
+            core.poll_send_with(message, ticket, own, told, back)
+        })
     }
 }
 
@@ -124,16 +145,9 @@ impl<T> fmt::Debug for Send<'_, T> {
 #[must_use = "futures do nothing unless you `.await` or poll them"]
 pub struct Recv<'a, T> {
     /// Whose receive it is.
-    receiver: &'a Receiver<T>,
+    pub(crate) receiver: &'a Receiver<T>,
     /// Where it waits.
-    wait: Wait<T>,
-}
-
-impl<'a, T> Recv<'a, T> {
-    #[inline]
-    pub(crate) fn new(receiver: &'a Receiver<T>) -> Self {
-        Recv { receiver, wait: Wait::new(Group::Receives) }
-    }
+    pub(crate) wait: Wait<T>,
 }
 
 impl<T> Future for Recv<'_, T> {
@@ -142,14 +156,14 @@ impl<T> Future for Recv<'_, T> {
     #[inline]
     fn poll(self: Pin<&mut Self>, cx: &mut Context<'_>) -> Poll<Self::Output> {
         let Recv { receiver, wait } = self.get_mut();
-        let channel = receiver.channel();
-        channel.poll_recv(wait, cx)
-    }
-}
-
-impl<T> fmt::Debug for Recv<'_, T> {
-    fn fmt(&self, f: &mut fmt::Formatter<'_>) -> fmt::Result {
-        f.write_str("Recv { .. }")
+        if wait.seems_over(&receiver.channel) {
+            if let Some(answer) = receiver.recv_at_once() {
+                return Poll::Ready(answer);
+            }
+        }
+        wait.poll(&receiver.channel, cx, |core, ticket, Marks { own, back }, told| {
+            core.poll_recv_with(ticket, own, told, back)
+        })
     }
 }
 
@@ -173,16 +187,9 @@ impl<T> fmt::Debug for Recv<'_, T> {
 #[must_use = "futures do nothing unless you `.await` or poll them"]
 pub struct Closed<'a, T> {
     /// Who waits.
-    sender: &'a Sender<T>,
+    pub(crate) sender: &'a Sender<T>,
     /// Where it waits.
-    wait: Wait<T>,
-}
-
-impl<'a, T> Closed<'a, T> {
-    #[inline]
-    pub(crate) fn new(sender: &'a Sender<T>) -> Self {
-        Closed { sender, wait: Wait::new(Group::Closeds) }
-    }
+    pub(crate) wait: Wait<T>,
 }
 
 impl<T> Future for Closed<'_, T> {
@@ -191,13 +198,8 @@ impl<T> Future for Closed<'_, T> {
     #[inline]
     fn poll(self: Pin<&mut Self>, cx: &mut Context<'_>) -> Poll<()> {
         let Closed { sender, wait } = self.get_mut();
-        let channel = sender.channel();
-        channel.poll_closed(wait, cx)
-    }
-}
-
-impl<T> fmt::Debug for Closed<'_, T> {
-    fn fmt(&self, f: &mut fmt::Formatter<'_>) -> fmt::Result {
-        f.write_str("Closed { .. }")
+        wait.poll(&sender.channel, cx, |core, ticket, Marks { own, back }, _told| {
+            core.poll_closed_with(ticket, own, back)
+        })
     }
 }

@@ -1,11 +1,12 @@
 //! The receiving side: receivers, which are streams too, and weak ones.
 
 use crate::channel::Channel;
-use crate::operations::Recv;
+use crate::marks::Marks;
+use crate::operations::{Recv, Wait};
+use crate::proved::channel_core::Group;
 use crate::proved::event_list::Ticket;
 use crate::{RecvError, TryRecvError};
 use futures_core::stream::{FusedStream, Stream};
-use std::fmt;
 use std::pin::Pin;
 use std::sync::Arc;
 use std::task::{Context, Poll};
@@ -35,24 +36,12 @@ use std::task::{Context, Poll};
 /// ```
 pub struct Receiver<T> {
     /// What all handles of the channel share.
-    channel: Arc<Channel<T>>,
+    pub(crate) channel: Arc<Channel<T>>,
     /// The stream's wait, if it waits.
-    stream: Option<Ticket>,
+    pub(crate) stream: Option<Ticket>,
 }
 
 impl<T> Receiver<T> {
-    /// The handle of a receiver that is counted.
-    #[inline]
-    pub(crate) fn new(channel: Arc<Channel<T>>) -> Self {
-        Receiver { channel, stream: None }
-    }
-
-    /// What all handles of the channel share.
-    #[inline]
-    pub(crate) fn channel(&self) -> &Arc<Channel<T>> {
-        &self.channel
-    }
-
     /// Takes the oldest message, if there is one.
     ///
     /// # Errors
@@ -74,7 +63,16 @@ impl<T> Receiver<T> {
     /// ```
     #[inline]
     pub fn try_recv(&self) -> Result<T, TryRecvError> {
-        self.channel.try_recv()
+        self.channel.step(|core, told| core.try_recv(told))
+    }
+
+    /// What a receive answers if it need not wait.
+    #[inline]
+    pub(crate) fn recv_at_once(&self) -> Option<Result<T, RecvError>> {
+        match self.try_recv() {
+            Err(TryRecvError::Empty) => None,
+            answer => Some(answer.map_err(|_| RecvError)),
+        }
     }
 
     /// Takes the oldest message, and waits while the channel is open and empty.
@@ -97,7 +95,7 @@ impl<T> Receiver<T> {
     /// ```
     #[inline]
     pub fn recv(&self) -> Recv<'_, T> {
-        Recv::new(self)
+        Recv { receiver: self, wait: Wait::new(Group::Receives) }
     }
 
     /// Takes the oldest message, and blocks the thread while the channel is open and empty.
@@ -120,12 +118,8 @@ impl<T> Receiver<T> {
     /// ```
     #[cfg(not(target_family = "wasm"))]
     pub fn recv_blocking(&self) -> Result<T, RecvError> {
-        self.channel.await_message();
-        match self.try_recv() {
-            Ok(msg) => Ok(msg),
-            Err(TryRecvError::Closed) => Err(RecvError),
-            Err(TryRecvError::Empty) => crate::blocking::block_on(self.recv()),
-        }
+        self.channel.await_turn(Group::Receives);
+        self.recv_at_once().unwrap_or_else(|| crate::blocking::block_on(self.recv()))
     }
 
     /// Closes the channel, and answers whether it was open. What it holds can still be received.
@@ -139,9 +133,8 @@ impl<T> Receiver<T> {
     /// assert!(s.try_send(2).is_err());
     /// assert_eq!(r.try_recv(), Ok(1));
     /// ```
-    #[inline]
     pub fn close(&self) -> bool {
-        self.channel.close()
+        self.channel.step(|core, told| core.close(told))
     }
 
     /// Whether the channel is closed.
@@ -153,7 +146,6 @@ impl<T> Receiver<T> {
     /// drop(s);
     /// assert!(r.is_closed());
     /// ```
-    #[inline]
     pub fn is_closed(&self) -> bool {
         self.channel.is_closed()
     }
@@ -168,9 +160,8 @@ impl<T> Receiver<T> {
     /// assert!(!r.is_empty());
     /// # drop(r);
     /// ```
-    #[inline]
     pub fn is_empty(&self) -> bool {
-        self.channel.is_empty()
+        self.len() == 0
     }
 
     /// Whether as many messages are held as the capacity allows. An unbounded channel never is
@@ -184,9 +175,8 @@ impl<T> Receiver<T> {
     /// assert!(r.is_full());
     /// # drop(r);
     /// ```
-    #[inline]
     pub fn is_full(&self) -> bool {
-        self.channel.is_full()
+        self.capacity() == Some(self.len())
     }
 
     /// How many messages are held.
@@ -199,7 +189,6 @@ impl<T> Receiver<T> {
     /// assert_eq!(r.len(), 2);
     /// # drop(r);
     /// ```
-    #[inline]
     pub fn len(&self) -> usize {
         self.channel.len()
     }
@@ -213,7 +202,6 @@ impl<T> Receiver<T> {
     /// let (s, r) = vamorilesh::unbounded::<u64>();
     /// assert_eq!(r.capacity(), None);
     /// ```
-    #[inline]
     pub fn capacity(&self) -> Option<usize> {
         self.channel.capacity()
     }
@@ -254,7 +242,6 @@ impl<T> Receiver<T> {
     /// assert!(s.is_closed());
     /// assert!(weak.upgrade().is_none());
     /// ```
-    #[inline]
     pub fn downgrade(&self) -> WeakReceiver<T> {
         WeakReceiver { channel: self.channel.clone() }
     }
@@ -269,7 +256,6 @@ impl<T> Receiver<T> {
     /// assert!(!r.same_channel(&r2));
     /// # drop((s, s2));
     /// ```
-    #[inline]
     pub fn same_channel(&self, other: &Receiver<T>) -> bool {
         Arc::ptr_eq(&self.channel, &other.channel)
     }
@@ -280,7 +266,7 @@ impl<T> Clone for Receiver<T> {
     #[inline]
     fn clone(&self) -> Receiver<T> {
         self.channel.add_receiver();
-        Receiver::new(self.channel.clone())
+        Receiver { channel: self.channel.clone(), stream: None }
     }
 }
 
@@ -292,19 +278,20 @@ impl<T> Drop for Receiver<T> {
     }
 }
 
-impl<T> fmt::Debug for Receiver<T> {
-    fn fmt(&self, f: &mut fmt::Formatter<'_>) -> fmt::Result {
-        f.write_str("Receiver { .. }")
-    }
-}
-
 impl<T> Stream for Receiver<T> {
     type Item = T;
 
     #[inline]
     fn poll_next(self: Pin<&mut Self>, cx: &mut Context<'_>) -> Poll<Option<T>> {
-        let receiver = self.get_mut();
-        receiver.channel.poll_next(&mut receiver.stream, cx)
+        if self.stream.is_none() && self.channel.seems_ready(Group::Streams) {
+            if let Some(next) = self.recv_at_once() {
+                return Poll::Ready(next.ok());
+            }
+        }
+        let Receiver { channel, stream } = self.get_mut();
+        channel.poll(Group::Streams, stream, None, cx, |core, ticket, Marks { own, back }, told| {
+            core.poll_next_with(ticket, own, told, back)
+        })
     }
 }
 
@@ -344,19 +331,12 @@ impl<T> WeakReceiver<T> {
     /// ```
     pub fn upgrade(&self) -> Option<Receiver<T>> {
         let is_open = self.channel.upgrade_receiver();
-        is_open.then(|| Receiver::new(self.channel.clone()))
+        is_open.then(|| Receiver { channel: self.channel.clone(), stream: None })
     }
 }
 
 impl<T> Clone for WeakReceiver<T> {
-    #[inline]
     fn clone(&self) -> Self {
         WeakReceiver { channel: self.channel.clone() }
-    }
-}
-
-impl<T> fmt::Debug for WeakReceiver<T> {
-    fn fmt(&self, f: &mut fmt::Formatter<'_>) -> fmt::Result {
-        f.write_str("WeakReceiver { .. }")
     }
 }

@@ -1,9 +1,9 @@
 //! The sending side: senders, and weak ones.
 
-use crate::channel::Channel;
-use crate::operations::{Closed, Send};
+use crate::channel::{with_memory, Channel};
+use crate::operations::{Closed, Send, Wait};
+use crate::proved::channel_core::Group;
 use crate::{SendError, TrySendError};
-use std::fmt;
 use std::sync::Arc;
 
 /// The sending side of a channel.
@@ -20,22 +20,10 @@ use std::sync::Arc;
 /// ```
 pub struct Sender<T> {
     /// What all handles of the channel share.
-    channel: Arc<Channel<T>>,
+    pub(crate) channel: Arc<Channel<T>>,
 }
 
 impl<T> Sender<T> {
-    /// The handle of a sender that is counted.
-    #[inline]
-    pub(crate) fn new(channel: Arc<Channel<T>>) -> Self {
-        Sender { channel }
-    }
-
-    /// What all handles of the channel share.
-    #[inline]
-    pub(crate) fn channel(&self) -> &Arc<Channel<T>> {
-        &self.channel
-    }
-
     /// Sends a message at once, or hands it back if the channel is full or closed.
     ///
     /// # Errors
@@ -55,7 +43,16 @@ impl<T> Sender<T> {
     /// ```
     #[inline]
     pub fn try_send(&self, msg: T) -> Result<(), TrySendError<T>> {
-        self.channel.try_send(msg)
+        self.channel.step(|core, told| with_memory(core.try_send(msg, told)))
+    }
+
+    /// What a send answers if it need not wait, or else its message.
+    #[inline]
+    pub(crate) fn send_at_once(&self, message: T) -> Result<Result<(), SendError<T>>, T> {
+        match self.try_send(message) {
+            Err(TrySendError::Full(message)) => Err(message),
+            answer => Ok(answer.map_err(|error| SendError(error.into_inner()))),
+        }
     }
 
     /// Sends a message, and waits while the channel is full.
@@ -79,7 +76,7 @@ impl<T> Sender<T> {
     /// ```
     #[inline]
     pub fn send(&self, msg: T) -> Send<'_, T> {
-        Send::new(self, msg)
+        Send { sender: self, message: Some(msg), wait: Wait::new(Group::Sends) }
     }
 
     /// Waits until no receiver is left.
@@ -100,9 +97,8 @@ impl<T> Sender<T> {
     /// s.closed().await;
     /// # });
     /// ```
-    #[inline]
     pub fn closed(&self) -> Closed<'_, T> {
-        Closed::new(self)
+        Closed { sender: self, wait: Wait::new(Group::Closeds) }
     }
 
     /// Sends a message, and blocks the thread while the channel is full.
@@ -124,12 +120,9 @@ impl<T> Sender<T> {
     /// ```
     #[cfg(not(target_family = "wasm"))]
     pub fn send_blocking(&self, msg: T) -> Result<(), SendError<T>> {
-        self.channel.await_room();
-        match self.try_send(msg) {
-            Ok(()) => Ok(()),
-            Err(TrySendError::Closed(msg)) => Err(SendError(msg)),
-            Err(TrySendError::Full(msg)) => crate::blocking::block_on(self.send(msg)),
-        }
+        self.channel.await_turn(Group::Sends);
+        let sent = self.send_at_once(msg);
+        sent.unwrap_or_else(|msg| crate::blocking::block_on(self.send(msg)))
     }
 
     /// Sends a message at once, also if the channel is full: then the oldest one comes out for it.
@@ -150,7 +143,7 @@ impl<T> Sender<T> {
     /// assert_eq!(s.force_send(4), Err(SendError(4)));
     /// ```
     pub fn force_send(&self, msg: T) -> Result<Option<T>, SendError<T>> {
-        self.channel.force_send(msg)
+        self.channel.step(|core, told| with_memory(core.force_send(msg, told)))
     }
 
     /// Closes the channel, and answers whether it was open. What it holds can still be received.
@@ -164,9 +157,8 @@ impl<T> Sender<T> {
     /// assert!(s.try_send(2).is_err());
     /// assert_eq!(r.try_recv(), Ok(1));
     /// ```
-    #[inline]
     pub fn close(&self) -> bool {
-        self.channel.close()
+        self.channel.step(|core, told| core.close(told))
     }
 
     /// Whether the channel is closed.
@@ -178,7 +170,6 @@ impl<T> Sender<T> {
     /// drop(r);
     /// assert!(s.is_closed());
     /// ```
-    #[inline]
     pub fn is_closed(&self) -> bool {
         self.channel.is_closed()
     }
@@ -193,9 +184,8 @@ impl<T> Sender<T> {
     /// assert!(!s.is_empty());
     /// # drop(r);
     /// ```
-    #[inline]
     pub fn is_empty(&self) -> bool {
-        self.channel.is_empty()
+        self.len() == 0
     }
 
     /// Whether as many messages are held as the capacity allows. An unbounded channel never is
@@ -209,9 +199,8 @@ impl<T> Sender<T> {
     /// assert!(s.is_full());
     /// # drop(r);
     /// ```
-    #[inline]
     pub fn is_full(&self) -> bool {
-        self.channel.is_full()
+        self.capacity() == Some(self.len())
     }
 
     /// How many messages are held.
@@ -224,7 +213,6 @@ impl<T> Sender<T> {
     /// assert_eq!(s.len(), 2);
     /// # drop(r);
     /// ```
-    #[inline]
     pub fn len(&self) -> usize {
         self.channel.len()
     }
@@ -238,7 +226,6 @@ impl<T> Sender<T> {
     /// let (s, r) = vamorilesh::unbounded::<u64>();
     /// assert_eq!(s.capacity(), None);
     /// ```
-    #[inline]
     pub fn capacity(&self) -> Option<usize> {
         self.channel.capacity()
     }
@@ -279,7 +266,6 @@ impl<T> Sender<T> {
     /// assert!(r.is_closed());
     /// assert!(weak.upgrade().is_none());
     /// ```
-    #[inline]
     pub fn downgrade(&self) -> WeakSender<T> {
         WeakSender { channel: self.channel.clone() }
     }
@@ -294,7 +280,6 @@ impl<T> Sender<T> {
     /// assert!(!s.same_channel(&s2));
     /// # drop((r, r2));
     /// ```
-    #[inline]
     pub fn same_channel(&self, other: &Sender<T>) -> bool {
         Arc::ptr_eq(&self.channel, &other.channel)
     }
@@ -305,7 +290,7 @@ impl<T> Clone for Sender<T> {
     #[inline]
     fn clone(&self) -> Sender<T> {
         self.channel.add_sender();
-        Sender::new(self.channel.clone())
+        Sender { channel: self.channel.clone() }
     }
 }
 
@@ -314,12 +299,6 @@ impl<T> Drop for Sender<T> {
     #[inline]
     fn drop(&mut self) {
         self.channel.drop_sender();
-    }
-}
-
-impl<T> fmt::Debug for Sender<T> {
-    fn fmt(&self, f: &mut fmt::Formatter<'_>) -> fmt::Result {
-        f.write_str("Sender { .. }")
     }
 }
 
@@ -352,19 +331,12 @@ impl<T> WeakSender<T> {
     /// ```
     pub fn upgrade(&self) -> Option<Sender<T>> {
         let is_open = self.channel.upgrade_sender();
-        is_open.then(|| Sender::new(self.channel.clone()))
+        is_open.then(|| Sender { channel: self.channel.clone() })
     }
 }
 
 impl<T> Clone for WeakSender<T> {
-    #[inline]
     fn clone(&self) -> Self {
         WeakSender { channel: self.channel.clone() }
-    }
-}
-
-impl<T> fmt::Debug for WeakSender<T> {
-    fn fmt(&self, f: &mut fmt::Formatter<'_>) -> fmt::Result {
-        f.write_str("WeakSender { .. }")
     }
 }

@@ -91,6 +91,8 @@ impl<K: Ord, V> BTreeMap<K, V> {
     pub fn insert(&mut self, key: K, value: V) -> Result<Option<V>, Refused<(K, V)>> {
         Ok(self.0.insert(key, value))
     }
+    /// Drops a map in which nothing is.
+    pub fn destroy_empty(self) {}
 }
 /// A value with memory of its own.
 pub struct Box<T>(std::boxed::Box<T>);

@@ -160,32 +160,6 @@ fn blocking_calls_that_can_go_on_answer_at_once() {
     assert_eq!(into, [0, 1, 2, 3, 4, 5]);
 }
 
-/// Messages that say that they are one at the most, however many they are.
-struct Modest(std::ops::Range<usize>);
-
-impl Iterator for Modest {
-    type Item = usize;
-
-    fn next(&mut self) -> Option<usize> {
-        self.0.next()
-    }
-
-    fn size_hint(&self) -> (usize, Option<usize>) {
-        (0, Some(1))
-    }
-}
-
-#[test]
-fn a_batch_that_says_it_is_one_message_goes_in_whole() {
-    let (s, r) = bounded(3);
-    assert_eq!(s.send_many_blocking(Modest(0..3)), Ok(()));
-    assert_eq!(s.send_many_blocking(Modest(0..0)), Ok(()));
-    assert!(r.try_iter().eq(0..3));
-    s.close();
-    assert_eq!(s.send_many_blocking(Modest(0..3)), Err(SendError(numbers(3))));
-    assert_eq!(s.send_many_blocking(Modest(0..0)), Ok(()));
-}
-
 #[test]
 fn an_iterator_takes_one_message_at_a_time() {
     let (s, r) = unbounded();

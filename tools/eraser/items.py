@@ -3,7 +3,8 @@ import re
 
 from eraser.known import (
     BEFORE_NOT, BOUNDS, CLAUSES, CONDITIONS, CRATES, DERIVES, EVERYWHERE, FIRST, FORMATTER,
-    GHOST_WORDS, ITEM_WORDS, LEFT_OUT, MACROS, NAMED, PATHS, REQUIRES, TAKEN, TEXT_TRAITS, TRAITS, WRITER,
+    GHOST_WORDS, ITEM_WORDS, LEFT_OUT, MACROS, NAMED, OWNERS, PATHS, REQUIRES, TAKEN, TEXT_TRAITS,
+    TRAITS, WRITER,
 )
 from eraser.source import CLOSING
 
@@ -249,6 +250,9 @@ class Eraser:
         trait = subject.rpartition(' for ')[0]
         if trait == 'Model':
             return self.model(start)
+        owner = subject.rpartition(' for ')[2].partition('<')[0]
+        if trait == 'Drop' and self.path_of(owner) in OWNERS:
+            return self.source.skip_block()
         if trait and trait.partition('<')[0] not in TRAITS:
             self.source.refuse(f'an impl of the unknown trait `{trait}`', start)
         return f'impl{generics} {subject} {self.block_of_items(trait)}'

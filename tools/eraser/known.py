@@ -35,17 +35,23 @@ EVERYWHERE = {'Box': 'crate::shim::Box', 'Vec': 'crate::shim::Vec'}
 TAKEN = {'Drop', 'Model', 'fmt', *EVERYWHERE}
 
 # The calls with a `requires` that code by hand could make, and the clause that the prover doesn't
-# check there. Those of private modules it can't name. What opens a ledger counts nothing in Rust.
+# check there. Those of private modules it can't name, and it has no waiting list of its own. What
+# opens a ledger counts nothing in Rust.
 # A kind or a capacity of 0 makes no channel by hand: that panics, or is refused as a script.
 REQUIRES = {
     'event_list::ends::put_last': '{ HasRoomFor entries.old 1 }',
     'event_list::entries::insert': '{ HasRoomFor self.old 1 }',
+    'event_list::list::listen_anew': '{ IfSome ticket.old (λ key. told_flag self.old key ≡ None) }',
     'event_list::list::steps::of': '{ Opens blank.name blank.parts L.name L.parts }',
+    'event_list::ticket::destroy_none': '{ place ≡ None }',
     'channel_core::queue::bounded': '{ 0 < cap }',
     'channel_core::state::bounded': '{ 0 < cap }',
     'channel_run::run::new': '{ HasPositiveCapacity kind }',
     'channel_run::run::run_all': '{ HasPositiveCapacity kind }',
 }
+
+# Types that own all that their `drop` changes. So in Rust it is enough that their parts go.
+OWNERS = {'channel_run::run::Run'}
 
 DERIVES = {'Clone', 'Copy', 'Debug', 'Eq', 'PartialEq'}
 BOUNDS = {'Bell', 'Ledger'}

@@ -74,7 +74,7 @@ def as_polled(line):
 def wrong_with(example, programs, write):
     """What is wrong with the report on an example."""
     given = example.read_text()
-    ran = run(programs["program_chanexplore"], given.encode())
+    ran = run(programs["chanexplore"], given.encode())
     text = ran.stdout.decode()
     stored = example.with_suffix(".outcomes")
     if write:
@@ -275,7 +275,7 @@ def wrong_with_many(program):
 
 def main():
     write = sys.argv[1:] == ["--write"]
-    names = ("program_chanexplore", "program_chanrun")
+    names = ("chanexplore", "program_chanrun")
     programs = {name: built(name, b"unbounded\n") for name in names}
     failed = cases = 0
     examples, listed = sorted(EXAMPLES.glob("*.explore")), list(reports())
@@ -286,24 +286,24 @@ def main():
         cases, failed = cases + 1, failed + bool(wrong)
         print(f"chanexplore: {example.name}: {'; '.join(wrong) or 'ok'}")
     for name, arguments, given, report, whole in listed:
-        ran = run(programs["program_chanexplore"], given.encode(), arguments)
+        ran = run(programs["chanexplore"], given.encode(), arguments)
         got = (ran.returncode, ran.stdout.decode(), ran.stderr)
         right = got == (0 if whole else 3, report, b"")
         cases, failed = cases + 1, failed + (not right)
         print(f"chanexplore: {name}: {'ok' if right else got}")
-    wrong = list(wrong_with_names(programs["program_chanexplore"]))
+    wrong = list(wrong_with_names(programs["chanexplore"]))
     cases, failed = cases + 1, failed + bool(wrong)
     print(f"chanexplore: characters of names: {'; '.join(wrong[:1]) or 'ok'}")
-    wrong = list(wrong_with_many(programs["program_chanexplore"]))
+    wrong = list(wrong_with_many(programs["chanexplore"]))
     cases, failed = cases + 1, failed + bool(wrong)
     print(f"chanexplore: many outcomes: {'; '.join(wrong) or 'ok'}")
     devices = {"devices": wrong_with_devices, "a terminal": wrong_with_terminal}
     for title, wrong_with_it in devices.items():
-        wrong = list(wrong_with_it(programs["program_chanexplore"]))
+        wrong = list(wrong_with_it(programs["chanexplore"]))
         cases, failed = cases + 1, failed + bool(wrong)
         print(f"chanexplore: {title}: {'; '.join(wrong) or 'ok'}")
     for name, (given, arguments, status, first, fault) in (hostile() | at_limits()).items():
-        ran = run(programs["program_chanexplore"], given, arguments)
+        ran = run(programs["chanexplore"], given, arguments)
         got = (ran.returncode, ran.stdout.split(b"\n")[0], ran.stderr)
         right = got == (status, first, fault)
         cases, failed = cases + 1, failed + (not right)

@@ -6,7 +6,8 @@ clause stands at one or more; a law of a type or a trait, as `Core: invariant`; 
 implementation, as `Visitor for Outcomes`. It stands in the last column of a table, or before the
 colon of a point, below a heading that names its crate, or begins with its crate, as
 `identity::Exact: same`. A text with other signs after a citation has to stand in the contract of
-that call; `..` leaves something out of it.
+that call; `..` leaves something out of it. Who claims 'exactly if' cites a call of whose clauses
+one is an equivalence.
 """
 import re
 
@@ -19,7 +20,8 @@ CITATION = re.compile(r'[\w:]+(::\*)?(: \w+(, \w+)*)?|\w+ for \w+')
 
 
 def cited_rows(text):
-    """Each row or point below a heading that names crates: its line, the crates, what it cites."""
+    """Each row or point below a heading that names crates: its line, the crates, what it claims and
+    what it cites."""
     crates, listed, rows = [], listed_crates(), []
     for number, line in enumerate(text.split('\n'), 1):
         if line.startswith('#'):
@@ -27,9 +29,11 @@ def cited_rows(text):
         if not crates:
             continue
         if line.startswith('| '):
-            rows.append((number, crates, line.rstrip(' |').rpartition(' | ')[2]))
+            claim, _, cell = line.rstrip(' |').rpartition(' | ')
+            rows.append((number, crates, claim, cell))
         elif line.startswith('- `'):
-            rows.append((number, crates, line.partition(': ')[0]))
+            cell, _, claim = line.partition(': ')
+            rows.append((number, crates, claim, cell))
     return rows
 
 
@@ -68,11 +72,23 @@ def cell_faults(cell, crates, named):
             yield cited
 
 
+def is_equivalence(cell, calls):
+    """Whether a call that is cited has a clause that is one."""
+    places = [cited.partition(': ')[0] for cited in NAMES.findall(cell)]
+    return any('↔' in call.text for call in calls if call.place() in places)
+
+
 def faults():
     """The citations of docs/PROOFS.md and of the pages for callers that no source has."""
     crates = {name: Crate(name) for name in listed_crates()}
     for path in [PROOFS, *for_callers()]:
-        for number, named, cell in cited_rows(path.read_text('utf-8')):
+        for number, named, claim, cell in cited_rows(path.read_text('utf-8')):
+            calls = [call for name in named for call in crates[name].calls]
+            if 'exactly if' in claim and not is_equivalence(cell, calls):
+                yield (
+                    f'{path.relative_to(ROOT)}:{number}: `exactly if` is an equivalence, and no call '
+                    'that is cited has one: claim what its clause says'
+                )
             for cited in cell_faults(cell, crates, named):
                 yield (
                     f'{path.relative_to(ROOT)}:{number}: `{cited}` is no contract of '

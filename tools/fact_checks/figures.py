@@ -1,7 +1,7 @@
 """The figures of docs/figures.txt: the tables that pages have of them, and a picture of some.
 
 A section begins with its name in brackets. Lines `key: value` follow, an empty line, and rows of
-fields between tabs, the names of the columns first. The keys:
+fields between tabs, the names of the columns first; or no row, but what is said. The keys:
 
     page      the page that has the table
     said      what stands above the table there
@@ -18,6 +18,9 @@ from .sources import ROOT
 FIGURES = ROOT / 'docs' / 'figures.txt'
 PICTURE = ROOT / 'docs' / 'figures.svg'
 KEYS = {'page', 'said', 'machine', 'versions', 'plot'}
+
+TABLE = re.compile(r'<!-- tools/facts: .*?<!-- end -->', re.DOTALL)
+RATIO = re.compile(r'(?<![\d.])\d\.\d\d(?![\d.])')
 
 # The columns that are drawn, each with its color and its shape around a place.
 DRAWN = {
@@ -66,6 +69,8 @@ class Section:
     def lines(self):
         """The table as a page has it."""
         said = [self.keys['said'], ''] if 'said' in self.keys else []
+        if not self.rows:
+            return said[:1]
         rule = '|---' * len(self.head) + '|'
         lines = ['| ' + ' | '.join(row) + ' |' for row in [self.head, *self.rows]]
         first, *others = [line.replace('|  ', '| ').replace('|  ', '| ') for line in lines]
@@ -85,6 +90,15 @@ def tables():
     for section in parts()[1]:
         if 'page' in section.keys:
             yield ROOT / section.keys['page'], section.name, section.lines()
+
+
+def loose():
+    """The ratios that stand beside tables of figures, and not in them."""
+    for path in sorted({path for path, _, _ in tables()}):
+        for part in path.read_text('utf-8').split('\n## '):
+            beside = re.sub(TABLE, '', part)
+            for ratio in RATIO.findall(beside) if beside != part else []:
+                yield f"{path.relative_to(ROOT)}: {ratio} isn't of docs/figures.txt: put it there"
 
 
 def plotted():
@@ -123,6 +137,7 @@ def picture():
 
 def faults():
     """What is wrong with the file of figures, and whether the picture differs from it."""
+    yield from loose()
     for section in parts()[1]:
         yield from section.faults()
     stored = PICTURE.read_text('utf-8') if PICTURE.is_file() else ''

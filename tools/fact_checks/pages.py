@@ -1,9 +1,13 @@
-"""What the pages quote of the sources, and how many lines of the Rust crate stand for what."""
+"""What the pages quote and name, and how many lines of the Rust crate stand for what."""
 import re
 
 from .sources import ROOT
 
 BLOCK = re.compile(r'^```(?:rust|antt)\n(.*?)^```$', re.DOTALL | re.MULTILINE)
+LINK = re.compile(r'\]\((?!https?:)([^)#\s]*)#?([^)\s]*)\)')
+# Files of definitions: of a crate, or of the model of a channel.
+DEFINED = re.compile(r'\[(`[A-Z]\w+`(?:(?:, | and )`[A-Z]\w+`)*)(?: in `(\w+)`)?\]')
+CRATE = re.compile(r'\b(?:test|example|bench|program)_\w+')
 RUST = ROOT / 'rust' / 'src'
 # What the package of the Rust crate leaves out of the proved source.
 UNPACKED = [RUST / 'proved' / 'channel_run', RUST / 'proved' / 'channel_model' / 'step.rs']
@@ -31,8 +35,41 @@ def quotes():
             yield path, text.count('\n', 0, found.start()) + 1, found[1]
 
 
+def pages():
+    """Each page of the repository."""
+    tops = [*ROOT.glob('*.md'), *ROOT.glob('docs/*.md'), *ROOT.glob('rust/*.md')]
+    return sorted([*tops, *for_callers()])
+
+
+def anchors(text):
+    """What links may lead to in a page: its headings, in small letters without other signs."""
+    heads = re.findall(r'^#+ (.+)$', text, re.MULTILINE)
+    return {re.sub(r'[^\w\- ]', '', head.lower()).replace(' ', '-') for head in heads}
+
+
+def lost():
+    """The links, crates and files of definitions that a page names and that aren't there."""
+    for path in pages():
+        text, name = path.read_text('utf-8'), path.relative_to(ROOT)
+        for target, anchor in LINK.findall(text):
+            there = path.parent / target if target else path
+            if not there.exists():
+                yield f'{name}: there is no {target}: mend the link'
+            elif anchor and anchor not in anchors(there.read_text('utf-8')):
+                yield f'{name}: there is no {target}#{anchor}: mend the link'
+        for crate in {*CRATE.findall(text)}:
+            if not (ROOT / 'crates' / crate).is_dir():
+                yield f'{name}: there is no crate {crate}'
+        for files, crate in DEFINED.findall(text):
+            specs = ROOT / 'crates' / (crate or 'channel_model') / 'specs'
+            for file in re.findall(r'`(\w+)`', files):
+                if not (specs / f'{file}.antt').exists():
+                    yield f'{name}: there is no {specs.relative_to(ROOT)}/{file}.antt'
+
+
 def faults():
-    """The blocks that stand in no source, line by line."""
+    """The blocks that stand in no source, and what else is named and isn't there."""
+    yield from lost()
     rooms = ('crates/*/src', 'crates/*/specs', 'rust/examples')
     files = [it for room in rooms for it in ROOT.glob(f'{room}/**/*') if it.is_file()]
     sources = ['\n' + path.read_text('utf-8') for path in files]

@@ -188,12 +188,8 @@ impl<T: Drop, R: Wait + Clone + Drop> Sender<T, R> {
             ⊎ ((ticket.new ≡ ticket.old) × (from.new.items ≡ from.old.items))) }
     {
         while !from.is_empty() {
-            let polled = self
-                .link
-                .shared
-                .channel
-                .send_many_or_wait(&self.link.rt, from, ROUND_LIMIT, ticket, marker, cx)?;
-            match polled {
+            let ((channel, mut pass), rt) = (self.link.channel(), &self.link.rt);
+            match channel.send_many_or_wait(rt, &mut pass, from, ROUND_LIMIT, ticket, marker, cx)? {
                 Poll::Ready(Ok(_sent)) => {}
                 Poll::Ready(Err(error)) => return Ok(Poll::Ready(Err(error))),
                 Poll::Pending => return Ok(Poll::Pending),
@@ -268,11 +264,8 @@ impl<T: Drop, R: Wait + Clone + Drop> Receiver<T, R> {
             × (into.new.items ≡ into.old.items)) }
     {
         let most = limit.min(ROUND_LIMIT);
-        let polled = self
-            .link
-            .shared
-            .channel
-            .recv_many_or_wait(&self.link.rt, into, most, ticket, marker, cx)?;
+        let ((channel, mut pass), rt) = (self.link.channel(), &self.link.rt);
+        let polled = channel.recv_many_or_wait(rt, &mut pass, into, most, ticket, marker, cx)?;
         let Poll::Ready(first) = polled else {
             return Ok(Poll::Pending);
         };
@@ -431,6 +424,7 @@ impl<T: Drop, R: Wait + Clone + Drop> Drop for SendMany<'_, T, R> {
             let (channel, mut pass) = sender.link.channel();
             channel.give_up_send(&sender.link.rt, &mut pass, &mut ticket);
         }
+        Ticket::destroy_none(ticket);
     }
 }
 
@@ -513,5 +507,6 @@ impl<T: Drop, R: Wait + Clone + Drop> Drop for RecvMany<'_, T, R> {
             let (channel, mut pass) = receiver.link.channel();
             channel.give_up_recv(&receiver.link.rt, &mut pass, &mut ticket);
         }
+        Ticket::destroy_none(ticket);
     }
 }

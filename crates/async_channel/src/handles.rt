@@ -626,6 +626,7 @@ impl<T: Drop, R: Wait + Clone + Drop> Drop for Receiver<T, R> {
         } = self;
         let (channel, mut pass) = link.channel();
         channel.drop_receiver_with_as::<Unruled, R>(&link.rt, &mut pass, &mut ticket);
+        Ticket::destroy_none(ticket);
     }
 }
 

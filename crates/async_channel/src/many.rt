@@ -85,10 +85,8 @@ impl<T: Drop, R: Wait + Clone + Drop> Sender<T, R> {
         ensures within { moved_count result ≤ length from.old.items }
         ensures rest { from.new.items ≡ drop (moved_count result) from.old.items }
     {
-        self.link
-            .shared
-            .channel
-            .try_send_many(&self.link.rt, from, ROUND_LIMIT)
+        let (channel, mut pass) = self.link.channel();
+        channel.try_send_many(&self.link.rt, &mut pass, from, ROUND_LIMIT)
     }
 }
 
@@ -151,9 +149,7 @@ impl<T: Drop, R: Wait + Clone + Drop> Receiver<T, R> {
         ensures kept { take (length into.old.items) into.new.items ≡ into.old.items }
         ensures count { length into.new.items ≡ length into.old.items + moved_count result }
     {
-        self.link
-            .shared
-            .channel
-            .try_recv_many(&self.link.rt, into, limit.min(ROUND_LIMIT))
+        let (channel, mut pass) = self.link.channel();
+        channel.try_recv_many(&self.link.rt, &mut pass, into, limit.min(ROUND_LIMIT))
     }
 }

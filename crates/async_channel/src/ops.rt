@@ -314,6 +314,7 @@ impl<T: Drop, R: Wait + Clone + Drop> Drop for Send<'_, T, R> {
             let (channel, mut pass) = link.channel();
             channel.give_up_send(&link.rt, &mut pass, &mut ticket);
         }
+        Ticket::destroy_none(ticket);
     }
 }
 
@@ -398,6 +399,7 @@ impl<T: Drop, R: Wait + Clone + Drop> Drop for Recv<'_, T, R> {
             let (channel, mut pass) = link.channel();
             channel.give_up_recv(&link.rt, &mut pass, &mut ticket);
         }
+        Ticket::destroy_none(ticket);
     }
 }
 
@@ -480,5 +482,6 @@ impl<T: Drop, R: Wait + Clone + Drop> Drop for Closed<'_, T, R> {
             let (channel, mut pass) = link.channel();
             channel.give_up_closed(&link.rt, &mut pass, &mut ticket);
         }
+        Ticket::destroy_none(ticket);
     }
 }

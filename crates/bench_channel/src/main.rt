@@ -1,9 +1,9 @@
-//! Measures what a waiting list, a channel and a map by many threads cost.
+//! Measures what a waiting list, a channel, a map by many threads and a mutex under a rule cost.
 //!
 //! | Arguments | What is printed |
 //! |---|---|
-//! | `measure` | each of the three tables |
-//! | `measure waiters`, `measure channel`, `measure map` | one of them |
+//! | `measure` | each of the four tables |
+//! | `measure waiters`, `measure channel`, `measure map`, `measure mutex` | one of them |
 //! | `held` | a line at each moment whose memory counts, for `tools/held_bytes` |
 //! | a name and digits | the rows of those groups as fields between tabs, for a program that compares several channels |
 //! | others | one line |
@@ -21,6 +21,7 @@
 mod job;
 mod maps;
 mod memory;
+mod mutex;
 mod one_thread;
 mod peers;
 mod report;
@@ -110,6 +111,9 @@ where
     if matches!(name, None | Some("map")) {
         maps::report(rt)?;
     }
+    if matches!(name, None | Some("mutex")) {
+        mutex::report(rt)?;
+    }
     Ok(())
 }
 
@@ -120,7 +124,10 @@ fn main(rt: HostRuntime) -> Result<()> {
     let second = arguments.next();
     match (word.as_deref(), second.as_deref()) {
         (Some("measure"), table) => tables(&rt, table),
-        (Some("held"), None) => memory::held(&rt),
+        (Some("held"), None) => {
+            memory::held(&rt)?;
+            mutex::held(&rt)
+        }
         (Some(name), Some(groups)) => measure(&rt, Form::Fields(name), groups),
         _ => {
             println!(rt; "bench_channel measures with the argument measure, or a name and groups")?;

@@ -1,7 +1,7 @@
 //! How long a waiting list takes to register, to tell and to cancel, among few waiters and among
 //! many.
 
-use anyhow::{Context, Result};
+use anyhow::{Context, Result, bail};
 use event_list::{Quiet, Ticket, WaitList};
 use std::alloc::{AllocGlobal, Global};
 use std::time::{Clock, Instant};
@@ -14,23 +14,39 @@ const RUNS: usize = 20;
 
 // A list of waiters of which the first half is told and a little more, and the tickets of those in
 // its middle, so that a notice is handed on when one of them cancels.
-#[derive(Drop)]
 struct Crowd {
     list: WaitList<u64>,
     middle: Vec<Ticket>,
+    // An empty list, to which all other tickets go, so that their entries stay.
+    nowhere: WaitList<u64>,
+}
+
+impl Drop for Crowd {
+    fn drop(self) {
+        let Crowd {
+            mut list,
+            mut middle,
+            nowhere: _,
+        } = self;
+        while let Some(ticket) = middle.pop() {
+            list.remove(ticket);
+        }
+        middle.destroy_empty();
+    }
 }
 
 impl Crowd {
     fn new(alloc: Global, waiters: usize, calls: usize) -> Result<Crowd> {
-        let mut list = WaitList::new(alloc);
-        let mut middle = Vec::new(alloc);
-        for waiter in 0..waiters {
-            let ticket = list.listen(waiter as u64).ok().context("no room")?;
-            if waiter >= waiters / 2 && middle.len() < calls {
-                middle.push(ticket)?;
-            }
+        let mut crowd = Crowd {
+            list: WaitList::new(alloc),
+            middle: Vec::new(alloc),
+            nowhere: WaitList::new(alloc),
+        };
+        crowd.register(waiters / 2)?;
+        for _ in 0..calls {
+            crowd.stand_in_the_middle()?;
         }
-        let mut crowd = Crowd { list, middle };
+        crowd.register(waiters.saturating_sub(waiters / 2).saturating_sub(calls))?;
         crowd.tell(waiters / 2);
         crowd.tell(calls);
         Ok(crowd)
@@ -38,7 +54,17 @@ impl Crowd {
 
     fn register(&mut self, calls: usize) -> Result<()> {
         for call in 0..calls {
-            self.list.listen(call as u64).ok().context("no room")?;
+            let ticket = self.list.listen(call as u64).ok().context("no room")?;
+            self.nowhere.remove(ticket);
+        }
+        Ok(())
+    }
+
+    fn stand_in_the_middle(&mut self) -> Result<()> {
+        let ticket = self.list.listen(0).ok().context("no room")?;
+        if let Err(refused) = self.middle.push(ticket) {
+            self.list.remove(refused.value);
+            bail!("no room");
         }
         Ok(())
     }

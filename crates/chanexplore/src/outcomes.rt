@@ -11,14 +11,6 @@ use std::alloc::{AllocError, Global};
 use std::collections::BTreeMap;
 
 /// What is known of an outcome.
-///
-/// # Examples
-///
-/// ```
-/// let tally = Tally { number: 0, count: 1, first: vec![in rt.alloc(); (0, 0), (1, 0)]? };
-/// assert_eq!(rt; tally.count, 1);
-/// assert_eq!(rt; tally.first.as_slice(), [(0, 0), (1, 0)].as_slice());
-/// ```
 #[derive(Drop)]
 pub struct Tally {
     /// The outcome's number, from 0, in the order in which outcomes first came.
@@ -32,20 +24,6 @@ pub struct Tally {
 /// The outcomes of the orders so far.
 ///
 /// Each order that it was handed is counted once. That it is counted for its outcome isn't said.
-///
-/// # Examples
-///
-/// ```
-/// let plan = plan_of(rt.alloc(), b"unbounded\nparty one\nlen s0\n".as_slice())?;
-/// let mut outcomes = Outcomes::new(rt.alloc(), &plan)?;
-/// search(rt.alloc(), &plan, plan.parties.as_slice(), 100, &mut outcomes)?;
-///
-/// // One line comes in one order, and its last answer is 0.
-/// let list = outcomes.into_list()?;
-/// assert_eq!(rt; list.len(), 1);
-/// assert_eq!(rt; list[0].0.as_str(), "0\n");
-/// assert_eq!(rt; list[0].1.count, 1);
-/// ```
 #[derive(Drop)]
 pub struct Outcomes {
     alloc: Global,

@@ -16,16 +16,6 @@ use chanrun::script::ScriptError;
 use std::alloc::{AllocError, Global};
 
 /// What the input says.
-///
-/// # Examples
-///
-/// ```
-/// let input = b"bounded 1\nlen s0\nparty first\ntry_send s0 1\nparty second\nlen r0\n";
-/// let plan = plan_of(rt.alloc(), input.as_slice())?;
-/// assert_eq!(rt; plan.kind, Kind::Bounded(1));
-/// assert_eq!(rt; plan.before.len(), 1);
-/// assert_eq!(rt; plan.parties.len(), 2);
-/// ```
 #[derive(Drop)]
 pub struct Plan {
     /// The channel.
@@ -40,17 +30,6 @@ pub struct Plan {
 }
 
 /// The lines of the input.
-///
-/// # Examples
-///
-/// ```
-/// let input = b"bounded 1\nparty first\ntry_send s0 1\n";
-/// let plan = plan_of(rt.alloc(), input.as_slice())?;
-/// let texts: Texts = plan.texts;
-/// assert_eq!(rt; texts.before[0].as_slice(), b"bounded 1".as_slice());
-/// assert_eq!(rt; texts.names[0].as_slice(), b"first".as_slice());
-/// assert_eq!(rt; texts.lines[0][0].as_slice(), b"try_send s0 1".as_slice());
-/// ```
 #[derive(Drop)]
 pub struct Texts {
     /// Those before the parties, the first one among them.
@@ -132,15 +111,6 @@ fn commanding(command: Result<Command, Fault>) -> Result<Act, Fault>
 }
 
 /// What a party's line asks for, or its first fault.
-///
-/// # Examples
-///
-/// ```
-/// let act = act_of(rt.alloc(), b"await o0".as_slice())?;
-/// assert!(rt; matches!(act, Ok(Act::Await(Who::Op(0)))));
-/// let act = act_of(rt.alloc(), b"settle".as_slice())?;
-/// assert!(rt; matches!(act, Err(Fault::UnknownCommand)));
-/// ```
 pub fn act_of(alloc: Global, line: &[u8]) -> Result<Result<Act, Fault>, AllocError>
     ensures { IfOk result (λ said. said ≡ act_of line.now) }
 {
@@ -258,14 +228,6 @@ impl Plan {
 }
 
 /// What the input says, or its first fault.
-///
-/// # Examples
-///
-/// ```
-/// let twice = plan_of(rt.alloc(), b"unbounded\nparty one\nparty one\n".as_slice());
-/// let error = ScriptError::Fault { line: 3, fault: Fault::BadName };
-/// assert!(rt; matches!(twice, Err(found) if found == error));
-/// ```
 pub fn plan_of(alloc: Global, input: &[u8]) -> Result<Plan, ScriptError> {
     let lines = match cut_lines(alloc, input)? {
         Ok(lines) => lines,

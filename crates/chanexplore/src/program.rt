@@ -20,47 +20,12 @@ use chanrun::tell::tell;
 use std::alloc::Global;
 
 /// How many orders are made if no argument says it.
-///
-/// # Examples
-///
-/// ```
-/// assert_eq!(rt; orders_allowed(&[]), Some(USUAL_ORDERS));
-/// ```
 pub const USUAL_ORDERS: u64 = 100_000;
 
 /// How many orders an argument may ask for.
-///
-/// # Examples
-///
-/// ```
-/// let word = String::from_str(rt.alloc(), "--orders")?;
-/// let number = format!(in rt.alloc(); "{}", MOST_ORDERS + 1)?;
-/// assert_eq!(rt; orders_allowed(&[word, number]), None);
-/// ```
 pub const MOST_ORDERS: u64 = 10_000_000;
 
 /// Who is shown how far the search is.
-///
-/// # Examples
-///
-/// ```
-/// #[derive(Drop)]
-/// struct Last(u64);
-///
-/// impl Watch for Last {
-///     fn made(&mut self, orders: u64) {
-///         self.0 = orders;
-///     }
-/// }
-///
-/// let input = b"unbounded\nparty one\nlen s0\nparty two\nlen r0\n";
-/// let mut reader = FromStd::new(input.as_slice());
-/// let mut writer = FromStd::new(Vec::new(rt.alloc()));
-/// let mut last = Last(0);
-/// assert_eq!(rt; explore(rt.alloc(), 100, &mut reader, &mut writer, &mut last), Ok(true));
-/// assert_eq!(rt; last.0, 2);
-/// let _report: Vec<u8> = writer.into_inner();
-/// ```
 pub trait Watch {
     /// So many orders were made.
     fn made(&mut self, orders: u64);
@@ -100,14 +65,6 @@ impl<W: Watch> Visitor for Watched<'_, W> {
 /// --orders 0             none
 /// --orders 10000001      none
 /// ```
-///
-/// # Examples
-///
-/// ```
-/// let word = String::from_str(rt.alloc(), "--orders")?;
-/// let number = String::from_str(rt.alloc(), "5")?;
-/// assert_eq!(rt; orders_allowed(&[word, number]), Some(5));
-/// ```
 pub fn orders_allowed(arguments: &[String]) -> Option<u64>
     ensures { AllowsOrders arguments.now result }
 {
@@ -136,18 +93,6 @@ fn count_in(word: &str) -> Option<u64>
 
 /// Makes each order of a plan up to the limit, and writes what they came to. It answers whether there
 /// is no other order.
-///
-/// # Examples
-///
-/// ```
-/// let input = b"unbounded\nparty one\nlen s0\nparty two\nlen r0\n";
-/// let plan = plan_of(rt.alloc(), input.as_slice())?;
-/// let mut writer = FromStd::new(Vec::new(rt.alloc()));
-/// let whole = explore_plan(rt.alloc(), 2, &plan, &mut writer, &mut Last(0))?;
-/// assert!(rt; whole);
-/// let report: Vec<u8> = writer.into_inner();
-/// assert!(rt; report.starts_with(b"orders 2\noutcomes 1\nstuck 0\n".as_slice()));
-/// ```
 pub fn explore_plan<W: Sink, P: Watch>(
     alloc: Global,
     limit: u64,
@@ -173,19 +118,6 @@ pub fn explore_plan<W: Sink, P: Watch>(
 
 /// Reads what is to be explored to its end, makes each order up to the limit, and writes what they
 /// came to. It answers whether there is no other order.
-///
-/// # Examples
-///
-/// ```
-/// // Of the two orders one is made.
-/// let input = b"unbounded\nparty one\nlen s0\nparty two\nlen r0\n";
-/// let mut reader = FromStd::new(input.as_slice());
-/// let mut writer = FromStd::new(Vec::new(rt.alloc()));
-/// let mut last = Last(0);
-/// assert_eq!(rt; explore(rt.alloc(), 1, &mut reader, &mut writer, &mut last), Ok(false));
-/// let report: Vec<u8> = writer.into_inner();
-/// assert!(rt; report.starts_with(b"orders 1, and more: the limit is met\n".as_slice()));
-/// ```
 pub fn explore<R: Source, W: Sink, P: Watch>(
     alloc: Global,
     limit: u64,
@@ -202,21 +134,6 @@ pub fn explore<R: Source, W: Sink, P: Watch>(
 /// the limit was met before, 2 for a faulty line or for other arguments than `--orders N`, 1
 /// otherwise. A line that says why it is 1 or 2 goes to `errors`; a failure there changes nothing.
 /// There are no arguments if they couldn't be read for want of memory.
-///
-/// # Examples
-///
-/// ```
-/// let mut reader = FromStd::new(b"unbounded\nparty one\nlen s0\n".as_slice());
-/// let mut writer = FromStd::new(Vec::new(rt.alloc()));
-/// let mut errors = FromStd::new(Vec::new(rt.alloc()));
-/// let status =
-///     program(rt.alloc(), Some(&[]), &mut reader, &mut writer, &mut errors, &mut Last(0));
-/// assert_eq!(rt; status, 0);
-/// let report: Vec<u8> = writer.into_inner();
-/// assert!(rt; report.starts_with(b"orders 1\noutcomes 1\nstuck 0\n".as_slice()));
-/// let said: Vec<u8> = errors.into_inner();
-/// assert!(rt; said.is_empty());
-/// ```
 pub fn program<R: Source, W: Sink, E: Sink, P: Watch>(
     alloc: Global,
     arguments: Option<&[String]>,
@@ -248,16 +165,6 @@ pub fn program<R: Source, W: Sink, E: Sink, P: Watch>(
 }
 
 /// Explores what is read from standard input, and prints the outcomes.
-///
-/// # Examples
-///
-/// ```
-/// let (written, said) = (Vec::new(rt.alloc()), Vec::new(rt.alloc()));
-/// let input = b"unbounded\nparty one\nlen t0\n".as_slice();
-/// let explorer = Chanexplore { watch: Last(0) };
-/// let ended = run_buffered(rt.alloc(), explorer, Some(&[]), input, written, said);
-/// assert_eq!(rt; ended, Ok(2));
-/// ```
 #[derive(Drop)]
 pub struct Chanexplore<P> {
     /// Who is shown how far the search is.

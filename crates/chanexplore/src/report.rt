@@ -215,22 +215,6 @@ fn head_text(
 }
 
 /// Writes what a search came to.
-///
-/// # Examples
-///
-/// ```
-/// let plan = plan_of(rt.alloc(), b"unbounded\nparty one\nlen s0\n".as_slice())?;
-/// let mut outcomes = Outcomes::new(rt.alloc(), &plan)?;
-/// let searched = search(rt.alloc(), &plan, plan.parties.as_slice(), 100, &mut outcomes)?;
-/// let list = outcomes.into_list()?;
-/// let mut writer = FromStd::new(Vec::new(rt.alloc()));
-/// let ended = write_report(rt.alloc(), &plan, searched, list.as_slice(), &mut writer);
-/// assert_eq!(rt; ended, Ok(()));
-/// let report: Vec<u8> = writer.into_inner();
-/// let text = b"orders 1\noutcomes 1\nstuck 0\n\n\
-///     outcome 1: 1 order\none: len s0 => 0\nscript\nunbounded\nlen s0\n";
-/// assert_eq!(rt; report.as_slice(), text.as_slice());
-/// ```
 pub fn write_report<W: Sink>(
     alloc: Global,
     plan: &Plan,

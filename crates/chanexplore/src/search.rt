@@ -20,30 +20,6 @@ use channel_model::OutOfMemory;
 use std::alloc::Global;
 
 /// Who is handed each order.
-///
-/// # Examples
-///
-/// ```
-/// #[derive(Drop)]
-/// struct Count {
-///     orders: u64,
-/// }
-///
-/// impl Visitor for Count {
-///     ghost use Rattle.std.specs.Prelude.{◌≡◌, ◌<◌, ◌^◌, length};
-///
-///     ghost has_seen = { λ count seen. length seen < 2 ^ 64 → count.orders ≡ length seen };
-///
-///     fn visit(&mut self, order: Vec<Turn>) -> Result<(), OutOfMemory> {
-///         self.orders = self.orders.saturating_add(1);
-///         Ok(())
-///     }
-/// }
-///
-/// let mut count = Count { orders: 0 };
-/// count.visit(Vec::new(rt.alloc()))?;
-/// assert_eq!(rt; count.orders, 1);
-/// ```
 pub trait Visitor {
     /// It was handed these orders, one after the other, and no other.
     ghost has_seen: { Self → List (List Turn) → Type 0 };
@@ -57,19 +33,6 @@ pub trait Visitor {
 }
 
 /// What a search came to.
-///
-/// # Examples
-///
-/// ```
-/// // Two parties of one line each come in two orders, of which one is made here.
-/// let first = vec![in rt.alloc(); Act::Make(Step::TrySend(0, 1))]?;
-/// let second = vec![in rt.alloc(); Act::Make(Step::TrySend(0, 2))]?;
-/// let parties = vec![in rt.alloc(); first, second]?;
-/// let mut count = Count { orders: 0 };
-/// let searched = search(rt.alloc(), &Empty, parties.as_slice(), 1, &mut count)?;
-/// assert_eq!(rt; searched.orders, 1);
-/// assert!(rt; !searched.whole);
-/// ```
 #[derive(Clone, Copy)]
 pub struct Searched {
     /// How many orders were made.
@@ -290,18 +253,6 @@ fn next_order<O: Opening>(
 
 /// Hands the visitor each order in turn, up to a limit; the first is made also if the limit is
 /// 0. Memory grows with the length of one order, and with what the visitor keeps.
-///
-/// # Examples
-///
-/// ```
-/// let first = vec![in rt.alloc(); Act::Make(Step::TrySend(0, 1))]?;
-/// let second = vec![in rt.alloc(); Act::Make(Step::TrySend(0, 2))]?;
-/// let parties = vec![in rt.alloc(); first, second]?;
-/// let mut count = Count { orders: 0 };
-/// let searched = search(rt.alloc(), &Empty, parties.as_slice(), 100, &mut count)?;
-/// assert_eq!(rt; (searched.orders, searched.whole), (2, true));
-/// assert_eq!(rt; count.orders, 2);
-/// ```
 pub fn search<O: Opening, V: Visitor>(
     alloc: Global,
     opening: &O,

@@ -45,9 +45,11 @@ mod polls;
 /// ```
 /// let mut core: Core<u64, ()> = Core::unbounded(rt.alloc());
 /// let mut ticket = None;
-/// assert!(rt; core.poll_recv(&mut ticket, (), &mut Quiet)?.is_pending());
+/// assert_eq!(rt; core.poll_recv(&mut ticket, (), &mut Quiet), Ok(Poll::Pending));
 /// assert_eq!(rt; core.waiting(Group::Receives), 1);
 /// assert_eq!(rt; core.waiting(Group::Streams), 0);
+/// core.cancel_recv(&mut ticket, &mut Quiet);
+/// Ticket::destroy_none(ticket);
 /// ```
 #[derive(Clone, Copy, Debug, PartialEq, Eq)]
 pub enum Group {
@@ -341,14 +343,16 @@ impl<T: Drop, W: Drop> Core<T, W> {
     /// ```
     /// let mut core: Core<u64, ()> = Core::unbounded(rt.alloc());
     /// let mut ticket = None;
-    /// assert!(rt; core.poll_recv(&mut ticket, (), &mut Quiet)?.is_pending());
-    /// let ticket = ticket.ok_or("a ticket")?;
-    /// assert_eq!(rt; core.is_told(Group::Receives, &ticket), Some(false));
-    ///
-    /// assert_eq!(rt; core.try_send(1, &mut Quiet)?, Ok(()));
-    /// assert_eq!(rt; core.is_told(Group::Receives, &ticket), Some(true));
+    /// assert_eq!(rt; core.poll_recv(&mut ticket, (), &mut Quiet), Ok(Poll::Pending));
+    /// if let Some(ticket) = &ticket {
+    ///     assert_eq!(rt; core.is_told(Group::Receives, ticket), Some(false));
+    ///     assert_eq!(rt; core.try_send(1, &mut Quiet), Ok(Ok(())));
+    ///     assert_eq!(rt; core.is_told(Group::Receives, ticket), Some(true));
+    ///     assert_eq!(rt; core.first_told(Group::Receives), Some(ticket.key()));
+    /// }
     /// assert_eq!(rt; core.told(Group::Receives), 1);
-    /// assert_eq!(rt; core.first_told(Group::Receives), Some(ticket.key()));
+    /// core.cancel_recv(&mut ticket, &mut Quiet);
+    /// Ticket::destroy_none(ticket);
     /// ```
     pub fn is_told(&self, g: Group, t: &Ticket) -> Option<bool>
         ensures { result ≡ told_flag (list_of g self.now) t.now }
@@ -363,12 +367,14 @@ impl<T: Drop, W: Drop> Core<T, W> {
     /// ```
     /// let mut core: Core<u64, u64> = Core::unbounded(rt.alloc());
     /// let mut ticket = None;
-    /// assert!(rt; core.poll_recv(&mut ticket, 7, &mut Quiet)?.is_pending());
-    /// let ticket = ticket.ok_or("a ticket")?;
-    /// assert_eq!(rt; core.payload(Group::Receives, &ticket).copied(), Some(7));
-    ///
-    /// assert_eq!(rt; core.try_send(1, &mut Quiet)?, Ok(()));
-    /// assert_eq!(rt; core.payload(Group::Receives, &ticket).copied(), None);
+    /// assert_eq!(rt; core.poll_recv(&mut ticket, 7, &mut Quiet), Ok(Poll::Pending));
+    /// if let Some(ticket) = &ticket {
+    ///     assert_eq!(rt; core.payload(Group::Receives, ticket).copied(), Some(7));
+    ///     assert_eq!(rt; core.try_send(1, &mut Quiet), Ok(Ok(())));
+    ///     assert_eq!(rt; core.payload(Group::Receives, ticket).copied(), None);
+    /// }
+    /// core.cancel_recv(&mut ticket, &mut Quiet);
+    /// Ticket::destroy_none(ticket);
     /// ```
     pub fn payload(&self, g: Group, t: &Ticket) -> Option<&W>
         ensures { option_copied result ≡ payload_in t.now (list_of g self.now).untold }

@@ -138,11 +138,8 @@ pub(crate) fn wait<W: Drop>(
             Err(back) => payload = back,
         }
     }
-    match list.listen(payload) {
-        Ok(new) => {
-            *ticket = Some(new);
-            Ok(None)
-        }
+    match list.listen_anew(ticket, payload) {
+        Ok(()) => Ok(None),
         Err(NoRoom(payload)) => {
             *w = Some(payload);
             Err(OutOfMemory)

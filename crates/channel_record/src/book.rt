@@ -63,12 +63,12 @@ impl<T> Book<T> {
         self.places.len()
     }
 
-    /// The places in the history of the calls of clerk `i`, in the order in which the clerks were
-    /// handed in.
+    /// The places in the history of the calls of the clerk at `index`. Clerks are in the order in
+    /// which they were handed in.
     #[tactic(auto, using(crate::proofs::Lists::get_list))]
-    pub fn places(&self, i: usize) -> Option<&[usize]>
-        ensures { option_map (λ places. places.now) result ≡ slice_get self.now.places i }
+    pub fn places(&self, index: usize) -> Option<&[usize]>
+        ensures { option_map (λ places. places.now) result ≡ slice_get self.now.places index }
     {
-        Some(self.places.get(i)?.as_slice())
+        Some(self.places.get(index)?.as_slice())
     }
 }

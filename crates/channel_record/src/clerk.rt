@@ -67,11 +67,11 @@ impl<T: Copy> Clerk<T> {
         self.entries.is_empty()
     }
 
-    /// Entry `i` of its own calls, the oldest first: the place in the history, the call and the
-    /// outcome.
-    pub fn entry(&self, i: usize) -> Option<(usize, Call<T>, Outcome<T>)>
-        ensures { result ≡ slice_get self.now.entries i }
+    /// The entry at `index` of its own calls, the oldest first: the place in the history, the call
+    /// and the outcome.
+    pub fn entry(&self, index: usize) -> Option<(usize, Call<T>, Outcome<T>)>
+        ensures { result ≡ slice_get self.now.entries index }
     {
-        self.entries().get(i).copied()
+        self.entries().get(index).copied()
     }
 }

@@ -68,6 +68,12 @@ module _ {T : Type 0} where
   ticket_in Closeds (Closed sender ticket) = ticket
   ticket_in group operation = None
 
+  -- the ticket by which it waits
+  abbrev pub own_ticket : Started T → Option ℕ
+  own_ticket (Send sender message ticket) = ticket
+  own_ticket (Recv receiver ticket) = ticket
+  own_ticket (Closed sender ticket) = ticket
+
   abbrev pub send_ticket : Started T → Option ℕ
   send_ticket = ticket_in Sends
 

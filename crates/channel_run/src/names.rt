@@ -77,7 +77,7 @@ impl Names {
 }
 
 /// Puts a value under a name that isn't live, or hands it back.
-pub(crate) fn put<V: Drop>(entries: &mut BTreeMap<u64, V>, name: u64, value: V) -> Result<(), V>
+pub(crate) fn put<V>(entries: &mut BTreeMap<u64, V>, name: u64, value: V) -> Result<(), V>
     requires { entry_at entries.old.entries name ≡ None }
     ensures added { OnOk result
         (Changed name entries.old.entries entries.new.entries (Some value)) }
@@ -87,13 +87,16 @@ pub(crate) fn put<V: Drop>(entries: &mut BTreeMap<u64, V>, name: u64, value: V) 
     ensures different { AreDifferent (keys_of entries.new.entries) }
 {
     match entries.insert(name, value) {
-        Ok(_) => Ok(()),
+        Ok(earlier) => match earlier {
+            None => Ok(()),
+            Some(_) => unreachable!(),
+        },
         Err(refused) => Err(refused.value.1),
     }
 }
 
 /// Takes out what stands under a name.
-pub(crate) fn take<V: Drop>(entries: &mut BTreeMap<u64, V>, name: u64) -> Option<V>
+pub(crate) fn take<V>(entries: &mut BTreeMap<u64, V>, name: u64) -> Option<V>
     ensures value { result ≡ entry_at entries.old.entries name }
     ensures left { Changed name entries.old.entries entries.new.entries None }
     ensures fewer { is_some result ≡ true

@@ -5,18 +5,17 @@ ghost use Rattle.std.specs.BTreeMap.{values};
 ghost use Rattle.std.specs.Map.{keys_of};
 ghost use Rattle.identity.specs.Keys.{AreDifferent};
 ghost use Rattle.channel_model.specs.Operations.{borrows_receiver, borrows_sender, unsent_message};
-ghost use Rattle.channel_run.specs.RunShown.{entry_at, has_key, number_at, one_if, operation_shown, ticket_in, AreCounted, Changed};
+ghost use Rattle.channel_run.specs.RunShown.{entry_at, has_key, number_at, dropped, one_if, operation_shown, own_ticket, ticket_in, AreCounted, Changed};
 
 use crate::tally::Tally;
 use crate::tickets::has_key;
-use channel_core::Group;
+use channel_core::{Core, Group};
 use channel_model::OutOfMemory;
-use event_list::Ticket;
+use event_list::{Quiet, Ticket};
 use std::alloc::Global;
 use std::collections::BTreeMap;
 
 /// An operation that was started and not given up. It borrows its handle all that time.
-#[derive(Drop)]
 pub(crate) enum Operation<T> {
     /// A send, with its message until it has finished.
     Send {
@@ -48,16 +47,63 @@ impl<T> Operation<T> {
         }
     }
 
-    /// The message of a send that hasn't finished.
+    /// The message of a send that hasn't finished, and doesn't wait.
     pub(crate) fn into_message(self) -> Option<T>
-    where
-        T: Drop,
+        requires { own_ticket self ≡ None }
         ensures { result ≡ unsent_message (operation_shown self) }
     {
         match self {
-            Operation::Send { message, .. } => message,
-            Operation::Recv { .. } => None,
-            Operation::Closed { .. } => None,
+            Operation::Send {
+                message,
+                ticket,
+                sender: _,
+            } => {
+                Ticket::destroy_none(ticket);
+                message
+            }
+            Operation::Recv {
+                ticket,
+                receiver: _,
+            } => {
+                Ticket::destroy_none(ticket);
+                None
+            }
+            Operation::Closed { ticket, sender: _ } => {
+                Ticket::destroy_none(ticket);
+                None
+            }
+        }
+    }
+
+    /// Gives its wait up.
+    pub(crate) fn cancel(self, core: &mut Core<T, ()>)
+    where
+        T: Drop,
+        ensures { core.new ≡ dropped core.old (Some self) }
+    {
+        match self {
+            Operation::Send {
+                message: _message,
+                mut ticket,
+                sender: _,
+            } => {
+                core.cancel_send(&mut ticket, &mut Quiet);
+                Ticket::destroy_none(ticket);
+            }
+            Operation::Recv {
+                mut ticket,
+                receiver: _,
+            } => {
+                core.cancel_recv(&mut ticket, &mut Quiet);
+                Ticket::destroy_none(ticket);
+            }
+            Operation::Closed {
+                mut ticket,
+                sender: _,
+            } => {
+                core.cancel_closed(&mut ticket);
+                Ticket::destroy_none(ticket);
+            }
         }
     }
 
@@ -85,13 +131,12 @@ impl<T> Operation<T> {
 }
 
 /// The live operations by name, and how many of them borrow each handle.
-#[derive(Drop)]
 pub(crate) struct Operations<T> {
     // each with the ticket of its wait; a poll changes an operation, but never what it borrows
     pub(crate) by_name: BTreeMap<u64, Operation<T>>,
     // how many borrow each sender, and each receiver
-    by_sender: Tally,
-    by_receiver: Tally,
+    pub(crate) by_sender: Tally,
+    pub(crate) by_receiver: Tally,
 }
 
 impl<T> Operations<T> {
@@ -146,7 +191,10 @@ impl<T> Operations<T> {
             return Err(operation);
         }
         match self.by_name.insert(op, operation) {
-            Ok(_) => Ok(()),
+            Ok(earlier) => match earlier {
+                None => Ok(()),
+                Some(_) => unreachable!(),
+            },
             Err(refused) => {
                 let operation = refused.value.1;
                 self.discount(&operation);

@@ -38,8 +38,9 @@ mod operations;
 mod questions;
 mod told;
 
-use crate::names::{Names, put};
+use crate::names::Names;
 use crate::operations::{Operation, Operations};
+use crate::tickets::put_receiver;
 use channel_core::{Core, Group};
 use channel_model::{Kind, Notice, OutOfMemory, Reply, Side, Step, Who};
 use event_list::Ticket;
@@ -63,7 +64,6 @@ use std::marker::Model;
 /// let reply = run.step(Step::Poll(0));
 /// assert_eq!(rt; reply, Reply::RecvPolled(Poll::Ready(Ok(7))));
 /// ```
-#[derive(Drop)]
 pub struct Run<T> {
     // where the memory of names and operations comes from
     alloc: Global,
@@ -94,6 +94,35 @@ impl<T> Model for Run<T> {
         run.operations.by_name.entries };
 }
 
+impl<T: Drop> Drop for Run<T> {
+    /// Gives all waits up.
+    fn drop(self) {
+        let Run {
+            alloc: _,
+            mut core,
+            senders: _,
+            mut receivers,
+            weak_senders: _,
+            weak_receivers: _,
+            operations,
+        } = self;
+        let Operations {
+            mut by_name,
+            by_sender: _,
+            by_receiver: _,
+        } = operations;
+        while let Some((_op, operation)) = by_name.pop_first() {
+            operation.cancel(&mut core);
+        }
+        by_name.destroy_empty();
+        while let Some((_receiver, mut ticket)) = receivers.pop_first() {
+            core.cancel_stream(&mut ticket);
+            Ticket::destroy_none(ticket);
+        }
+        receivers.destroy_empty();
+    }
+}
+
 impl<T: Drop> Run<T> {
     /// A run of a new channel.
     ///
@@ -117,7 +146,8 @@ impl<T: Drop> Run<T> {
         let mut senders = Names::new(alloc);
         senders.add(0)?;
         let mut receivers = BTreeMap::new(alloc);
-        if put(&mut receivers, 0, None).is_err() {
+        if put_receiver(&mut receivers, 0).is_err() {
+            receivers.destroy_empty();
             return Err(OutOfMemory);
         }
         Ok(Run {

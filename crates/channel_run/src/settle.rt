@@ -1,8 +1,9 @@
 //! Settling: those who were told are polled until nobody is told.
-ghost use Rattle.std.specs.Prelude.{◌≡◌, ◌+◌, ◌≤◌, ◌++◌, ◌∷◌, [], if◌then◌else◌, IfOk, OnErr};
+ghost use Rattle.std.specs.Prelude.{◌≡◌, ◌+◌, ◌<◌, ◌≤◌, ◌++◌, ◌∷◌, [], if◌then◌else◌, IfOk, OnErr};
 ghost use Rattle.std.specs.Vec.{vec_len, vec_capacity};
 ghost use Rattle.channel_model.specs.declared.step.Kind.{Kind};
 ghost use Rattle.channel_model.specs.Past.{Past};
+ghost use Rattle.channel_model.specs.Polling.{waiting_in};
 ghost use Rattle.channel_model.specs.Replies.{is_ready};
 ghost use Rattle.channel_run.specs.StandsFor.{StandsFor};
 ghost use Rattle.channel_run.specs.Runs.{PollsFirst, SettlesTo};
@@ -81,6 +82,7 @@ impl<T: Drop> Run<T> {
             → StandsFor kind past self.old
             → SettlesTo kind past settled.polls settled.finished.items self.new) }
         ensures unchanged { OnErr result (self.new ≡ self.old) }
+        ensures wanted { OnErr result (0 < waiting_in self.old.rosters) }
     {
         let mut finished = self.room_for_replies()?;
         let mut holders = None;

@@ -1,9 +1,13 @@
 //! Who holds a ticket, by its key.
-ghost use Rattle.std.specs.Prelude.{◌≡◌};
-ghost use Rattle.channel_run.specs.RunShown.{has_key, IsHolder, stream_ticket, ticket_at, ticket_in};
+ghost use Rattle.std.specs.Prelude.{◌≡◌, ◌+◌, length, None, Some, OnErr, OnOk};
+ghost use Rattle.std.specs.Map.{keys_of};
+ghost use Rattle.identity.specs.Keys.{AreDifferent};
+ghost use Rattle.channel_run.specs.RunShown.{entry_at, Changed, has_key, IsHolder, stream_ticket, ticket_at, ticket_in};
 
+use crate::names::put;
 use crate::operations::Operation;
 use channel_core::Group;
+use channel_model::OutOfMemory;
 use event_list::Ticket;
 use std::collections::BTreeMap;
 
@@ -69,6 +73,27 @@ pub(crate) fn receiver_with(
     }
     let (name, _ticket) = receivers.iter().find(|(_, ticket)| has_key(ticket, key))?;
     Some(*name)
+}
+
+/// Makes the name of a receiver whose stream doesn't wait.
+pub(crate) fn put_receiver(
+    receivers: &mut BTreeMap<u64, Option<Ticket>>,
+    name: u64,
+) -> Result<(), OutOfMemory>
+    requires { entry_at receivers.old.entries name ≡ None }
+    ensures added { OnOk result
+        (Changed name receivers.old.entries receivers.new.entries (Some None)) }
+    ensures more { OnOk result (length receivers.new.entries ≡ length receivers.old.entries + 1) }
+    ensures unchanged { OnErr result (receivers.new.entries ≡ receivers.old.entries) }
+    ensures different { AreDifferent (keys_of receivers.new.entries) }
+{
+    match put(receivers, name, None) {
+        Ok(()) => Ok(()),
+        Err(back) => {
+            Ticket::destroy_none(back);
+            Err(OutOfMemory)
+        }
+    }
 }
 
 // Whether the stream of the receiver of this name waits by a ticket of this key.

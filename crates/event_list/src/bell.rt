@@ -39,9 +39,9 @@ pub trait Bell<W> {
 ///
 /// ```
 /// let mut list = WaitList::new(rt.alloc());
-/// let ticket = list.listen(()).map_err(|_| "no room")?;
+/// let ticket = list.listen(()).ok().expect(&rt, "memory");
 /// assert!(rt; list.tell_one(&mut Quiet));
-/// assert_eq!(rt; list.is_told(&ticket), Some(true));
+/// assert_eq!(rt; list.remove(ticket), Some(true));
 /// ```
 #[derive(Drop)]
 pub struct Quiet;

@@ -18,13 +18,13 @@ use std::sync::ledger::Ledger;
 ///
 /// ```
 /// let mut list = WaitList::new(rt.alloc());
-/// let first = list.listen(10).map_err(|_| "no room")?;
-/// let second = list.listen(11).map_err(|_| "no room")?;
+/// let first = list.listen(10).ok().expect(&rt, "memory");
+/// let second = list.listen(11).ok().expect(&rt, "memory");
 /// list.tell_one(&mut Quiet);
 ///
-/// let told = list.unregister(first).ok_or("an entry")?;
+/// let told = list.unregister(first).expect(&rt, "an entry");
 /// assert!(rt; told.is_told());
-/// let untold = list.unregister(second).ok_or("an entry")?;
+/// let untold = list.unregister(second).expect(&rt, "an entry");
 /// assert!(rt; !untold.is_told());
 /// assert_eq!(rt; untold.into_payload(), Some(11));
 /// ```

@@ -158,13 +158,13 @@ impl<W: Drop> Links<W> {
     /// The entry leaves, and is the answer. At most 6 look-ups.
     pub(crate) fn unregister<L: Ledger>(
         &mut self,
-        ticket: Ticket,
+        key: usize,
         lookups: &mut Lookups<L>,
     ) -> Option<EntryState<W>>
-        ensures does { Unregisters self.old ticket result self.new }
+        ensures does { Unregisters self.old key result self.new }
         ensures counted { (lookups.old < lookups.new) × (lookups.new ≤ lookups.old + 6) }
     {
-        let entry = self.ends.take_out(&mut self.entries, ticket.key, lookups)?;
+        let entry = self.ends.take_out(&mut self.entries, key, lookups)?;
         self.len -= 1;
         if entry.is_told() {
             self.told -= 1;

@@ -3,7 +3,7 @@
 //! The work is done in `links`, on the ledger that a counted call is given. A call of the plain
 //! name opens a ledger of its own. Without memory a list is a pointer, and a call that looks for an
 //! entry counts one look-up and finds none.
-ghost use Rattle.std.specs.Prelude.{◌≡◌, ◌+◌, ◌<◌, ◌≤◌, ◌↔◌, length, take, is_some, IsTrue, slice_get};
+ghost use Rattle.std.specs.Prelude.{◌≡◌, ◌+◌, ◌<◌, ◌≤◌, ◌↔◌, length, take, None, Ok, is_some, IfErr, IfSome, IsSomeAnd, IsTrue, OnErr, OnOk, slice_get};
 ghost use Rattle.std.specs.Option.{option_copied};
 ghost use Rattle.identity.specs.Keys.{AreDifferent};
 ghost use Rattle.event_list.specs.Waiting.{nobody, keys, told_count, payloads, told_flag, payload_in};
@@ -51,15 +51,15 @@ pub struct NoRoom<W>(pub W);
 /// ```
 /// let mut list = WaitList::new(rt.alloc());
 /// let mut bell = Last(None);
-/// let first = list.listen(10).map_err(|_| "no room")?;
-/// let second = list.listen(11).map_err(|_| "no room")?;
+/// let first = list.listen(10).ok().expect(&rt, "memory");
+/// let second = list.listen(11).ok().expect(&rt, "memory");
 /// list.tell_one(&mut bell);
 /// assert_eq!(rt; bell.0, Some(10));
 ///
 /// // The notice goes on.
 /// list.cancel(first, &mut bell);
 /// assert_eq!(rt; bell.0, Some(11));
-/// assert_eq!(rt; list.is_told(&second), Some(true));
+/// assert_eq!(rt; list.remove(second), Some(true));
 /// ```
 #[derive(Drop)]
 pub struct WaitList<W> {
@@ -101,14 +101,42 @@ impl<W: Drop> WaitList<W> {
     ///
     /// ```
     /// let mut list = WaitList::new(rt.alloc());
-    /// let ticket = list.listen(10).map_err(|_| "no room")?;
+    /// let ticket = list.listen(10).ok().expect(&rt, "memory");
     /// assert!(rt; list.contains(&ticket));
     /// assert_eq!(rt; list.is_told(&ticket), Some(false));
+    /// list.remove(ticket);
     /// ```
     pub fn listen(&mut self, payload: W) -> Result<Ticket, NoRoom<W>>
         ensures { Listens self.old payload result self.new }
     {
         self.listen_from::<Brand>(payload, Blank::new(1))
+    }
+
+    /// `listen`, which puts the new ticket in the place of one whose entry isn't in the list, or of
+    /// none.
+    ///
+    /// # Examples
+    ///
+    /// ```
+    /// let mut list = WaitList::new(rt.alloc());
+    /// let mut ticket = None;
+    /// assert!(rt; list.listen_anew(&mut ticket, 10).is_ok());
+    /// if let Some(ticket) = ticket {
+    ///     assert_eq!(rt; list.remove(ticket), Some(false));
+    /// }
+    /// ```
+    pub fn listen_anew(&mut self, ticket: &mut Option<Ticket>, payload: W) -> Result<(), NoRoom<W>>
+        requires gone { IfSome ticket.old (λ key. told_flag self.old key ≡ None) }
+        ensures listens { OnOk result
+            (IsSomeAnd ticket.new (λ key. Listens self.old payload (Ok key) self.new)) }
+        ensures handed_back { IfErr result (λ error. error.0 ≡ payload) }
+        ensures unchanged { OnErr result ((self.new ≡ self.old) × (ticket.new ≡ ticket.old)) }
+    {
+        let new = self.listen(payload)?;
+        if let Some(gone) = ticket.replace(new) {
+            let Ticket { key: _ } = gone;
+        }
+        Ok(())
     }
 
     /// The entry waits again with this payload. The answer is whether it is in the list.
@@ -118,15 +146,16 @@ impl<W: Drop> WaitList<W> {
     /// ```
     /// let mut list = WaitList::new(rt.alloc());
     /// let mut bell = Last(None);
-    /// let first = list.listen(10).map_err(|_| "no room")?;
-    /// let second = list.listen(11).map_err(|_| "no room")?;
+    /// let first = list.listen(10).ok().expect(&rt, "memory");
+    /// let second = list.listen(11).ok().expect(&rt, "memory");
     /// list.tell_one(&mut bell);
     ///
     /// // It was told, so it goes behind the second one.
     /// assert!(rt; list.again(&first, 12));
     /// list.tell_one(&mut bell);
     /// assert_eq!(rt; bell.0, Some(11));
-    /// assert_eq!(rt; list.is_told(&second), Some(true));
+    /// assert_eq!(rt; list.remove(second), Some(true));
+    /// assert_eq!(rt; list.remove(first), Some(false));
     /// ```
     pub fn again(&mut self, ticket: &Ticket, payload: W) -> bool
         ensures { WaitsAgain self.old ticket.now payload result self.new }
@@ -143,10 +172,11 @@ impl<W: Drop> WaitList<W> {
     /// let mut bell = Last(None);
     /// assert!(rt; !list.tell_one(&mut bell));
     ///
-    /// let first = list.listen(10).map_err(|_| "no room")?;
+    /// let first = list.listen(10).ok().expect(&rt, "memory");
     /// assert!(rt; list.tell_one(&mut bell));
     /// assert_eq!(rt; bell.0, Some(10));
     /// assert_eq!(rt; list.first_told(), Some(first.key()));
+    /// list.remove(first);
     /// ```
     #[inline(always)]
     pub fn tell_one<B: Bell<W>>(&mut self, bell: &mut B) -> bool
@@ -162,12 +192,12 @@ impl<W: Drop> WaitList<W> {
     /// ```
     /// let mut list = WaitList::new(rt.alloc());
     /// let mut bell = Last(None);
-    /// for payload in [10, 11] {
-    ///     list.listen(payload).map_err(|_| "no room")?;
-    /// }
+    /// let first = list.listen(10).ok().expect(&rt, "memory");
+    /// let second = list.listen(11).ok().expect(&rt, "memory");
     /// assert_eq!(rt; list.tell_all(&mut bell), 2);
     /// assert_eq!(rt; bell.0, Some(11));
-    /// assert_eq!(rt; list.told(), 2);
+    /// assert_eq!(rt; list.remove(first), Some(true));
+    /// assert_eq!(rt; list.remove(second), Some(true));
     /// ```
     #[inline(always)]
     pub fn tell_all<B: Bell<W>>(&mut self, bell: &mut B) -> usize
@@ -185,7 +215,7 @@ impl<W: Drop> WaitList<W> {
     ///
     /// ```
     /// let mut list = WaitList::new(rt.alloc());
-    /// let ticket = list.listen(10).map_err(|_| "no room")?;
+    /// let ticket = list.listen(10).ok().expect(&rt, "memory");
     /// list.tell_one(&mut Quiet);
     /// assert_eq!(rt; list.remove(ticket), Some(true));
     /// assert_eq!(rt; list.len(), 0);
@@ -203,11 +233,12 @@ impl<W: Drop> WaitList<W> {
     /// ```
     /// let mut list = WaitList::new(rt.alloc());
     /// let mut bell = Last(None);
-    /// let first = list.listen(10).map_err(|_| "no room")?;
-    /// list.listen(11).map_err(|_| "no room")?;
+    /// let first = list.listen(10).ok().expect(&rt, "memory");
+    /// let second = list.listen(11).ok().expect(&rt, "memory");
     /// list.tell_one(&mut bell);
     /// list.cancel(first, &mut bell);
     /// assert_eq!(rt; bell.0, Some(11));
+    /// list.cancel(second, &mut bell);
     /// ```
     pub fn cancel<B: Bell<W>>(&mut self, ticket: Ticket, bell: &mut B)
         ensures { Cancels B.rings self.old ticket bell.old self.new bell.new }
@@ -222,12 +253,13 @@ impl<W: Drop> WaitList<W> {
     ///
     /// ```
     /// let mut list = WaitList::new(rt.alloc());
-    /// let ticket = list.listen(10).map_err(|_| "no room")?;
+    /// let ticket = list.listen(10).ok().expect(&rt, "memory");
     /// assert_eq!(rt; list.renew(&ticket, 11), Ok(Some(10)));
     ///
     /// // The bell has the payload of one that is told.
     /// list.tell_one(&mut Quiet);
     /// assert_eq!(rt; list.renew(&ticket, 12), Ok(None));
+    /// list.remove(ticket);
     /// ```
     pub fn renew(&mut self, ticket: &Ticket, payload: W) -> Result<Option<W>, W>
         ensures { Renews self.old ticket.now payload result self.new }
@@ -241,8 +273,8 @@ impl<W: Drop> WaitList<W> {
     ///
     /// ```
     /// let mut list = WaitList::new(rt.alloc());
-    /// let ticket = list.listen(10).map_err(|_| "no room")?;
-    /// let entry = list.unregister(ticket).ok_or("an entry")?;
+    /// let ticket = list.listen(10).ok().expect(&rt, "memory");
+    /// let entry = list.unregister(ticket).expect(&rt, "an entry");
     /// assert_eq!(rt; entry.into_payload(), Some(10));
     /// ```
     pub fn unregister(&mut self, ticket: Ticket) -> Option<EntryState<W>>
@@ -258,9 +290,9 @@ impl<W: Drop> WaitList<W> {
     /// ```
     /// let mut list = WaitList::new(rt.alloc());
     /// let mut bell = Last(None);
-    /// let first = list.listen(10).map_err(|_| "no room")?;
-    /// let second = list.listen(11).map_err(|_| "no room")?;
-    /// let third = list.listen(12).map_err(|_| "no room")?;
+    /// let first = list.listen(10).ok().expect(&rt, "memory");
+    /// let second = list.listen(11).ok().expect(&rt, "memory");
+    /// let third = list.listen(12).ok().expect(&rt, "memory");
     /// assert_eq!(rt; list.withdraw(third, &mut bell), Some(12));
     /// assert_eq!(rt; bell.0, None);
     ///
@@ -268,7 +300,7 @@ impl<W: Drop> WaitList<W> {
     /// list.tell_one(&mut bell);
     /// assert_eq!(rt; list.withdraw(first, &mut bell), None);
     /// assert_eq!(rt; bell.0, Some(11));
-    /// assert_eq!(rt; list.is_told(&second), Some(true));
+    /// assert_eq!(rt; list.remove(second), Some(true));
     /// ```
     pub fn withdraw<B: Bell<W>>(&mut self, ticket: Ticket, bell: &mut B) -> Option<W>
         ensures { Withdraws B.rings self.old ticket bell.old result self.new bell.new }
@@ -287,13 +319,13 @@ impl<W: Drop> WaitList<W> {
     /// ```
     /// fn is_told_at_last<L: Ledger>(alloc: Global, steps: &mut Steps<L>) -> Option<bool> {
     ///     let mut list = WaitList::new(alloc);
-    ///     let first = list.listen_counted(10, steps).ok()?;
-    ///     let second = list.listen_counted(11, steps).ok()?;
+    ///     let ticket = list.listen_counted(10, steps).ok()?;
     ///     list.tell_one_counted(&mut Quiet, steps);
-    ///     list.again_counted(&first, 12, steps);
+    ///     list.again_counted(&ticket, 11, steps);
     ///     list.tell_all_counted(&mut Quiet, steps);
-    ///     list.cancel_counted(second, &mut Quiet, steps);
-    ///     list.remove_counted(first, steps)
+    ///     list.cancel_counted(ticket, &mut Quiet, steps);
+    ///     let ticket = list.listen_counted(12, steps).ok()?;
+    ///     list.remove_counted(ticket, steps)
     /// }
     /// ```
     pub fn listen_counted<L: Ledger>(
@@ -429,11 +461,12 @@ impl<W: Drop> WaitList<W> {
     ///
     /// ```
     /// let mut list = WaitList::new(rt.alloc());
-    /// let ticket = list.listen(10).map_err(|_| "no room")?;
+    /// let ticket = list.listen(10).ok().expect(&rt, "memory");
     /// assert_eq!(rt; list.payload(&ticket).copied(), Some(10));
     ///
     /// list.tell_one(&mut Quiet);
     /// assert_eq!(rt; list.payload(&ticket).copied(), None);
+    /// list.remove(ticket);
     /// ```
     pub fn payload(&self, ticket: &Ticket) -> Option<&W>
         ensures { option_copied result ≡ payload_in ticket.now self.now.untold }
@@ -488,11 +521,12 @@ impl<W: Drop> WaitList<W> {
         ensures does { Unregisters self.old ticket result self.new }
         ensures counted { (steps.old < steps.new) × (steps.new ≤ steps.old + 6) }
     {
+        let Ticket { key } = ticket;
         let Some(links) = &mut self.links else {
             steps.lookups.raise();
             return None;
         };
-        let entry = links.unregister(ticket, &mut steps.lookups);
+        let entry = links.unregister(key, &mut steps.lookups);
         self.give_room_back();
         entry
     }

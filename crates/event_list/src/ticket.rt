@@ -1,22 +1,24 @@
 //! What names an entry of a waiting list.
-ghost use Rattle.std.specs.Prelude.{◌≡◌};
+ghost use Rattle.std.specs.Prelude.{◌≡◌, None};
 
 use std::marker::Model;
 
 /// Names an entry of one waiting list. Its key is all that a contract sees of it.
 ///
-/// A ticket is neither `Copy` nor `Clone`, so an entry has one owner. To another list it means
-/// nothing, or whichever entry has the same key there.
+/// A ticket is neither `Copy` nor `Clone`, so an entry has one owner. It has no `Drop` either, so
+/// that nobody forgets an entry: a ticket goes back to the list, which takes the entry out and
+/// hands a notice on, or is an error of the compiler. To another list it means nothing, or
+/// whichever entry has the same key there; if no entry has it, the ticket alone goes.
 ///
 /// # Examples
 ///
 /// ```
 /// let mut list = WaitList::new(rt.alloc());
-/// let ticket = list.listen(10).map_err(|_| "no room")?;
+/// let ticket = list.listen(10).ok().expect(&rt, "memory");
 /// list.tell_one(&mut Quiet);
 /// assert_eq!(rt; list.first_told(), Some(ticket.key()));
+/// list.remove(ticket);
 /// ```
-#[derive(Drop)]
 pub struct Ticket {
     pub(crate) key: usize,
 }
@@ -35,5 +37,26 @@ impl Ticket {
         ensures { result ≡ self.now }
     {
         self.key
+    }
+
+    /// Ends a place where no ticket is.
+    ///
+    /// # Examples
+    ///
+    /// ```
+    /// let mut list = WaitList::new(rt.alloc());
+    /// let mut ticket = list.listen(10).ok();
+    /// if let Some(ticket) = ticket.take() {
+    ///     list.remove(ticket);
+    /// }
+    /// Ticket::destroy_none(ticket);
+    /// ```
+    pub fn destroy_none(place: Option<Ticket>)
+        requires { place ≡ None }
+    {
+        match place {
+            None => {}
+            Some(_) => unreachable!(),
+        }
     }
 }

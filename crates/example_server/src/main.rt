@@ -1,11 +1,16 @@
 //! A server: workers answer requests, each to whoever asked, and end cleanly when they are told to.
 //!
-//! A request carries the sender for its answer. A worker waits for a request and for the stop, by
-//! `select`; what was asked before the stop is answered still. Clients make channels of their own on
-//! their own threads, so they share the maker of stamps.
+//! It is proved that each client's answer is that of its own request.
+//!
+//! A request carries the sender for its answer, and an answer is right for the number that it names:
+//! no other can be made. A worker waits for a request and for the stop, by `select`; what was asked
+//! before the stop is answered still. Clients make channels of their own on their own threads, so
+//! they share the maker of stamps.
 #![tactic(auto)]
 
-use anyhow::Result;
+ghost use Rattle.std.specs.Prelude.{◌≡◌, count_ones, IfOk, IfSome};
+
+use anyhow::{Result, bail};
 use async_channel::{Receiver, Sender, StampMaker, bounded};
 use futures::executor::block_on;
 use futures::future::{Either, select};
@@ -20,14 +25,16 @@ const WORKERS: usize = 2;
 /// How many requests may wait for a worker.
 const CAPACITY: usize = 4;
 
-/// A number, and the way back for how many numbers divide it.
-type Request<R> = (u64, Sender<usize, R>);
-
-fn count_divisors(number: u64) -> usize {
-    (1..=number)
-        .filter(|divisor| number % *divisor == 0)
-        .count()
+/// A number, and how many ones it has in binary.
+#[derive(Drop)]
+pub struct Answer {
+    number: u64,
+    ones: u32,
+    ghost right: { ones ≡ count_ones number },
 }
+
+/// A number, and the way back for its answer.
+type Request<R> = (u64, Sender<Answer, R>);
 
 /// The next request. There is none once the server was stopped and has answered what it had.
 fn next<'a, R: Wait + Clone + Drop + RandomSource + AllocGlobal>(
@@ -56,23 +63,32 @@ fn serve<R: Wait + Clone + Drop + RandomSource + AllocGlobal>(
             break;
         };
         // Whoever asked may be gone, and then nobody misses the answer.
-        let _ = reply.send_blocking(count_divisors(number))?;
+        let ones = number.count_ones();
+        let _ = reply.send_blocking(Answer { number, ones })?;
     }
     Ok(())
 }
 
-/// Asks the server, and answers `None` if it has stopped.
+/// Asks the server how many ones a number has, and answers `None` if it has stopped.
 fn ask<R: Wait + Clone + Drop + AllocGlobal>(
     rt: &R,
     requests: &Sender<Request<R>, R>,
     maker: &Mutex<StampMaker>,
     number: u64,
-) -> Result<Option<usize>> {
+) -> Result<Option<u32>>
+    ensures { IfOk result (λ answer. IfSome answer (λ ones. ones ≡ count_ones number)) }
+{
     let (reply, answer) = bounded(rt, rt.alloc(), 1, &mut maker.lock(rt))?;
     if requests.send_blocking((number, reply))?.is_err() {
         return Ok(None);
     }
-    Ok(answer.recv_blocking()?.ok())
+    let Ok(answer) = answer.recv_blocking()? else {
+        return Ok(None);
+    };
+    if answer.number != number {
+        bail!("an answer to another request");
+    }
+    Ok(Some(answer.ones))
 }
 
 fn main(rt: HostRuntime) -> Result<()> {

@@ -1,17 +1,14 @@
 -- What the hubs know as ends come back.
 use Rattle.std.proofs.Common.{◌≡◌, ℕ, ◌+◌, Bool, true, false, List, [], ◌∷◌, ◌++◌, length, map, refl, sym, ap, ◌∙◌, subst}
+use Rattle.std.proofs.lemmas.Bool.{or_right}
 use Rattle.std.proofs.lemmas.List.{append-nil, length-append, map-append}
 use Rattle.std.specs.Prelude.{IsPermutation}
 use Rattle.std.specs.List.{flat_map}
 use Rattle.ruled_channel_rules.specs.declared.log.Log.{Log}
-use Rattle.ruled_channel_rules.specs.Whole.{sender_log, receiver_log, together, either}
+use Rattle.ruled_channel_rules.specs.Whole.{sender_log, receiver_log, together}
 use Rattle.ruled_channel_rules.proofs.Stages.{answered}
 use Rattle.parallel_map.specs.Chunks.{ChunkView, chunk_at}
 use Rattle.parallel_map.specs.Workers.{AreBack, AreAllDone}
-
-either_true : (a b : Bool) → b ≡ true → either a b ≡ true
-either_true true b e = refl
-either_true false b e = e
 
 module _ {B : Type 0} where
   module _ (jobs : Log ℕ) (results : Log (ChunkView B)) where
@@ -45,7 +42,7 @@ module _ {B : Type 0} where
             ∙ ap (λ l. map (map (chunk_at all size)) jobs.got ++ l ∷ []) is
             ∙ sym (map-append (map (chunk_at all size)) jobs.got (got ∷ []))
             ∙ sym (ap (λ (x : Log ℕ). map (map (chunk_at all size)) x.got) ev);
-        ended = λ some. ap (λ (x : Log ℕ). x.ended) ev ∙ either_true jobs.ended ended end;
+        ended = λ some. ap (λ (x : Log ℕ). x.ended) ev ∙ or_right jobs.ended ended end;
       }
 
     module _ (are : AreBack jobs.receivers jobs results) where

@@ -90,7 +90,7 @@ fn vacant<B: Drop>(alloc: Global, count: usize) -> Result<Vec<Option<B>>, AllocE
 {
     let mut slots = Vec::with_capacity(alloc, count)?;
     for _ in 0..count {
-        slots.push(None)?;
+        slots.push_reserved(None);
     }
     Ok(slots)
 }

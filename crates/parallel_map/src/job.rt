@@ -46,7 +46,7 @@ pub trait Gate {
     /// Is called just before the job runs on the input at the place.
     fn before(&self, place: usize);
 
-    /// Is called when the job has run on the input at the place, before its piece is sent.
+    /// Is called when the job has run on the input at the place.
     fn after(&self, place: usize);
 }
 

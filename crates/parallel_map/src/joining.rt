@@ -2,7 +2,8 @@
 //!
 //! A chunk for the next place is appended. One that comes before its turn is kept aside, under its
 //! place, until the answers reach it.
-ghost use Rattle.std.specs.Prelude.{◌≡◌, ◌++◌, [], ◌∷◌, List, IfOk, OnOk};
+ghost use Rattle.std.specs.Prelude.{◌≡◌, ◌≤◌, ◌++◌, [], ◌∷◌, List, IfOk, OnOk};
+ghost use Rattle.std.specs.Vec.{vec_capacity};
 ghost use Rattle.parallel_map.specs.Chunks.{ChunkView};
 
 use crate::chunk::Chunk;
@@ -21,7 +22,8 @@ impl<B: Drop> Joined<B> {
 
     /// No answers yet. `count` says for how many there is to be room.
     pub fn new(alloc: Global, count: usize) -> Result<Self, AllocError>
-        ensures { IfOk result (HasJoined []) }
+        ensures none { IfOk result (HasJoined []) }
+        ensures room { IfOk result (λ joined. count ≤ vec_capacity joined.answers) }
     {
         Ok(Joined {
             answers: Vec::with_capacity(alloc, count)?,

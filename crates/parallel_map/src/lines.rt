@@ -1,7 +1,7 @@
 //! The channels of a map.
-ghost use Rattle.std.specs.Prelude.{◌≡◌, ◌↔◌, ◌<◌, None, Err, IfOk, OnOk, OnErr};
+ghost use Rattle.std.specs.Prelude.{◌≡◌, ◌↔◌, ◌<◌, None, Some, Err, IfOk, OnOk, OnErr};
 ghost use Rattle.identity.specs.Stamps.{next_stamp};
-ghost use Rattle.ruled_channel_rules.specs.Handles.{IsHubOf, known};
+ghost use Rattle.ruled_channel_rules.specs.Handles.{IsHubOf, capacity_of, known};
 ghost use Rattle.ruled_channel_rules.specs.Whole.{hub_log};
 
 use channel_model::MakeError;
@@ -19,6 +19,7 @@ pub fn bounded_line<T: Drop>(
     ensures spent { (result ≡ Err MakeError.NoStamps) ↔ (maker.old ≡ None) }
     ensures unchanged { OnErr result (maker.new ≡ maker.old) }
     ensures rises { OnOk result (maker.new ≡ next_stamp maker.old) }
+    ensures capacity { IfOk result (λ made. capacity_of made.0 ≡ Some cap) }
     ensures own { IfOk result (λ made. IsHubOf made.0 made.1 × (known made.1 ≡ hub_log 0 0)) }
 {
     if maker.is_spent() {

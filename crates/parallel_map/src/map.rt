@@ -1,7 +1,7 @@
 //! The map of a list, by many threads.
-ghost use Rattle.std.specs.Prelude.{◌≡◌, ◌≢◌, ◌<◌, ◌≤◌, ◌/◌, ◌⊎◌, min, max, [], map, IsOk, IfOk, IfErr, OnOk, Err, None};
+ghost use Rattle.std.specs.Prelude.{◌≡◌, ◌≢◌, ◌<◌, ◌≤◌, ◌+◌, ◌-◌, ◌^◌, ◌/◌, ◌⊎◌, ℕ, min, max, [], map, IsOk, IfOk, IfErr, OnOk, Err, None, Some};
 ghost use Rattle.identity.specs.Stamps.{next_stamp};
-ghost use Rattle.ruled_channel_rules.specs.Handles.{known};
+ghost use Rattle.ruled_channel_rules.specs.Handles.{capacity_of, known};
 ghost use Rattle.ruled_channel_rules.specs.Whole.{hub_log};
 ghost use Rattle.parallel_map.specs.Stamps.{behind_two, DrewTwoAtMost};
 ghost use Rattle.parallel_map.specs.Workers.{AreHubsOf};
@@ -54,6 +54,8 @@ where
     requires new { (known hubs.places ≡ hub_log 0 0) × (known hubs.chunks ≡ hub_log 0 0) }
     requires size { (0 < task.now.size) × (0 < task.now.most_out) }
     requires count { 0 < count }
+    requires way { (cap : ℕ) × (capacity_of task.now.places ≡ Some cap)
+        × (task.now.most_out ≡ min (cap + count) (2 ^ 64 - 1)) }
     ensures all { IfOk result (λ answers. answers.items ≡ map J.answer task.now.inputs.now) }
     ensures refused { IfErr result (λ error.
         (error ≡ MapError.OutOfMemory) ⊎ (error ≡ MapError.NoThread)) }

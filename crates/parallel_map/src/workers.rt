@@ -8,7 +8,8 @@
 //! back before it sends the next. At last it joins every worker that was started, whatever was
 //! refused meanwhile. Both channels are under the rule that what is received is what is sent. So
 //! once all ends are back the caller has had the chunks of all answers, each once.
-ghost use Rattle.std.specs.Prelude.{◌≡◌, ◌+◌, ◌^◌, ◌<◌, ◌⊎◌, [], All, length, take, drop, map, vec_len, true, false, IsTrue, IfOk, IfErr, IsSome, OnOk, OnErr, Err};
+ghost use Rattle.std.specs.Prelude.{◌≡◌, ◌+◌, ◌^◌, ◌<◌, ◌≤◌, ◌⊎◌, [], All, length, take, drop, map, vec_len, true, false, IsTrue, IfOk, IfErr, IsSome, OnOk, OnErr, Err};
+ghost use Rattle.std.specs.Vec.{vec_capacity};
 ghost use Rattle.ruled_channel_rules.specs.Handles.{IsSenderOf, IsReceiverOf, sent_by, got_by, has_ended, sender_closed, receiver_closed, known};
 ghost use Rattle.ruled_channel_rules.specs.Whole.{hub_log, together, sender_log, receiver_log};
 ghost use Rattle.parallel_map.specs.Chunks.{chunk_at, AreStartsOf};
@@ -432,6 +433,42 @@ fn collect<A, B: Drop, J: Job<A, B>, G, R: Wait>(
     Ok(answers)
 }
 
+// Feeds the workers if all were started, waits for them, and gives their answers. That one couldn't
+// be started is answered first; all else that went wrong is a want of memory.
+fn finish<'s, 'a: 's, A, B: Drop, J: Job<A, B>, G, R: Wait + Threads>(
+    rt: &R,
+    task: &'s Task<'a, A, B, J, G>,
+    hubs: &mut Hubs<B>,
+    mut feeder: Sender<usize>,
+    mut collector: Collector<B>,
+    workers: Vec<PromisedHandle<Worked<B>, Hired<'s, 'a, A, B, J, G>>>,
+    started: Result<(), MapError>,
+) -> Result<Vec<B>, MapError>
+    requires own { AreHubsOf task.now.places task.now.chunks hubs.old.places hubs.old.chunks }
+    requires feeder { IsSenderOf task.now.places feeder × (sent_by feeder ≡ []) }
+    requires collector { IsCollectorOf task.now.chunks collector }
+    requires room { length task.now.inputs.now ≤ vec_capacity collector.joined.answers }
+    requires size { (0 < task.now.size) × (0 < task.now.most_out) }
+    requires promised { All (λ worker. worker.promise.task.now ≡ task.now) workers.items }
+    requires fresh { AreFresh (known hubs.old.places) (known hubs.old.chunks) }
+    requires count { IfOk started (λ _. (0 < vec_len workers)
+        × ((known hubs.old.places).receivers ≡ vec_len workers)) }
+    ensures all { IfOk result (λ answers. answers.items ≡ map J.answer task.now.inputs.now) }
+    ensures unstarted { (error : MapError) → started ≡ Err error → result ≡ Err error }
+    ensures memory { OnOk started (IfErr result (λ error. error ≡ MapError.OutOfMemory)) }
+{
+    let all_came = feed(rt, task, &mut feeder, &mut collector, started.is_ok());
+    let all_well = join_all(rt, task, hubs, workers);
+    started?;
+    if !all_came || !all_well {
+        return Err(MapError::OutOfMemory);
+    }
+    match collect(rt, task, hubs, feeder, collector) {
+        Ok(answers) => Ok(answers),
+        Err(_) => Err(MapError::OutOfMemory),
+    }
+}
+
 /// Starts the workers, sends the first place of each chunk, puts the chunks together that come
 /// back, and waits for the workers.
 pub fn run<'s, 'a: 's, E, A, B, J, G, R>(
@@ -461,18 +498,9 @@ where
     let Ok(joined) = Joined::new(task.alloc, task.inputs.len()) else {
         return Err(MapError::OutOfMemory);
     };
-    let mut feeder = hubs.places.sender(&task.places);
+    let feeder = hubs.places.sender(&task.places);
     let receiver = hubs.chunks.receiver(&task.chunks);
-    let mut collector = Collector { receiver, joined };
+    let collector = Collector { receiver, joined };
     let started = start_all(scope, rt, task, &mut hubs, count, &mut workers);
-    let all_came = feed(rt, task, &mut feeder, &mut collector, started.is_ok());
-    let all_well = join_all(rt, task, &mut hubs, workers);
-    started?;
-    if !all_came || !all_well {
-        return Err(MapError::OutOfMemory);
-    }
-    match collect(rt, task, &mut hubs, feeder, collector) {
-        Ok(answers) => Ok(answers),
-        Err(_) => Err(MapError::OutOfMemory),
-    }
+    finish(rt, task, &mut hubs, feeder, collector, workers, started)
 }

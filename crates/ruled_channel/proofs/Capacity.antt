@@ -30,15 +30,15 @@ module _ {T W : Type 0} where
   of_receives (suc count) core = of_receives count (received core).channel ∙ of_taking core.messages core
 
   -- a poll of sends leaves it, however it ends
-  pub of_polled_sends : {A E : Type 0} (core now : Channel T W) (Fact : W → Type 0) (ticket ticket' : Option ℕ) (m : Option T) (Rest : Type 0) (messages : List T) (result : Result (Poll A) E)
+  pub of_polled_sends : {A E : Type 0} (core now : Channel T W) (Fact : W → Type 0) (ticket ticket' : Option ℕ) (m : Option T) (messages : List T) (result : Result (Poll A) E)
       → OnReady result (now ≡ (polled_sends ticket messages core).channel)
-      → OnWait result ((w : W) × Fact w × SendWaits m ticket core w ticket' now × Rest)
+      → OnWait result ((w : W) × Fact w × SendWaits m ticket core w ticket' now)
       → OnErr result (now ≡ core) → now.capacity ≡ core.capacity
-  of_polled_sends core now Fact ticket ticket' m Rest messages (Ok (Ready answer)) after waits unchanged = ap (λ (c : Channel T W). c.capacity) after
+  of_polled_sends core now Fact ticket ticket' m messages (Ok (Ready answer)) after waits unchanged = ap (λ (c : Channel T W). c.capacity) after
       ∙ of_sends messages (record core { sends = left ticket core.sends })
-  of_polled_sends core now Fact ticket ticket' (Some m) Rest messages (Ok Pending) after waits unchanged = ap (λ (c : Channel T W). c.capacity) waits.2.0
-  of_polled_sends core now Fact ticket ticket' None Rest messages (Ok Pending) after waits unchanged = ap (λ (c : Channel T W). c.capacity) waits.2.0
-  of_polled_sends core now Fact ticket ticket' m Rest messages (Err error) after waits unchanged = ap (λ (c : Channel T W). c.capacity) unchanged
+  of_polled_sends core now Fact ticket ticket' (Some m) messages (Ok Pending) after waits unchanged = ap (λ (c : Channel T W). c.capacity) waits.2.0
+  of_polled_sends core now Fact ticket ticket' None messages (Ok Pending) after waits unchanged = ap (λ (c : Channel T W). c.capacity) waits.2.0
+  of_polled_sends core now Fact ticket ticket' m messages (Err error) after waits unchanged = ap (λ (c : Channel T W). c.capacity) unchanged
 
   -- a poll of receives, likewise
   pub of_polled_receives : {A E : Type 0} (core now : Channel T W) (Fact : W → Type 0) (ticket ticket' : Option ℕ) (count : ℕ) (result : Result (Poll A) E)

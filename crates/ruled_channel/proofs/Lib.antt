@@ -5,3 +5,4 @@ pub mod Views
 pub mod Dropped
 pub mod Logging
 pub mod Capacity
+mod Made

@@ -3,6 +3,7 @@ pub mod Rung
 pub mod Rule
 pub mod Guarded
 pub mod Passes
+pub mod Steps
 pub mod Receiving
 pub mod Sending
 pub mod Closing

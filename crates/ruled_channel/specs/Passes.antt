@@ -1,20 +1,30 @@
 -- What a clause says of a channel's passes and of its answers.
-use Rattle.std.specs.Prelude.{◌≡◌, ◌⊎◌, ⊤, ℕ, Bool, true, false, List, [], Option, None}
-use Rattle.channel_core.specs.Channel.{Channel}
+use Rattle.std.specs.Prelude.{◌≡◌, ◌⊎◌, ⊤, ℕ, Bool, true, false, List, [], Option, None, Result, Ok, Err}
 use Rattle.channel_model.specs.declared.errors.TrySendError.{TrySendError}
 use Rattle.channel_model.specs.declared.errors.TrySendError.TheVariants.{Full, Closed}
 use Rattle.channel_model.specs.declared.errors.TryRecvError.{TryRecvError}
 use Rattle.channel_model.specs.declared.errors.TryRecvError.TheVariants.{Empty, Closed}
-use Rattle.ruled_mutex.specs.declared.pass.Pass.{Pass}
-use Rattle.ruled_mutex.specs.Passes.{IsPassOf as IsMutexPass}
-pub use Rattle.ruled_mutex.specs.Passes.{view}
-use Rattle.ruled_channel.specs.declared.mark.Mark.{Mark}
+use Rattle.ruled_mutex.specs.Passes.{IsPassOf as IsMutexPass, IsSamePass as IsSameMutexPass, number as number_in_mutex, view as view_in_mutex}
 use Rattle.ruled_channel.specs.declared.channel.RuledChannel.{RuledChannel}
+use Rattle.ruled_channel.specs.declared.pass.Pass.{Pass}
 use Rattle.ruled_channel.specs.Rule.{IsFilled}
 
 -- it is a pass of this channel
-abbrev pub IsPassOf : {T V P : Type 0} → RuledChannel T V P → Pass (Channel T Mark) V → Type 0
-IsPassOf channel pass = IsMutexPass channel.mutex pass
+abbrev pub IsPassOf : {T V P : Type 0} → RuledChannel T V P → Pass T V → Type 0
+IsPassOf channel pass = IsMutexPass channel.mutex pass.lock
+
+module _ {T V : Type 0} where
+  -- what the pass knows
+  abbrev pub view : Pass T V → V
+  view pass = view_in_mutex pass.lock
+
+  -- the place of its view among the views of all passes
+  abbrev pub number : Pass T V → ℕ
+  number pass = number_in_mutex pass.lock
+
+  -- it is a pass of the same channel, with the same number
+  abbrev pub IsSamePass : Pass T V → Pass T V → Type 0
+  IsSamePass old new = IsSameMutexPass old.lock new.lock
 
 -- something was learned at one moment, of what there was then
 abbrev pub LearnedOf : {X : Type 0} → (X → Type 0) → Type 0
@@ -48,7 +58,8 @@ abbrev pub IfFull : {T : Type 0} → TrySendError T → Type 0 → Type 0
 IfFull (Full m) Fact = Fact
 IfFull (Closed m) Fact = ⊤
 
--- a fact, if it was closed
-abbrev pub IfClosed : {T : Type 0} → TrySendError T → Type 0 → Type 0
-IfClosed (Full m) Fact = ⊤
-IfClosed (Closed m) Fact = Fact
+-- a fact, unless it was
+abbrev pub UnlessFull : {T : Type 0} → Result (Unit {0}) (TrySendError T) → Type 0 → Type 0
+UnlessFull (Ok sent) Fact = Fact
+UnlessFull (Err (Full m)) Fact = ⊤
+UnlessFull (Err (Closed m)) Fact = Fact

@@ -4,14 +4,17 @@ ghost use Rattle.std.specs.Vec.{vec_len, vec_capacity};
 ghost use Rattle.std.specs.VecDeque.{deque_len, deque_capacity};
 ghost use Rattle.futures.specs.declared.task.Poll.TheVariants.{Pending};
 ghost use Rattle.futures.specs.Poll.{IfReady};
-ghost use Rattle.channel_model.specs.Tables.{OnReady, OnWait, recv_poll, send_poll, try_recv_answer};
+ghost use Rattle.channel_model.specs.Tables.{OnReady, OnWait, recv_poll, send_poll, try_recv_answer, try_send_answer};
 ghost use Rattle.channel_core.specs.Batches.{CanSendNoMore, counted, moved_count, received_many, sent_many, taken_count};
-ghost use Rattle.channel_core.specs.Channel.{GrowsWithMessages, RecvWaits, SendWaits, is_channel_full, oldest};
+ghost use Rattle.channel_core.specs.Channel.{GrowsWithMessages, RecvWaits, SendWaits, is_channel_full, oldest, unchanged};
 ghost use Rattle.ruled_channel.specs.declared.mark.Mark.{Mark};
+ghost use Rattle.ruled_channel.specs.Passes.{IsPassOf, IsSamePass};
+ghost use Rattle.ruled_channel.specs.Steps.{HasMade, found, made, woken};
 ghost use Rattle.ruled_channel.specs.Batches.{counted_poll, counted_send, polled_count, polled_receives, polled_sends};
 
 use crate::channel::RuledChannel;
 use crate::mark::{Mark, Waiter};
+use crate::pass::Pass;
 use crate::ringer::Ringer;
 use channel_core::{Core, OutOfMemory, RecvError, SendError, Ticket, TryRecvError, TrySendError};
 use futures::task::Poll;
@@ -50,7 +53,8 @@ impl<T: Drop> RuledChannel<T, (), Unruled> {
         ensures kept { OnWait result (into.new.items ≡ into.old.items) }
         ensures keeps { W.keeps cx.old cx.new }
 
-        ensures unchanged { OnErr result (core.new ≡ core.old) }
+        ensures silent { OnWait result (bell.new ≡ bell.old) }
+        ensures unchanged { OnErr result ((core.new ≡ core.old) × (bell.new ≡ bell.old)) }
         ensures unpolled { OnErr result ((into.new.items ≡ into.old.items)
             × (ticket.new ≡ ticket.old)) }
         ensures wanted { OnErr result ((recv_poll (oldest core.old) core.old.closed ≡ Pending)
@@ -103,11 +107,11 @@ impl<T: Drop> RuledChannel<T, (), Unruled> {
         ensures finished { OnReady result (ticket.new ≡ None) }
 
         ensures waits { OnWait result ((w : Mark) × W.waits_by cx.new self.now.source.id w
-            × SendWaits (slice_get from.old.items 0) ticket.old core.old w ticket.new core.new
-            × IsSome ticket.new) }
+            × SendWaits (slice_get from.old.items 0) ticket.old core.old w ticket.new core.new) }
         ensures keeps { W.keeps cx.old cx.new }
 
-        ensures unchanged { OnErr result (core.new ≡ core.old) }
+        ensures silent { OnWait result (bell.new ≡ bell.old) }
+        ensures unchanged { OnErr result ((core.new ≡ core.old) × (bell.new ≡ bell.old)) }
         ensures unpolled { OnErr result (ticket.new ≡ ticket.old) }
         ensures wanted { OnErr result (GrowsWithMessages core.old
             ⊎ (send_poll (slice_get from.old.items 0) core.old.closed (is_channel_full core.old)
@@ -164,6 +168,8 @@ fn send_round<T: Drop, R: Wait>(
     limit: usize,
     bell: &mut Ringer<'_, R>,
 ) -> Result<Result<usize, TrySendError<()>>, OutOfMemory>
+    ensures reply { IfOk result (λ answer. answer ≡ counted (moved_count result)
+        (try_send_answer core.old.closed (is_channel_full core.old) tt)) }
     ensures limit { moved_count result ≤ limit }
     ensures within { moved_count result ≤ length from.old.items }
     ensures rest { from.new.items ≡ drop (moved_count result) from.old.items }
@@ -245,28 +251,34 @@ impl<T: Drop> RuledChannel<T, (), Unruled> {
     /// outer error says that memory was refused for the first message.
     ///
     /// ```
-    /// let (channel, _) = bounded_with::<u64, (), Unruled>(rt.alloc(), 1)?;
+    /// let (channel, mut pass) = bounded_with::<u64, (), Unruled>(rt.alloc(), 1)?;
     /// let mut from = VecDeque::new(rt.alloc());
     /// from.push_back(5)?;
     /// from.push_back(6)?;
-    /// assert_eq!(rt; channel.try_send_many(&rt, &mut from, 2)?, Ok(1));
+    /// assert_eq!(rt; channel.try_send_many(&rt, &mut pass, &mut from, 2)?, Ok(1));
     /// ```
     pub fn try_send_many<R: Wait>(
         &self,
         rt: &R,
+        pass: &mut Pass<T, ()>,
         from: &mut VecDeque<T, Global>,
         limit: usize,
     ) -> Result<Result<usize, TrySendError<()>>, OutOfMemory>
+        requires { IsPassOf self.now pass.old }
+        ensures own { IsPassOf self.now pass.new × IsSamePass pass.old pass.new }
         ensures limit { moved_count result ≤ limit }
         ensures within { moved_count result ≤ length from.old.items }
         ensures rest { from.new.items ≡ drop (moved_count result) from.old.items }
+        ensures reply { IfOk result (λ answer. answer ≡ counted (moved_count result)
+            (try_send_answer (found pass.new).closed (is_channel_full (found pass.new)) tt)) }
+        ensures step { HasMade (sent_many (take (moved_count result) from.old.items)) pass.new }
+        ensures stops { moved_count result < limit → CanSendNoMore from.new.items (made pass.new) }
     {
-        let mut pass = self.pass();
-        let held = self.mutex.lock(rt, &mut pass);
+        let held = self.mutex.lock(rt, &mut pass.lock);
         let mut bell = Ringer::new(rt);
-        let core = pass.value_mut(&self.mutex, &held);
+        let core = pass.lock.value_mut(&self.mutex, &held);
         let sent = send_round(core, from, limit, &mut bell);
-        self.give_back::<Unruled, R>(&mut pass, held, bell);
+        self.give_back::<Unruled, R>(pass, held, bell);
         sent
     }
 
@@ -282,24 +294,32 @@ impl<T: Drop> RuledChannel<T, (), Unruled> {
     /// let sent = channel.try_send_as::<Unruled, Unruled, _>(&rt, &mut pass, 5)?;
     /// assert_eq!(rt; sent, Ok(()));
     /// let mut into = Vec::new(rt.alloc());
-    /// assert_eq!(rt; channel.try_recv_many(&rt, &mut into, 2)?, Ok(1));
+    /// assert_eq!(rt; channel.try_recv_many(&rt, &mut pass, &mut into, 2)?, Ok(1));
     /// ```
     pub fn try_recv_many<R: Wait>(
         &self,
         rt: &R,
+        pass: &mut Pass<T, ()>,
         into: &mut Vec<T>,
         limit: usize,
     ) -> Result<Result<usize, TryRecvError>, OutOfMemory>
+        requires { IsPassOf self.now pass.old }
+        ensures own { IsPassOf self.now pass.new × IsSamePass pass.old pass.new }
         ensures limit { moved_count result ≤ limit }
         ensures kept { take (length into.old.items) into.new.items ≡ into.old.items }
         ensures count { length into.new.items ≡ length into.old.items + moved_count result }
+        ensures reply { IfOk result (λ answer. answer
+            ≡ counted (taken_count limit (found pass.new))
+            (try_recv_answer (oldest (found pass.new)) (found pass.new).closed)) }
+        ensures taken { into.new.items
+            ≡ into.old.items ++ take (moved_count result) (found pass.new).messages }
+        ensures step { HasMade (received_many (moved_count result)) pass.new }
     {
-        let mut pass = self.pass();
-        let held = self.mutex.lock(rt, &mut pass);
+        let held = self.mutex.lock(rt, &mut pass.lock);
         let mut bell = Ringer::new(rt);
-        let core = pass.value_mut(&self.mutex, &held);
+        let core = pass.lock.value_mut(&self.mutex, &held);
         let taken = take_round(core, into, limit, &mut bell);
-        self.give_back::<Unruled, R>(&mut pass, held, bell);
+        self.give_back::<Unruled, R>(pass, held, bell);
         taken
     }
 
@@ -309,42 +329,53 @@ impl<T: Drop> RuledChannel<T, (), Unruled> {
     /// It is for who keeps the ticket and the waiter, as `send_or_wait_as` is.
     ///
     /// ```
-    /// let (channel, _) = bounded_with::<u64, (), Unruled>(rt.alloc(), 1)?;
+    /// let (channel, mut pass) = bounded_with::<u64, (), Unruled>(rt.alloc(), 1)?;
     /// let mut from = VecDeque::new(rt.alloc());
     /// from.push_back(5)?;
     /// let (mut ticket, mut sleeper) = (None, Sleeper::new());
     /// let polled = channel
-    ///     .send_many_or_wait(&rt, &mut from, 2, &mut ticket, &mut sleeper, &mut ())?;
-    /// assert_eq!(rt; polled, Poll::Ready(Ok(1)));
+    ///     .send_many_or_wait(&rt, &mut pass, &mut from, 2, &mut ticket, &mut sleeper, &mut ());
+    /// assert_eq!(rt; polled, Ok(Poll::Ready(Ok(1))));
+    /// Ticket::destroy_none(ticket);
     /// ```
     pub fn send_many_or_wait<C, W: Waiter<C>, R: Wait>(
         &self,
         rt: &R,
+        pass: &mut Pass<T, ()>,
         from: &mut VecDeque<T, Global>,
         limit: usize,
         ticket: &mut Option<Ticket>,
         waiter: &mut W,
         cx: &mut C,
     ) -> Result<Poll<Result<usize, SendError<()>>>, OutOfMemory>
+        requires own { IsPassOf self.now pass.old }
         requires some { 0 < length from.old.items }
         requires limited { 0 < limit }
+        ensures own { IsPassOf self.now pass.new × IsSamePass pass.old pass.new }
         ensures sends { IfOk result (λ poll. IfReady poll (λ sent. OnOk sent
             (0 < polled_count result))) }
         ensures limit { polled_count result ≤ limit }
         ensures within { polled_count result ≤ length from.old.items }
         ensures rest { from.new.items ≡ drop (polled_count result) from.old.items }
-        ensures finished { OnReady result (ticket.new ≡ None) }
+        ensures reply { IfOk result (λ poll. poll ≡ counted_send (polled_count result)
+            (send_poll (slice_get from.old.items 0) (found pass.new).closed
+            (is_channel_full (found pass.new)))) }
+        ensures step { OnReady result ((ticket.new ≡ None)
+            × HasMade (polled_sends ticket.old (take (polled_count result) from.old.items))
+            pass.new) }
+        ensures stops { IfOk result (λ poll. IfReady poll (λ sent. OnOk sent
+            (polled_count result < limit → CanSendNoMore from.new.items (made pass.new)))) }
         ensures waits { OnWait result ((w : Mark) × W.waits_by cx.new self.now.source.id w
-            × IsSome ticket.new) }
+            × IsSome ticket.new × SendWaits (slice_get from.old.items 0) ticket.old
+            (found pass.new) w ticket.new (made pass.new) × (woken pass.new ≡ [])) }
         ensures keeps { W.keeps cx.old cx.new }
-        ensures unpolled { OnErr result (ticket.new ≡ ticket.old) }
+        ensures unpolled { OnErr result ((ticket.new ≡ ticket.old) × HasMade unchanged pass.new) }
     {
-        let mut pass = self.pass();
-        let held = self.mutex.lock(rt, &mut pass);
+        let held = self.mutex.lock(rt, &mut pass.lock);
         let mut bell = Ringer::new(rt);
-        let core = pass.value_mut(&self.mutex, &held);
+        let core = pass.lock.value_mut(&self.mutex, &held);
         let polled = self.poll_send_many(core, from, limit, ticket, waiter, cx, &mut bell);
-        self.give_back::<Unruled, R>(&mut pass, held, bell);
+        self.give_back::<Unruled, R>(pass, held, bell);
         polled
     }
 
@@ -361,37 +392,48 @@ impl<T: Drop> RuledChannel<T, (), Unruled> {
     /// let mut into = Vec::new(rt.alloc());
     /// let (mut ticket, mut sleeper) = (None, Sleeper::new());
     /// let polled = channel
-    ///     .recv_many_or_wait(&rt, &mut into, 2, &mut ticket, &mut sleeper, &mut ())?;
-    /// assert_eq!(rt; polled, Poll::Ready(1));
+    ///     .recv_many_or_wait(&rt, &mut pass, &mut into, 2, &mut ticket, &mut sleeper, &mut ());
+    /// assert_eq!(rt; polled, Ok(Poll::Ready(1)));
+    /// Ticket::destroy_none(ticket);
     /// ```
     pub fn recv_many_or_wait<C, W: Waiter<C>, R: Wait>(
         &self,
         rt: &R,
+        pass: &mut Pass<T, ()>,
         into: &mut Vec<T>,
         limit: usize,
         ticket: &mut Option<Ticket>,
         waiter: &mut W,
         cx: &mut C,
     ) -> Result<Poll<usize>, OutOfMemory>
-        requires { 0 < limit }
+        requires own { IsPassOf self.now pass.old }
+        requires limited { 0 < limit }
+        ensures own { IsPassOf self.now pass.new × IsSamePass pass.old pass.new }
         ensures limit { IfOk result (λ poll. IfReady poll (λ count. count ≤ limit)) }
         ensures kept { take (length into.old.items) into.new.items ≡ into.old.items }
         ensures count { IfOk result (λ poll. IfReady poll (λ count. length into.new.items
             ≡ length into.old.items + count)) }
-        ensures finished { OnReady result (ticket.new ≡ None) }
+        ensures reply { IfOk result (λ poll. poll
+            ≡ counted_poll (taken_count limit (found pass.new))
+            (recv_poll (oldest (found pass.new)) (found pass.new).closed)) }
+        ensures taken { OnReady result (into.new.items ≡ into.old.items
+            ++ take (taken_count limit (found pass.new)) (found pass.new).messages) }
+        ensures step { OnReady result ((ticket.new ≡ None)
+            × HasMade (λ channel. polled_receives ticket.old (taken_count limit channel) channel)
+            pass.new) }
         ensures untouched { OnWait result (into.new.items ≡ into.old.items) }
         ensures waits { OnWait result ((w : Mark) × W.waits_by cx.new self.now.source.id w
-            × IsSome ticket.new) }
+            × IsSome ticket.new × RecvWaits ticket.old (found pass.new) w ticket.new (made pass.new)
+            × (woken pass.new ≡ [])) }
         ensures keeps { W.keeps cx.old cx.new }
         ensures unpolled { OnErr result ((into.new.items ≡ into.old.items)
-            × (ticket.new ≡ ticket.old)) }
+            × (ticket.new ≡ ticket.old) × HasMade unchanged pass.new) }
     {
-        let mut pass = self.pass();
-        let held = self.mutex.lock(rt, &mut pass);
+        let held = self.mutex.lock(rt, &mut pass.lock);
         let mut bell = Ringer::new(rt);
-        let core = pass.value_mut(&self.mutex, &held);
+        let core = pass.lock.value_mut(&self.mutex, &held);
         let polled = self.poll_recv_many(core, into, limit, ticket, waiter, cx, &mut bell);
-        self.give_back::<Unruled, R>(&mut pass, held, bell);
+        self.give_back::<Unruled, R>(pass, held, bell);
         polled
     }
 }

@@ -3,15 +3,18 @@
 //! A blocking call looks a few times, and pauses in between. Who can't go on then leaves its mark in
 //! the core's list, under the lock, and sleeps until just this mark is rung.
 ghost use Rattle.std.specs.Prelude.{◌≡◌, [], false, true, IfOk, IfErr, OnErr};
-ghost use Rattle.ruled_mutex.specs.Passes.{IsSamePass, view, number};
 ghost use Rattle.ruled_channel.specs.Rule.{Sends, Receives, Ends, Learns, Fitted};
-ghost use Rattle.ruled_channel.specs.Passes.{IsPassOf, LearnedOf, WantsToSend};
+ghost use Rattle.ruled_channel.specs.Passes.{IsPassOf, IsSamePass, LearnedOf, WantsToSend, number, view};
+ghost use Rattle.ruled_channel.specs.Steps.{HasMadeWith, HasReceived, HasSent, receive_given_up, send_given_up};
 
-use crate::channel::{Pass, RuledChannel};
+use crate::channel::RuledChannel;
 use crate::mark::Sleeper;
 use crate::outcomes::{AtEnd, Lesson, Received, Seen, Sent};
+use crate::pass::Pass;
 use crate::protocol::Protocol;
-use channel_core::{NoMemory, OutOfMemory, RecvError, SendError, TryRecvError, TrySendError};
+use channel_core::{
+    NoMemory, OutOfMemory, RecvError, SendError, Ticket, TryRecvError, TrySendError,
+};
 use futures::task::Poll;
 use std::hint;
 use std::sync::Wait;
@@ -46,7 +49,7 @@ impl<T: Drop, V, P: Protocol<T, V>> RuledChannel<T, V, P> {
     /// let got = channel.recv_blocking_as::<Unruled, Unruled, _>(&rt, &mut pass)?;
     /// assert_eq!(rt; got, Ok(5));
     /// ```
-    #[tactic(auto, using(crate::proofs::Same::sends_same, crate::proofs::Same::learns_same))]
+    #[tactic(auto, using(crate::proofs::Same::sends_same, crate::proofs::Same::learns_same, crate::proofs::Made::has_sent, crate::proofs::Made::has_sent_at_once, crate::proofs::Made::is_turned_back, crate::proofs::Made::is_turned_back_at_once, crate::proofs::Made::leaves_sends))]
     pub fn send_blocking_as<M: Sent<T, V>, L: Lesson<T, V>, R: Wait>(
         &self,
         rt: &R,
@@ -66,9 +69,11 @@ impl<T: Drop, V, P: Protocol<T, V>> RuledChannel<T, V, P> {
         ensures memory { IfErr result
             (λ error. (error.0 ≡ message) × (view pass.new ≡ view pass.old)
             × WantsToSend P.fits (L.fact (view pass.old))) }
+        ensures step { IfOk result (λ answer. HasSent message answer pass.new) }
+        ensures given_up { OnErr result (HasMadeWith send_given_up pass.new) }
     {
         let mut waiting = message;
-        for _ in 0..LOOKS {
+        for _look in 0..LOOKS {
             match self.try_send_as::<M, L, R>(rt, pass, waiting)? {
                 Ok(()) => return Ok(Ok(())),
                 Err(TrySendError::Closed(back)) => return Ok(Err(SendError(back))),
@@ -76,42 +81,22 @@ impl<T: Drop, V, P: Protocol<T, V>> RuledChannel<T, V, P> {
             }
             pause_between_looks();
         }
-        self.wait_to_send::<M, L, R>(rt, pass, waiting)
-    }
-
-    // Waits until there is a place, or the channel is closed.
-    #[tactic(auto, using(crate::proofs::Same::sends_same, crate::proofs::Same::learns_same))]
-    fn wait_to_send<M: Sent<T, V>, L: Lesson<T, V>, R: Wait>(
-        &self,
-        rt: &R,
-        pass: &mut Pass<T, V>,
-        message: T,
-    ) -> Result<Result<(), SendError<T>>, NoMemory<T>>
-        requires own { IsPassOf self.now pass.old }
-        requires rule { Sends P.fits P.holds (number pass.old) (view pass.old) message M.then }
-        requires lesson { Learns P.holds (number pass.old) (view pass.old)
-            (L.fact (view pass.old)) }
-        ensures own { IsPassOf self.now pass.new × IsSamePass pass.old pass.new }
-        ensures sent { IfOk result (λ answer. IfOk answer
-            (λ _. M.then (view pass.old) message (view pass.new))) }
-        ensures refused { IfOk result (λ answer. IfErr answer
-            (λ error. (error.0 ≡ message) × (view pass.new ≡ view pass.old)
-            × LearnedOf (λ messages. L.fact (view pass.old) messages true))) }
-        ensures memory { IfErr result
-            (λ error. (error.0 ≡ message) × (view pass.new ≡ view pass.old)
-            × WantsToSend P.fits (L.fact (view pass.old))) }
-    {
-        let mut waiting = message;
-        let mut ticket = None;
-        let mut sleeper = Sleeper::new();
-        for _ in rt.forever() {
-            let (t, s) = (&mut ticket, &mut sleeper);
-            match self.send_or_wait_as::<M, L, R, _, _>(rt, pass, waiting, t, s, &mut ()) {
-                Ok(Ok(())) => return Ok(Ok(())),
-                Ok(Err(TrySendError::Closed(back))) => return Ok(Err(SendError(back))),
+        let (mut ticket, mut sleeper) = (None, Sleeper::new());
+        for _turn in rt.forever() {
+            let (place, waiter) = (&mut ticket, &mut sleeper);
+            match self.send_or_wait_as::<M, L, R, _, _>(rt, pass, waiting, place, waiter, &mut ()) {
+                Ok(Ok(())) => {
+                    Ticket::destroy_none(ticket);
+                    return Ok(Ok(()));
+                }
+                Ok(Err(TrySendError::Closed(back))) => {
+                    Ticket::destroy_none(ticket);
+                    return Ok(Err(SendError(back)));
+                }
                 Ok(Err(TrySendError::Full(back))) => waiting = back,
                 Err(refused) => {
                     self.give_up_send(rt, pass, &mut ticket);
+                    Ticket::destroy_none(ticket);
                     return Err(refused);
                 }
             }
@@ -129,7 +114,7 @@ impl<T: Drop, V, P: Protocol<T, V>> RuledChannel<T, V, P> {
     /// let end = channel.recv_blocking_as::<Unruled, Unruled, _>(&rt, &mut pass)?;
     /// assert_eq!(rt; end, Err(RecvError));
     /// ```
-    #[tactic(auto, using(crate::proofs::Same::receives_same, crate::proofs::Same::ends_same))]
+    #[tactic(auto, using(crate::proofs::Same::receives_same, crate::proofs::Same::ends_same, crate::proofs::Made::has_received, crate::proofs::Made::has_ended))]
     pub fn recv_blocking_as<M: Received<T, V>, E: AtEnd<V>, R: Wait>(
         &self,
         rt: &R,
@@ -145,44 +130,28 @@ impl<T: Drop, V, P: Protocol<T, V>> RuledChannel<T, V, P> {
             (λ _. E.then (view pass.old) (view pass.new))) }
         ensures memory { OnErr result ((view pass.new ≡ view pass.old)
             × Fitted P.holds (view pass.old) [] false) }
+        ensures step { IfOk result (λ answer. HasReceived answer pass.new) }
+        ensures given_up { OnErr result (HasMadeWith receive_given_up pass.new) }
     {
-        for _ in 0..LOOKS {
+        for _look in 0..LOOKS {
             match self.try_recv_as::<M, E, Seen<P>, R>(rt, pass) {
                 Ok(message) => return Ok(Ok(message)),
                 Err(TryRecvError::Closed) => return Ok(Err(RecvError)),
                 Err(TryRecvError::Empty) => pause_between_looks(),
             }
         }
-        self.wait_to_recv::<M, E, R>(rt, pass)
-    }
-
-    // Waits until there is a message, or the channel is closed.
-    #[tactic(auto, using(crate::proofs::Same::receives_same, crate::proofs::Same::ends_same))]
-    fn wait_to_recv<M: Received<T, V>, E: AtEnd<V>, R: Wait>(
-        &self,
-        rt: &R,
-        pass: &mut Pass<T, V>,
-    ) -> Result<Result<T, RecvError>, OutOfMemory>
-        requires own { IsPassOf self.now pass.old }
-        requires rule { Receives P.holds (number pass.old) (view pass.old) M.then }
-        requires end { Ends P.holds (number pass.old) (view pass.old) E.then }
-        ensures own { IsPassOf self.now pass.new × IsSamePass pass.old pass.new }
-        ensures received { IfOk result (λ answer. IfOk answer
-            (λ message. M.then (view pass.old) message (view pass.new))) }
-        ensures end { IfOk result (λ answer. IfErr answer
-            (λ _. E.then (view pass.old) (view pass.new))) }
-        ensures memory { OnErr result ((view pass.new ≡ view pass.old)
-            × Fitted P.holds (view pass.old) [] false) }
-    {
-        let mut ticket = None;
-        let mut sleeper = Sleeper::new();
-        for _ in rt.forever() {
-            let (t, s) = (&mut ticket, &mut sleeper);
-            match self.recv_or_wait_as::<M, E, R, _, _>(rt, pass, t, s, &mut ()) {
-                Ok(Poll::Ready(answer)) => return Ok(answer),
+        let (mut ticket, mut sleeper) = (None, Sleeper::new());
+        for _turn in rt.forever() {
+            let (place, waiter) = (&mut ticket, &mut sleeper);
+            match self.recv_or_wait_as::<M, E, R, _, _>(rt, pass, place, waiter, &mut ()) {
+                Ok(Poll::Ready(answer)) => {
+                    Ticket::destroy_none(ticket);
+                    return Ok(answer);
+                }
                 Ok(Poll::Pending) => sleeper.sleep(rt),
                 Err(OutOfMemory) => {
                     self.give_up_recv(rt, pass, &mut ticket);
+                    Ticket::destroy_none(ticket);
                     return Err(OutOfMemory);
                 }
             }

@@ -1,31 +1,21 @@
 //! The channel and its calls that don't wait for others' messages.
-ghost use Rattle.std.specs.Prelude.{◌≡◌, [], ◌∷◌, ◌++◌, drop, take, false, true, Some, None, IfOk, IfErr};
-ghost use Rattle.crossbeam_utils.specs.Register.{TurnsAt};
+ghost use Rattle.std.specs.Prelude.{◌≡◌, [], ◌∷◌, not, false, true, Some, None, IfOk, IfErr, OnOk, OnErr};
 ghost use Rattle.channel_model.specs.Errors.{message_of};
-ghost use Rattle.ruled_mutex.specs.Passes.{IsSamePass, view, number, found, made, Holds};
 ghost use Rattle.ruled_channel.specs.Rule.{Sends, Forces, Receives, Ends, Closes, Forks, Merges, Learns};
 
-use crate::mark::{Mark, Woken};
+use crate::mark::Mark;
 use crate::outcomes::{
     AtEnd, Closed, Displaced, Ended, Forced, Kept, Lesson, Popped, Pushed, Received, Sent, Shut,
     Undisplaced,
 };
+use crate::pass::Pass;
 use crate::protocol::{Protocol, Ruled};
 use crate::ringer::Ringer;
 use channel_core::{Core, NoMemory, OutOfMemory, SendError, TryRecvError, TrySendError};
 use futures::task::Source;
-use ruled_mutex::{Held, Join, Outcome, RuledMutex, Split, Unruled};
+use ruled_mutex::{Join, RuledMutex, Split, Unruled};
 use std::alloc::Global;
 use std::sync::Wait;
-
-/// What one thread knows of a channel: its view. It has no bytes.
-///
-/// ```
-/// let (channel, first): (_, Pass<u64, ()>) = bounded_with::<_, _, Unruled>(rt.alloc(), 1)?;
-/// drop(first);
-/// drop(channel);
-/// ```
-pub type Pass<T, V> = ruled_mutex::Pass<Core<T, Mark>, V>;
 
 /// A channel under the rule `P`, over messages `T` and over the view `V` of each pass. Threads share
 /// it by reference, each with a pass of its own.
@@ -69,14 +59,16 @@ impl<T: Drop> RuledChannel<T, (), Unruled> {
     pub fn pass(&self) -> Pass<T, ()>
         ensures { IsPassOf self.now result }
     {
-        self.mutex.pass()
+        Pass::new(self.mutex.pass())
     }
 }
 
 impl<T: Drop, V, P: Protocol<T, V>> RuledChannel<T, V, P> {
     ghost use Rattle.std.specs.Prelude.{◌≢◌};
-    ghost use Rattle.channel_core.specs.Channel.{new_channel};
-    ghost use Rattle.ruled_channel.specs.Passes.{IsPassOf, Refuses, FindsNone, LearnedOf};
+    ghost use Rattle.channel_core.specs.Channel.{closing, force_sent, is_channel_full, new_channel, oldest, received, sent, unchanged};
+    ghost use Rattle.channel_model.specs.Tables.{force_send_answer, try_recv_answer, try_send_answer};
+    ghost use Rattle.ruled_channel.specs.Passes.{IsPassOf, IsSamePass, Refuses, FindsNone, LearnedOf, number, view};
+    ghost use Rattle.ruled_channel.specs.Steps.{HasMade, found};
     ghost use Rattle.ruled_channel.specs.Guarded.{within};
 
     pub(crate) fn over(
@@ -99,7 +91,7 @@ impl<T: Drop, V, P: Protocol<T, V>> RuledChannel<T, V, P> {
             alloc,
             source: Source::new(),
         };
-        Ok((channel, pass))
+        Ok((channel, Pass::new(pass)))
     }
 
     /// How many messages it can hold, and none if there is no bound.
@@ -166,7 +158,7 @@ impl<T: Drop, V, P: Protocol<T, V>> RuledChannel<T, V, P> {
         ensures left { view pass.new ≡ M.left (view pass.old) }
         ensures right { IsPassOf self.now result × (view result ≡ M.right (view pass.old)) }
     {
-        self.mutex.another::<M>(pass)
+        Pass::new(self.mutex.another::<M>(&mut pass.lock))
     }
 
     /// Takes in the view of another pass, which is used up.
@@ -183,7 +175,7 @@ impl<T: Drop, V, P: Protocol<T, V>> RuledChannel<T, V, P> {
         ensures own { IsPassOf self.now pass.new × IsSamePass pass.old pass.new }
         ensures both { view pass.new ≡ M.both (view pass.old) (view other) }
     {
-        self.mutex.absorb::<M>(pass, other);
+        self.mutex.absorb::<M>(&mut pass.lock, other.into_lock());
     }
 
     /// Puts a message last. A full or closed channel hands it back. The outer error, with the
@@ -212,10 +204,14 @@ impl<T: Drop, V, P: Protocol<T, V>> RuledChannel<T, V, P> {
             × Refuses P.fits (L.fact (view pass.old)) error)) }
         ensures memory { IfErr result
             (λ error. (error.0 ≡ message) × (view pass.new ≡ view pass.old) × P.fits None) }
+        ensures reply { IfOk result (λ answer. answer ≡ try_send_answer (found pass.new).closed
+            (is_channel_full (found pass.new)) message) }
+        ensures step { OnOk result (HasMade (sent message) pass.new) }
+        ensures unchanged { OnErr result (HasMade unchanged pass.new) }
     {
-        let held = self.mutex.lock(rt, pass);
+        let held = self.mutex.lock(rt, &mut pass.lock);
         let mut bell = Ringer::new(rt);
-        let core = pass.value_mut(&self.mutex, &held);
+        let core = pass.lock.value_mut(&self.mutex, &held);
         match core.try_send(message, &mut bell) {
             Ok(Ok(())) => {
                 self.give_back::<Pushed<M>, R>(pass, held, bell);
@@ -261,10 +257,15 @@ impl<T: Drop, V, P: Protocol<T, V>> RuledChannel<T, V, P> {
             × LearnedOf (λ messages. L.fact (view pass.old) messages true))) }
         ensures memory { IfErr result
             (λ error. (error.0 ≡ message) × (view pass.new ≡ view pass.old) × P.fits None) }
+        ensures reply { IfOk result (λ answer. answer
+            ≡ force_send_answer (found pass.new).closed (is_channel_full (found pass.new))
+            (oldest (found pass.new)) message) }
+        ensures step { OnOk result (HasMade (force_sent message) pass.new) }
+        ensures unchanged { OnErr result (HasMade unchanged pass.new) }
     {
-        let held = self.mutex.lock(rt, pass);
+        let held = self.mutex.lock(rt, &mut pass.lock);
         let mut bell = Ringer::new(rt);
-        let core = pass.value_mut(&self.mutex, &held);
+        let core = pass.lock.value_mut(&self.mutex, &held);
         match core.force_send(message, &mut bell) {
             Ok(Ok(None)) => {
                 self.give_back::<Pushed<Undisplaced<M>>, R>(pass, held, bell);
@@ -307,10 +308,13 @@ impl<T: Drop, V, P: Protocol<T, V>> RuledChannel<T, V, P> {
             (λ message. M.then (view pass.old) message (view pass.new)) }
         ensures refused { IfErr result (λ error. FindsNone E.then (L.fact (view pass.old))
             (view pass.old) (view pass.new) error) }
+        ensures reply { result
+            ≡ try_recv_answer (oldest (found pass.new)) (found pass.new).closed }
+        ensures step { HasMade received pass.new }
     {
-        let held = self.mutex.lock(rt, pass);
+        let held = self.mutex.lock(rt, &mut pass.lock);
         let mut bell = Ringer::new(rt);
-        let core = pass.value_mut(&self.mutex, &held);
+        let core = pass.lock.value_mut(&self.mutex, &held);
         match core.try_recv(&mut bell) {
             Ok(message) => {
                 self.give_back::<Popped<M>, R>(pass, held, bell);
@@ -340,30 +344,14 @@ impl<T: Drop, V, P: Protocol<T, V>> RuledChannel<T, V, P> {
         requires rule { Closes P.holds (number pass.old) (view pass.old) M.then }
         ensures own { IsPassOf self.now pass.new × IsSamePass pass.old pass.new }
         ensures closed { M.then (view pass.old) result (view pass.new) }
+        ensures reply { result ≡ not (found pass.new).closed }
+        ensures step { HasMade closing pass.new }
     {
-        let held = self.mutex.lock(rt, pass);
+        let held = self.mutex.lock(rt, &mut pass.lock);
         let mut bell = Ringer::new(rt);
-        let was_open = pass.value_mut(&self.mutex, &held).close(&mut bell);
+        let core = pass.lock.value_mut(&self.mutex, &held);
+        let was_open = core.close(&mut bell);
         self.give_back::<Shut<M>, R>(pass, held, bell);
         was_open
-    }
-
-    // Gives the lock back by a step of the rule, and wakes whom the step told: each mark that the
-    // bell was rung with.
-    pub(crate) fn give_back<O: Outcome<Core<T, Mark>, V>, R: Wait>(
-        &self,
-        pass: &mut Pass<T, V>,
-        held: Held<Core<T, Mark>>,
-        bell: Ringer<'_, R>,
-    ) -> Woken
-        requires own { Holds self.now.mutex held pass.old }
-        requires rule { TurnsAt (within P.fits P.holds) (number pass.old) (view pass.old)
-            (found held) (made held pass.old) O.then }
-        ensures own { IsPassOf self.now pass.new × IsSamePass pass.old pass.new }
-        ensures rule { O.then (view pass.old) (found held) (made held pass.old) (view pass.new) }
-        ensures woken { result ≡ drop 1 bell.entry ++ take 1 bell.entry }
-    {
-        self.mutex.unlock_as::<O>(pass, held);
-        bell.wake_after(&self.mutex)
     }
 }

@@ -1,14 +1,16 @@
 //! The wait for the last receiver, as a future.
-ghost use Rattle.std.specs.Prelude.{◌≡◌, IsSome, Some, None};
+ghost use Rattle.std.specs.Prelude.{◌≡◌, IfSome, IsSome, Some, None};
 ghost use Rattle.std.specs.Option.{ForSome};
 ghost use Rattle.futures.specs.Task.{Covers, Keeps};
 ghost use Rattle.futures.specs.Poll.{IfReady, OnPending};
 ghost use Rattle.ruled_channel.specs.Passes.{IsPassOf};
 ghost use Rattle.ruled_channel.specs.Receiving.{IsBack};
+ghost use Rattle.ruled_channel.specs.Steps.{HasMade, closed_left};
 ghost use Rattle.ruled_channel.specs.Closing.{MayWait, GivesBack};
 
-use crate::channel::{Pass, RuledChannel};
+use crate::channel::RuledChannel;
 use crate::mark::Marker;
+use crate::pass::Pass;
 use crate::protocol::Protocol;
 use channel_core::{OutOfMemory, Ticket};
 use futures::future::Future;
@@ -33,6 +35,8 @@ pub struct UntilClosed<'r, 'c, T: Drop, V, P: Protocol<T, V>, R: Wait> {
     ticket: Option<Ticket>,
     marker: Marker,
     ghost owns: { ForSome pass (λ p. IsPassOf channel.now p) },
+    // Only who has its pass may wait.
+    ghost rests: { pass ≡ None → ticket ≡ None },
 }
 
 impl<T: Drop, V, P: Protocol<T, V>> RuledChannel<T, V, P> {
@@ -75,6 +79,7 @@ impl<T: Drop, V, P: Protocol<T, V>, R: Wait> Future for UntilClosed<'_, '_, T, V
 
     ghost gives = { λ f. GivesBack f.channel.now f.pass };
 
+    #[tactic(auto, using(crate::proofs::Made::no_receiver))]
     fn poll(&mut self, cx: &mut Context<'_>) -> Poll<Self::Output>
         requires { MayWait self.old.channel.now self.old.pass }
         ensures value { IfReady result (GivesBack self.old.channel.now self.old.pass) }
@@ -115,14 +120,19 @@ impl<T: Drop, V, P: Protocol<T, V>, R: Wait> UntilClosed<'_, '_, T, V, P, R> {
     /// assert!(rt; closed.into_pass().is_some());
     /// ```
     pub fn into_pass(mut self) -> Option<Pass<T, V>>
-        ensures { IsBack self.entry.channel.now self.entry.pass result }
+        ensures back { IsBack self.entry.channel.now self.entry.pass result }
+        ensures step { IfSome self.entry.ticket (λ ticket. IfSome result
+            (λ back. HasMade (closed_left (Some ticket)) back)) }
     {
         self.leave()
     }
 
     // Takes its entry out of the list, and gives its pass.
     fn leave(&mut self) -> Option<Pass<T, V>>
-        ensures { IsBack self.old.channel.now self.old.pass result }
+        ensures back { IsBack self.old.channel.now self.old.pass result }
+        ensures step { IfSome self.old.ticket (λ ticket. IfSome result
+            (λ back. HasMade (closed_left (Some ticket)) back)) }
+        ensures ticket { self.new.ticket ≡ None }
     {
         let Some(mut pass) = self.pass.take() else {
             return None;
@@ -142,8 +152,9 @@ impl<T: Drop, V, P: Protocol<T, V>, R: Wait> Drop for UntilClosed<'_, '_, T, V, 
             rt: _,
             channel: _,
             pass: _,
-            ticket: _,
+            ticket,
             marker: _,
         } = self;
+        Ticket::destroy_none(ticket);
     }
 }

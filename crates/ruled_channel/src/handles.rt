@@ -3,14 +3,17 @@
 //! A new channel counts one sender and one receiver, and the last of either that is given up closes
 //! it. They are counted by calls: a pass that is dropped closes nothing, since a drop can't ask for
 //! a proof that the rule allows the closing.
-ghost use Rattle.std.specs.Prelude.{◌≡◌, true, None};
+ghost use Rattle.std.specs.Prelude.{◌≡◌, ◌==◌, ◌&&◌, not, true, None};
 ghost use Rattle.std.specs.Bool.{OnTrue, OnFalse};
-ghost use Rattle.ruled_mutex.specs.Passes.{IsSamePass, view, number};
+ghost use Rattle.channel_core.specs.Channel.{receiver_dropped_by, sender_dropped, unchanged};
+ghost use Rattle.channel_core.specs.Counts.{count_added, count_upgraded, may_add, upgrade_answer};
 ghost use Rattle.ruled_channel.specs.Rule.{Closes};
-ghost use Rattle.ruled_channel.specs.Passes.{IsPassOf};
+ghost use Rattle.ruled_channel.specs.Passes.{IsPassOf, IsSamePass, number, view};
+ghost use Rattle.ruled_channel.specs.Steps.{HasMade, found};
 
-use crate::channel::{Pass, RuledChannel};
+use crate::channel::RuledChannel;
 use crate::outcomes::{Closed, Kept, Shut};
+use crate::pass::Pass;
 use crate::protocol::Protocol;
 use crate::ringer::Ringer;
 use channel_core::{Ticket, Upgrade};
@@ -31,10 +34,15 @@ impl<T: Drop, V, P: Protocol<T, V>> RuledChannel<T, V, P> {
         requires { IsPassOf self.now pass.old }
         ensures own { IsPassOf self.now pass.new × IsSamePass pass.old pass.new }
         ensures same { view pass.new ≡ view pass.old }
+        ensures reply { result ≡ may_add (found pass.new).senders }
+        ensures step { HasMade (λ channel. unchanged (record channel {
+          senders = count_added result channel.senders;
+        })) pass.new }
     {
-        let held = self.mutex.lock(rt, pass);
-        let is_counted = pass.value_mut(&self.mutex, &held).add_sender();
-        self.mutex.unlock_as::<Kept<P, Unruled>>(pass, held);
+        let held = self.mutex.lock(rt, &mut pass.lock);
+        let core = pass.lock.value_mut(&self.mutex, &held);
+        let is_counted = core.add_sender();
+        self.give_back::<Kept<P, Unruled>, R>(pass, held, Ringer::new(rt));
         is_counted
     }
 
@@ -51,10 +59,15 @@ impl<T: Drop, V, P: Protocol<T, V>> RuledChannel<T, V, P> {
         requires { IsPassOf self.now pass.old }
         ensures own { IsPassOf self.now pass.new × IsSamePass pass.old pass.new }
         ensures same { view pass.new ≡ view pass.old }
+        ensures reply { result ≡ may_add (found pass.new).receivers }
+        ensures step { HasMade (λ channel. unchanged (record channel {
+          receivers = count_added result channel.receivers;
+        })) pass.new }
     {
-        let held = self.mutex.lock(rt, pass);
-        let is_counted = pass.value_mut(&self.mutex, &held).add_receiver();
-        self.mutex.unlock_as::<Kept<P, Unruled>>(pass, held);
+        let held = self.mutex.lock(rt, &mut pass.lock);
+        let core = pass.lock.value_mut(&self.mutex, &held);
+        let is_counted = core.add_receiver();
+        self.give_back::<Kept<P, Unruled>, R>(pass, held, Ringer::new(rt));
         is_counted
     }
 
@@ -69,10 +82,16 @@ impl<T: Drop, V, P: Protocol<T, V>> RuledChannel<T, V, P> {
         requires { IsPassOf self.now pass.old }
         ensures own { IsPassOf self.now pass.new × IsSamePass pass.old pass.new }
         ensures same { view pass.new ≡ view pass.old }
+        ensures reply { result
+            ≡ upgrade_answer (found pass.new).closed (found pass.new).senders }
+        ensures step { HasMade (λ channel. unchanged (record channel {
+          senders = count_upgraded result channel.senders;
+        })) pass.new }
     {
-        let held = self.mutex.lock(rt, pass);
-        let upgrade = pass.value_mut(&self.mutex, &held).upgrade_sender();
-        self.mutex.unlock_as::<Kept<P, Unruled>>(pass, held);
+        let held = self.mutex.lock(rt, &mut pass.lock);
+        let core = pass.lock.value_mut(&self.mutex, &held);
+        let upgrade = core.upgrade_sender();
+        self.give_back::<Kept<P, Unruled>, R>(pass, held, Ringer::new(rt));
         upgrade
     }
 
@@ -89,10 +108,16 @@ impl<T: Drop, V, P: Protocol<T, V>> RuledChannel<T, V, P> {
         requires { IsPassOf self.now pass.old }
         ensures own { IsPassOf self.now pass.new × IsSamePass pass.old pass.new }
         ensures same { view pass.new ≡ view pass.old }
+        ensures reply { result
+            ≡ upgrade_answer (found pass.new).closed (found pass.new).receivers }
+        ensures step { HasMade (λ channel. unchanged (record channel {
+          receivers = count_upgraded result channel.receivers;
+        })) pass.new }
     {
-        let held = self.mutex.lock(rt, pass);
-        let upgrade = pass.value_mut(&self.mutex, &held).upgrade_receiver();
-        self.mutex.unlock_as::<Kept<P, Unruled>>(pass, held);
+        let held = self.mutex.lock(rt, &mut pass.lock);
+        let core = pass.lock.value_mut(&self.mutex, &held);
+        let upgrade = core.upgrade_receiver();
+        self.give_back::<Kept<P, Unruled>, R>(pass, held, Ringer::new(rt));
         upgrade
     }
 
@@ -110,10 +135,13 @@ impl<T: Drop, V, P: Protocol<T, V>> RuledChannel<T, V, P> {
         ensures own { IsPassOf self.now pass.new × IsSamePass pass.old pass.new }
         ensures closed { OnTrue result (M.then (view pass.old) true (view pass.new)) }
         ensures same { OnFalse result (view pass.new ≡ view pass.old) }
+        ensures reply { result ≡ (((found pass.new).senders == 1) && not (found pass.new).closed) }
+        ensures step { HasMade sender_dropped pass.new }
     {
-        let held = self.mutex.lock(rt, pass);
+        let held = self.mutex.lock(rt, &mut pass.lock);
         let mut bell = Ringer::new(rt);
-        let has_closed = pass.value_mut(&self.mutex, &held).drop_sender(&mut bell);
+        let core = pass.lock.value_mut(&self.mutex, &held);
+        let has_closed = core.drop_sender(&mut bell);
         if has_closed {
             self.give_back::<Shut<M>, R>(pass, held, bell);
         } else {
@@ -136,15 +164,22 @@ impl<T: Drop, V, P: Protocol<T, V>> RuledChannel<T, V, P> {
         ensures own { IsPassOf self.now pass.new × IsSamePass pass.old pass.new }
         ensures closed { OnTrue result (M.then (view pass.old) true (view pass.new)) }
         ensures same { OnFalse result (view pass.new ≡ view pass.old) }
+        ensures reply { result ≡ (((found pass.new).receivers == 1) && not (found pass.new).closed) }
+        ensures step { HasMade (receiver_dropped_by None) pass.new }
     {
-        self.drop_receiver_with_as::<M, R>(rt, pass, &mut None)
+        let mut stream = None;
+        let has_closed = self.drop_receiver_with_as::<M, R>(rt, pass, &mut stream);
+        Ticket::destroy_none(stream);
+        has_closed
     }
 
     /// `drop_receiver_as` of a receiver whose stream may wait: its entry leaves the list first.
     ///
     /// ```
     /// let (channel, mut pass) = bounded_with::<u64, (), Unruled>(rt.alloc(), 1)?;
-    /// assert!(rt; channel.drop_receiver_with_as::<Unruled, _>(&rt, &mut pass, &mut None));
+    /// let mut stream = None;
+    /// assert!(rt; channel.drop_receiver_with_as::<Unruled, _>(&rt, &mut pass, &mut stream));
+    /// Ticket::destroy_none(stream);
     /// ```
     pub fn drop_receiver_with_as<M: Closed<V>, R: Wait>(
         &self,
@@ -158,10 +193,12 @@ impl<T: Drop, V, P: Protocol<T, V>> RuledChannel<T, V, P> {
         ensures closed { OnTrue result (M.then (view pass.old) true (view pass.new)) }
         ensures same { OnFalse result (view pass.new ≡ view pass.old) }
         ensures ticket { stream.new ≡ None }
+        ensures reply { result ≡ (((found pass.new).receivers == 1) && not (found pass.new).closed) }
+        ensures step { HasMade (receiver_dropped_by stream.old) pass.new }
     {
-        let held = self.mutex.lock(rt, pass);
+        let held = self.mutex.lock(rt, &mut pass.lock);
         let mut bell = Ringer::new(rt);
-        let core = pass.value_mut(&self.mutex, &held);
+        let core = pass.lock.value_mut(&self.mutex, &held);
         let has_closed = core.drop_receiver(stream, &mut bell);
         if has_closed {
             self.give_back::<Shut<M>, R>(pass, held, bell);

@@ -4,7 +4,8 @@
 //! views of all passes. A [`Pass`] is what one thread has of the channel: a view, and no bytes. A
 //! call whose name ends in `_as` asks for a proof that the rule allows its step, whatever the others
 //! did before, and tells what its answer says of the view: a [`Sent`], a [`Received`] and so on.
-//! So what came through the channel is known once two views are joined.
+//! So what came through the channel is known once two views are joined. After a call the pass also
+//! tells its step: of which channel it was, what it made of that, and whom it woke.
 //!
 //! Threads share the channel by reference, each with a pass of its own, made by
 //! [`RuledChannel::another`]. It is closed by a call, also by the one that gives up the last sender
@@ -31,13 +32,14 @@ mod look;
 mod make;
 mod mark;
 mod outcomes;
+mod pass;
 mod protocol;
 mod receiving;
 mod ringer;
 mod sending;
 mod waiting;
 
-pub use channel::{Pass, RuledChannel};
+pub use channel::RuledChannel;
 pub use channel_core::{
     Group, NoMemory, OutOfMemory, RecvError, SendError, Ticket, TryRecvError, TrySendError, Upgrade,
 };
@@ -46,6 +48,7 @@ pub use look::{Status, Waiters};
 pub use make::{bounded_with, unbounded_with};
 pub use mark::{Mark, Marker, Sleeper, Slot, Waiter};
 pub use outcomes::{AtEnd, Closed, Forced, Lesson, Received, Sent};
+pub use pass::Pass;
 pub use protocol::Protocol;
 pub use receiving::Recv;
 pub use ruled_mutex::{Join, Split, Unruled};

@@ -1,12 +1,16 @@
 //! Looks at the channel. Others may have changed it before the answer is read.
 ghost use Rattle.std.specs.Prelude.{◌≡◌, ◌≤◌, length};
-ghost use Rattle.ruled_mutex.specs.Passes.{IsSamePass, view, number};
+ghost use Rattle.event_list.specs.Waiting.{keys, told_count};
+ghost use Rattle.channel_core.specs.Channel.{list_of, unchanged};
 ghost use Rattle.ruled_channel.specs.Rule.{Learns};
-ghost use Rattle.ruled_channel.specs.Passes.{IsPassOf, LearnedOf};
+ghost use Rattle.ruled_channel.specs.Passes.{IsPassOf, IsSamePass, number, view};
+ghost use Rattle.ruled_channel.specs.Steps.{HasMade, found, status_of};
 
-use crate::channel::{Pass, RuledChannel};
+use crate::channel::RuledChannel;
 use crate::outcomes::{Kept, Lesson};
+use crate::pass::Pass;
 use crate::protocol::Protocol;
+use crate::ringer::Ringer;
 use channel_core::Group;
 use ruled_mutex::Unruled;
 use std::sync::Wait;
@@ -63,11 +67,12 @@ impl<T: Drop, V, P: Protocol<T, V>> RuledChannel<T, V, P> {
         requires rule { Learns P.holds (number pass.old) (view pass.old) (L.fact (view pass.old)) }
         ensures own { IsPassOf self.now pass.new × IsSamePass pass.old pass.new }
         ensures same { view pass.new ≡ view pass.old }
-        ensures learned { LearnedOf (λ messages. (result.len ≡ length messages)
-            × L.fact (view pass.old) messages result.is_closed) }
+        ensures learned { L.fact (view pass.old) (found pass.new).messages (found pass.new).closed }
+        ensures reply { result ≡ status_of (found pass.new) }
+        ensures step { HasMade unchanged pass.new }
     {
-        let held = self.mutex.lock(rt, pass);
-        let core = pass.value_mut(&self.mutex, &held);
+        let held = self.mutex.lock(rt, &mut pass.lock);
+        let core = pass.lock.value_mut(&self.mutex, &held);
         let status = Status {
             is_closed: core.is_closed(),
             is_full: core.is_full(),
@@ -75,7 +80,7 @@ impl<T: Drop, V, P: Protocol<T, V>> RuledChannel<T, V, P> {
             sender_count: core.sender_count(),
             receiver_count: core.receiver_count(),
         };
-        self.mutex.unlock_as::<Kept<P, L>>(pass, held);
+        self.give_back::<Kept<P, L>, R>(pass, held, Ringer::new(rt));
         status
     }
 
@@ -90,14 +95,17 @@ impl<T: Drop, V, P: Protocol<T, V>> RuledChannel<T, V, P> {
         ensures own { IsPassOf self.now pass.new × IsSamePass pass.old pass.new }
         ensures same { view pass.new ≡ view pass.old }
         ensures told { result.told ≤ result.waiting }
+        ensures reply { (result.waiting ≡ length (keys (list_of group (found pass.new))))
+            × (result.told ≡ told_count (list_of group (found pass.new))) }
+        ensures step { HasMade unchanged pass.new }
     {
-        let held = self.mutex.lock(rt, pass);
-        let core = pass.value_mut(&self.mutex, &held);
+        let held = self.mutex.lock(rt, &mut pass.lock);
+        let core = pass.lock.value_mut(&self.mutex, &held);
         let waiters = Waiters {
             waiting: core.waiting(group),
             told: core.told(group),
         };
-        self.mutex.unlock_as::<Kept<P, Unruled>>(pass, held);
+        self.give_back::<Kept<P, Unruled>, R>(pass, held, Ringer::new(rt));
         waiters
     }
 }

@@ -1,9 +1,9 @@
 //! How a channel is made.
 ghost use Rattle.std.specs.Prelude.{◌≡◌, ◌<◌, [], ◌∷◌, false, Some, None, IfOk};
-ghost use Rattle.ruled_mutex.specs.Passes.{view};
-ghost use Rattle.ruled_channel.specs.Passes.{IsPassOf};
+ghost use Rattle.ruled_channel.specs.Passes.{IsPassOf, view};
 
-use crate::channel::{Pass, RuledChannel};
+use crate::channel::RuledChannel;
+use crate::pass::Pass;
 use crate::protocol::Protocol;
 use channel_core::{Core, OutOfMemory};
 use std::alloc::Global;

@@ -1,16 +1,17 @@
 //! A receive as a future.
-ghost use Rattle.std.specs.Prelude.{◌≡◌, [], false, IfSome, IsSome, Some, None};
+ghost use Rattle.std.specs.Prelude.{◌≡◌, [], false, IfSome, IsSome, OnErr, Some, None};
 ghost use Rattle.std.specs.Option.{ForSome};
 ghost use Rattle.futures.specs.Task.{Covers, Keeps};
 ghost use Rattle.futures.specs.Poll.{IfReady, OnPending};
-ghost use Rattle.ruled_mutex.specs.Passes.{view, number};
 ghost use Rattle.ruled_channel.specs.Rule.{Receives, Ends, Fitted};
-ghost use Rattle.ruled_channel.specs.Passes.{IsPassOf};
+ghost use Rattle.ruled_channel.specs.Passes.{IsPassOf, number, view};
+ghost use Rattle.ruled_channel.specs.Steps.{HasMade, HasMadeWith, receive_given_up};
 ghost use Rattle.ruled_channel.specs.Receiving.{MayPoll, Gives, IsBack};
 
-use crate::channel::{Pass, RuledChannel};
+use crate::channel::RuledChannel;
 use crate::mark::Marker;
 use crate::outcomes::{AtEnd, Received};
+use crate::pass::Pass;
 use crate::protocol::Protocol;
 use channel_core::{OutOfMemory, RecvError, Ticket};
 use futures::future::Future;
@@ -38,6 +39,8 @@ pub struct Recv<'r, 'c, T: Drop, V, P: Protocol<T, V>, M, E, R: Wait> {
     marker: Marker,
     told: PhantomData<(M, E)>,
     ghost owns: { ForSome pass (λ p. IsPassOf channel.now p) },
+    // Only who has its pass may wait.
+    ghost rests: { pass ≡ None → ticket ≡ None },
 }
 
 impl<T: Drop, V, P: Protocol<T, V>> RuledChannel<T, V, P> {
@@ -86,12 +89,14 @@ impl<T: Drop, V, P: Protocol<T, V>, M: Received<T, V>, E: AtEnd<V>, R: Wait> Fut
 
     ghost gives = { λ f. Gives P.holds M.then E.then f.channel.now f.pass };
 
+    #[tactic(auto, using(crate::proofs::Made::has_received_polled))]
     fn poll(&mut self, cx: &mut Context<'_>) -> Poll<Self::Output>
         requires { MayPoll P.holds M.then E.then self.old.channel.now self.old.pass }
         ensures empty { OnPending result (IfSome self.old.pass
             (λ p. Fitted P.holds (view p) [] false)) }
         ensures value { IfReady result
             (Gives P.holds M.then E.then self.old.channel.now self.old.pass) }
+        ensures given_up { IfReady result (λ out. OnErr out.1 (HasMadeWith receive_given_up out.0)) }
         ensures again { OnPending result
             (MayPoll P.holds M.then E.then self.new.channel.now self.new.pass) }
         ensures same { OnPending result ((x : _)
@@ -134,14 +139,19 @@ impl<T: Drop, V, P: Protocol<T, V>, M, E, R: Wait> Recv<'_, '_, T, V, P, M, E, R
     /// assert!(rt; receive.into_pass().is_some());
     /// ```
     pub fn into_pass(mut self) -> Option<Pass<T, V>>
-        ensures { IsBack self.entry.channel.now self.entry.pass result }
+        ensures back { IsBack self.entry.channel.now self.entry.pass result }
+        ensures step { IfSome self.entry.ticket (λ ticket. IfSome result
+            (λ back. HasMade (receive_given_up (Some ticket)) back)) }
     {
         self.leave()
     }
 
     // Takes its entry out of the list, and gives its pass.
     fn leave(&mut self) -> Option<Pass<T, V>>
-        ensures { IsBack self.old.channel.now self.old.pass result }
+        ensures back { IsBack self.old.channel.now self.old.pass result }
+        ensures step { IfSome self.old.ticket (λ ticket. IfSome result
+            (λ back. HasMade (receive_given_up (Some ticket)) back)) }
+        ensures ticket { self.new.ticket ≡ None }
     {
         let Some(mut pass) = self.pass.take() else {
             return None;
@@ -161,9 +171,10 @@ impl<T: Drop, V, P: Protocol<T, V>, M, E, R: Wait> Drop for Recv<'_, '_, T, V, P
             rt: _,
             channel: _,
             pass: _,
-            ticket: _,
+            ticket,
             marker: _,
             told: _,
         } = self;
+        Ticket::destroy_none(ticket);
     }
 }

@@ -3,7 +3,8 @@
 //! A step under the lock rings it with the marks of those whom it tells. It keeps the first mark,
 //! without an allocation, until the lock is free, so that who is woken doesn't run into it; further
 //! marks are woken under the lock.
-ghost use Rattle.std.specs.Prelude.{◌≡◌, ◌++◌, [], drop, take};
+ghost use Rattle.std.specs.Prelude.{◌≡◌, []};
+ghost use Rattle.ruled_channel.specs.Rung.{in_turn_of_waking};
 
 use crate::mark::{Mark, Woken};
 use channel_core::Bell;
@@ -57,7 +58,7 @@ impl<'a, R: Wait> Ringer<'a, R> {
     /// first one last.
     #[inline(always)]
     pub(crate) fn wake_after<L>(self, _lock: &L) -> Woken
-        ensures { result ≡ drop 1 self.entry ++ take 1 self.entry }
+        ensures { result ≡ in_turn_of_waking self.entry }
     {
         let Self {
             rt,

@@ -1,16 +1,17 @@
 //! A send as a future.
-ghost use Rattle.std.specs.Prelude.{◌≡◌, false, IfSome, IsSome, Some, None};
+ghost use Rattle.std.specs.Prelude.{◌≡◌, false, IfSome, IsSome, OnErr, Some, None};
 ghost use Rattle.std.specs.Option.{ForSome};
 ghost use Rattle.futures.specs.Task.{Covers, Keeps};
 ghost use Rattle.futures.specs.Poll.{IfReady, OnPending};
-ghost use Rattle.ruled_mutex.specs.Passes.{view, number};
 ghost use Rattle.ruled_channel.specs.Rule.{Sends, Learns};
-ghost use Rattle.ruled_channel.specs.Passes.{IsPassOf, IsFullAt};
+ghost use Rattle.ruled_channel.specs.Passes.{IsPassOf, IsFullAt, number, view};
+ghost use Rattle.ruled_channel.specs.Steps.{HasMade, HasMadeWith, send_given_up};
 ghost use Rattle.ruled_channel.specs.Sending.{MaySend, GivesSent, AreBack};
 
-use crate::channel::{Pass, RuledChannel};
+use crate::channel::RuledChannel;
 use crate::mark::Marker;
 use crate::outcomes::{Lesson, Sent};
+use crate::pass::Pass;
 use crate::protocol::Protocol;
 use channel_core::{NoMemory, SendError, Ticket, TrySendError};
 use futures::future::Future;
@@ -38,6 +39,8 @@ pub struct Send<'r, 'c, T: Drop, V, P: Protocol<T, V>, M, L, R: Wait> {
     marker: Marker,
     told: PhantomData<(M, L)>,
     ghost owns: { ForSome parts (λ h. IsPassOf channel.now h.0) },
+    // Only who has its pass may wait.
+    ghost rests: { parts ≡ None → ticket ≡ None },
 }
 
 impl<T: Drop, V, P: Protocol<T, V>> RuledChannel<T, V, P> {
@@ -88,12 +91,14 @@ impl<T: Drop, V, P: Protocol<T, V>, M: Sent<T, V>, L: Lesson<T, V>, R: Wait> Fut
 
     ghost gives = { λ f. GivesSent P.fits M.then L.fact f.channel.now f.parts };
 
+    #[tactic(auto, using(crate::proofs::Made::has_sent, crate::proofs::Made::is_turned_back))]
     fn poll(&mut self, cx: &mut Context<'_>) -> Poll<Self::Output>
         requires { MaySend P.fits P.holds M.then L.fact self.old.channel.now self.old.parts }
         ensures full { OnPending result (IfSome self.old.parts
             (λ h. IsFullAt P.fits (L.fact (view h.0)))) }
         ensures value { IfReady result
             (GivesSent P.fits M.then L.fact self.old.channel.now self.old.parts) }
+        ensures given_up { IfReady result (λ out. OnErr out.1 (HasMadeWith send_given_up out.0)) }
         ensures again { OnPending result
             (MaySend P.fits P.holds M.then L.fact self.new.channel.now self.new.parts) }
         ensures same { OnPending result ((x : _)
@@ -136,14 +141,19 @@ impl<T: Drop, V, P: Protocol<T, V>, M, L, R: Wait> Send<'_, '_, T, V, P, M, L, R
     /// assert!(rt; matches!(send.into_parts(), Some((_, 5))));
     /// ```
     pub fn into_parts(mut self) -> Option<(Pass<T, V>, T)>
-        ensures { AreBack self.entry.channel.now self.entry.parts result }
+        ensures back { AreBack self.entry.channel.now self.entry.parts result }
+        ensures step { IfSome self.entry.ticket (λ ticket. IfSome result
+            (λ back. HasMade (send_given_up (Some ticket)) back.0)) }
     {
         self.leave()
     }
 
     // Takes its entry out of the list, and gives its pass and its message.
     fn leave(&mut self) -> Option<(Pass<T, V>, T)>
-        ensures { AreBack self.old.channel.now self.old.parts result }
+        ensures back { AreBack self.old.channel.now self.old.parts result }
+        ensures step { IfSome self.old.ticket (λ ticket. IfSome result
+            (λ back. HasMade (send_given_up (Some ticket)) back.0)) }
+        ensures ticket { self.new.ticket ≡ None }
     {
         let Some((mut pass, message)) = self.parts.take() else {
             return None;
@@ -163,9 +173,10 @@ impl<T: Drop, V, P: Protocol<T, V>, M, L, R: Wait> Drop for Send<'_, '_, T, V, P
             rt: _,
             channel: _,
             parts: _,
-            ticket: _,
+            ticket,
             marker: _,
             told: _,
         } = self;
+        Ticket::destroy_none(ticket);
     }
 }

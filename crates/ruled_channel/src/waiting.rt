@@ -3,21 +3,22 @@
 //! A poll looks without a mark first. One that is ready needs none, nor memory for it; one that
 //! isn't has changed nothing. Then its mark is made, and left in the core's list under the same
 //! lock, so that whoever tells it finds it.
-ghost use Rattle.std.specs.Prelude.{◌≡◌, ◌==◌, ◌⊎◌, [], ◌++◌, false, None, IfOk, IfErr, IfSome, IfNone, IsSome, OnOk, OnErr};
+ghost use Rattle.std.specs.Prelude.{◌≡◌, ◌==◌, ◌⊎◌, [], ◌++◌, false, Some, None, IfOk, IfErr, IfSome, IfNone, IsSome, OnOk, OnErr};
 ghost use Rattle.futures.specs.Poll.{IfReady};
 ghost use Rattle.futures.specs.declared.task.Poll.TheVariants.{Pending};
 ghost use Rattle.channel_model.specs.Errors.{message_of};
-ghost use Rattle.channel_model.specs.Tables.{OnReady, OnWait, closed_poll, next_poll, recv_poll, send_poll};
-ghost use Rattle.channel_core.specs.Channel.{ClosedWaits, GrowsWithMessages, NextWaits, RecvWaits, SendWaits, is_channel_full, oldest, polled_receive, polled_send, polled_stream};
+ghost use Rattle.channel_model.specs.Tables.{OnReady, OnWait, closed_poll, next_poll, recv_poll, send_poll, try_send_answer};
+ghost use Rattle.channel_core.specs.Channel.{ClosedWaits, GrowsWithMessages, NextWaits, RecvWaits, SendWaits, is_channel_full, oldest, polled_receive, polled_send, polled_stream, unchanged};
 ghost use Rattle.channel_core.specs.Tickets.{left};
 ghost use Rattle.ruled_channel.specs.declared.mark.Mark.{Mark};
-ghost use Rattle.ruled_mutex.specs.Passes.{IsSamePass, view, number};
 ghost use Rattle.ruled_channel.specs.Rule.{Sends, Receives, Ends, Learns, Fitted};
-ghost use Rattle.ruled_channel.specs.Passes.{IsPassOf, Refuses, IfClosed, IfFull, WantsToSend};
+ghost use Rattle.ruled_channel.specs.Passes.{IsPassOf, IsSamePass, Refuses, IfFull, UnlessFull, WantsToSend, number, view};
+ghost use Rattle.ruled_channel.specs.Steps.{HasMade, closed_left, found, made, receive_given_up, send_given_up, woken};
 
-use crate::channel::{Pass, RuledChannel};
+use crate::channel::RuledChannel;
 use crate::mark::{Mark, Waiter};
 use crate::outcomes::{AtEnd, Ended, Kept, Lesson, Popped, Pushed, Received, Seen, Sent};
+use crate::pass::Pass;
 use crate::protocol::Protocol;
 use crate::ringer::Ringer;
 use channel_core::{Core, NoMemory, OutOfMemory, RecvError, SendError, Ticket, TrySendError};
@@ -45,7 +46,9 @@ impl<T: Drop, V, P: Protocol<T, V>> RuledChannel<T, V, P> {
         ensures waits { OnWait result ((w : Mark) × W.waits_by cx.new self.now.source.id w
             × RecvWaits ticket.old core.old w ticket.new core.new) }
         ensures keeps { W.keeps cx.old cx.new }
-        ensures unchanged { OnErr result ((core.new ≡ core.old) × (ticket.new ≡ ticket.old)) }
+        ensures silent { OnWait result (bell.new ≡ bell.old) }
+        ensures unchanged { OnErr result ((core.new ≡ core.old) × (bell.new ≡ bell.old)
+            × (ticket.new ≡ ticket.old)) }
         ensures wanted { OnErr result (recv_poll (oldest core.old) core.old.closed ≡ Pending) }
     {
         let polled = core.poll_recv_with(ticket, &mut None, bell, &mut None)?;
@@ -74,7 +77,9 @@ impl<T: Drop, V, P: Protocol<T, V>> RuledChannel<T, V, P> {
         ensures waits { OnWait result ((w : Mark) × W.waits_by cx.new self.now.source.id w
             × NextWaits ticket.old core.old w ticket.new core.new) }
         ensures keeps { W.keeps cx.old cx.new }
-        ensures unchanged { OnErr result ((core.new ≡ core.old) × (ticket.new ≡ ticket.old)) }
+        ensures silent { OnWait result (bell.new ≡ bell.old) }
+        ensures unchanged { OnErr result ((core.new ≡ core.old) × (bell.new ≡ bell.old)
+            × (ticket.new ≡ ticket.old)) }
         ensures wanted { OnErr result (next_poll (oldest core.old) core.old.closed ≡ Pending) }
     {
         let polled = core.poll_next_with(ticket, &mut None, bell, &mut None)?;
@@ -106,7 +111,8 @@ impl<T: Drop, V, P: Protocol<T, V>> RuledChannel<T, V, P> {
             × SendWaits message.old ticket.old core.old w ticket.new core.new) }
         ensures kept { OnWait result (message.new ≡ message.old) }
         ensures keeps { W.keeps cx.old cx.new }
-        ensures unchanged { OnErr result ((core.new ≡ core.old)
+        ensures silent { OnWait result (bell.new ≡ bell.old) }
+        ensures unchanged { OnErr result ((core.new ≡ core.old) × (bell.new ≡ bell.old)
             × (message.new ≡ message.old) × (ticket.new ≡ ticket.old)) }
         ensures wanted { OnErr result (GrowsWithMessages core.old
             ⊎ (send_poll message.old core.old.closed (is_channel_full core.old) ≡ Pending)) }
@@ -167,8 +173,9 @@ impl<T: Drop, V, P: Protocol<T, V>> RuledChannel<T, V, P> {
     ///     &mut ticket,
     ///     &mut sleeper,
     ///     &mut (),
-    /// )?;
-    /// assert_eq!(rt; sent, Ok(()));
+    /// );
+    /// assert_eq!(rt; sent, Ok(Ok(())));
+    /// Ticket::destroy_none(ticket);
     /// ```
     #[inline(always)]
     pub fn send_or_wait_as<M, L, R, C, W>(
@@ -192,24 +199,27 @@ impl<T: Drop, V, P: Protocol<T, V>> RuledChannel<T, V, P> {
         ensures own { IsPassOf self.now pass.new × IsSamePass pass.old pass.new }
         ensures sent { IfOk result (λ answer. IfOk answer
             (λ _. M.then (view pass.old) message (view pass.new))) }
-        ensures finished { IfOk result (λ answer. OnOk answer (ticket.new ≡ None)) }
         ensures refused { IfOk result (λ answer. IfErr answer
             (λ error. (message_of error ≡ message) × (view pass.new ≡ view pass.old)
             × Refuses P.fits (L.fact (view pass.old)) error)) }
-        ensures closed { IfOk result (λ answer. IfErr answer
-            (λ error. IfClosed error (ticket.new ≡ None))) }
+        ensures reply { IfOk result (λ answer. answer ≡ try_send_answer (found pass.new).closed
+            (is_channel_full (found pass.new)) message) }
+        ensures step { IfOk result (λ answer. UnlessFull answer ((ticket.new ≡ None)
+            × HasMade (polled_send (Some message) ticket.old) pass.new)) }
         ensures waits { IfOk result (λ answer. IfErr answer (λ error. IfFull error
-            ((w : Mark) × W.waits_by cx.new self.now.source.id w × IsSome ticket.new))) }
+            ((w : Mark) × W.waits_by cx.new self.now.source.id w × IsSome ticket.new
+            × SendWaits (Some message) ticket.old (found pass.new) w ticket.new (made pass.new)
+            × (woken pass.new ≡ [])))) }
         ensures keeps { W.keeps cx.old cx.new }
         ensures memory { IfErr result
             (λ error. (error.0 ≡ message) × (view pass.new ≡ view pass.old)
             × WantsToSend P.fits (L.fact (view pass.old))) }
-        ensures unpolled { OnErr result (ticket.new ≡ ticket.old) }
+        ensures unpolled { OnErr result ((ticket.new ≡ ticket.old) × HasMade unchanged pass.new) }
     {
-        let held = self.mutex.lock(rt, pass);
+        let held = self.mutex.lock(rt, &mut pass.lock);
         let mut bell = Ringer::new(rt);
         let mut waiting = Some(message);
-        let core = pass.value_mut(&self.mutex, &held);
+        let core = pass.lock.value_mut(&self.mutex, &held);
         match self.poll_send(core, &mut waiting, ticket, waiter, cx, &mut bell) {
             Ok(Poll::Ready(Ok(()))) => {
                 self.give_back::<Pushed<M>, R>(pass, held, bell);
@@ -246,9 +256,10 @@ impl<T: Drop, V, P: Protocol<T, V>> RuledChannel<T, V, P> {
     ///     &mut ticket,
     ///     &mut sleeper,
     ///     &mut (),
-    /// )?;
-    /// assert!(rt; polled.is_pending());
+    /// );
+    /// assert_eq!(rt; polled, Ok(Poll::Pending));
     /// channel.give_up_recv(&rt, &mut pass, &mut ticket);
+    /// Ticket::destroy_none(ticket);
     /// ```
     #[inline(always)]
     pub fn recv_or_wait_as<M, E, R, C, W>(
@@ -272,19 +283,23 @@ impl<T: Drop, V, P: Protocol<T, V>> RuledChannel<T, V, P> {
             (λ message. M.then (view pass.old) message (view pass.new)))) }
         ensures end { IfOk result (λ poll. IfReady poll (λ answer. IfErr answer
             (λ _. E.then (view pass.old) (view pass.new)))) }
-        ensures finished { OnReady result (ticket.new ≡ None) }
+        ensures reply { IfOk result (λ poll. poll
+            ≡ recv_poll (oldest (found pass.new)) (found pass.new).closed) }
+        ensures step { OnReady result ((ticket.new ≡ None)
+            × HasMade (polled_receive ticket.old) pass.new) }
         ensures empty { OnWait result ((view pass.new ≡ view pass.old)
             × Fitted P.holds (view pass.old) [] false) }
         ensures waits { OnWait result ((w : Mark) × W.waits_by cx.new self.now.source.id w
-            × IsSome ticket.new) }
+            × IsSome ticket.new × RecvWaits ticket.old (found pass.new) w ticket.new (made pass.new)
+            × (woken pass.new ≡ [])) }
         ensures keeps { W.keeps cx.old cx.new }
         ensures memory { OnErr result ((view pass.new ≡ view pass.old)
             × Fitted P.holds (view pass.old) [] false) }
-        ensures unpolled { OnErr result (ticket.new ≡ ticket.old) }
+        ensures unpolled { OnErr result ((ticket.new ≡ ticket.old) × HasMade unchanged pass.new) }
     {
-        let held = self.mutex.lock(rt, pass);
+        let held = self.mutex.lock(rt, &mut pass.lock);
         let mut bell = Ringer::new(rt);
-        let core = pass.value_mut(&self.mutex, &held);
+        let core = pass.lock.value_mut(&self.mutex, &held);
         match self.poll_recv(core, ticket, waiter, cx, &mut bell) {
             Ok(Poll::Ready(Ok(message))) => {
                 self.give_back::<Popped<M>, R>(pass, held, bell);
@@ -321,8 +336,9 @@ impl<T: Drop, V, P: Protocol<T, V>> RuledChannel<T, V, P> {
     ///     &mut ticket,
     ///     &mut sleeper,
     ///     &mut (),
-    /// )?;
-    /// assert_eq!(rt; polled, Poll::Ready(None));
+    /// );
+    /// assert_eq!(rt; polled, Ok(Poll::Ready(None)));
+    /// Ticket::destroy_none(ticket);
     /// ```
     pub fn next_or_wait_as<M, E, R, C, W>(
         &self,
@@ -345,19 +361,23 @@ impl<T: Drop, V, P: Protocol<T, V>> RuledChannel<T, V, P> {
             (λ message. M.then (view pass.old) message (view pass.new)))) }
         ensures end { IfOk result (λ poll. IfReady poll (λ next. IfNone next
             (E.then (view pass.old) (view pass.new)))) }
-        ensures finished { OnReady result (ticket.new ≡ None) }
+        ensures reply { IfOk result (λ poll. poll
+            ≡ next_poll (oldest (found pass.new)) (found pass.new).closed) }
+        ensures step { OnReady result ((ticket.new ≡ None)
+            × HasMade (polled_stream ticket.old) pass.new) }
         ensures empty { OnWait result ((view pass.new ≡ view pass.old)
             × Fitted P.holds (view pass.old) [] false) }
         ensures waits { OnWait result ((w : Mark) × W.waits_by cx.new self.now.source.id w
-            × IsSome ticket.new) }
+            × IsSome ticket.new × NextWaits ticket.old (found pass.new) w ticket.new (made pass.new)
+            × (woken pass.new ≡ [])) }
         ensures keeps { W.keeps cx.old cx.new }
         ensures memory { OnErr result ((view pass.new ≡ view pass.old)
             × Fitted P.holds (view pass.old) [] false) }
-        ensures unpolled { OnErr result (ticket.new ≡ ticket.old) }
+        ensures unpolled { OnErr result ((ticket.new ≡ ticket.old) × HasMade unchanged pass.new) }
     {
-        let held = self.mutex.lock(rt, pass);
+        let held = self.mutex.lock(rt, &mut pass.lock);
         let mut bell = Ringer::new(rt);
-        let core = pass.value_mut(&self.mutex, &held);
+        let core = pass.lock.value_mut(&self.mutex, &held);
         match self.poll_next(core, ticket, waiter, cx, &mut bell) {
             Ok(Poll::Ready(Some(message))) => {
                 self.give_back::<Popped<M>, R>(pass, held, bell);
@@ -389,9 +409,10 @@ impl<T: Drop, V, P: Protocol<T, V>> RuledChannel<T, V, P> {
     /// let (channel, mut pass) = bounded_with::<u64, (), Unruled>(rt.alloc(), 1)?;
     /// let (mut ticket, mut sleeper) = (None, Sleeper::new());
     /// let polled =
-    ///     channel.closed_or_wait(&rt, &mut pass, &mut ticket, &mut sleeper, &mut ())?;
-    /// assert!(rt; polled.is_pending());
+    ///     channel.closed_or_wait(&rt, &mut pass, &mut ticket, &mut sleeper, &mut ());
+    /// assert_eq!(rt; polled, Ok(Poll::Pending));
     /// channel.give_up_closed(&rt, &mut pass, &mut ticket);
+    /// Ticket::destroy_none(ticket);
     /// ```
     pub fn closed_or_wait<R, C, W>(
         &self,
@@ -407,16 +428,20 @@ impl<T: Drop, V, P: Protocol<T, V>> RuledChannel<T, V, P> {
         requires { IsPassOf self.now pass.old }
         ensures own { IsPassOf self.now pass.new × IsSamePass pass.old pass.new }
         ensures same { view pass.new ≡ view pass.old }
-        ensures finished { OnReady result (ticket.new ≡ None) }
+        ensures reply { IfOk result (λ poll. poll
+            ≡ closed_poll ((found pass.new).receivers == 0)) }
+        ensures step { OnReady result ((ticket.new ≡ None)
+            × HasMade (closed_left ticket.old) pass.new) }
         ensures waits { OnWait result ((w : Mark) × W.waits_by cx.new self.now.source.id w
-            × IsSome ticket.new) }
+            × IsSome ticket.new × ClosedWaits ticket.old (found pass.new) w ticket.new (made pass.new)
+            × (woken pass.new ≡ [])) }
         ensures keeps { W.keeps cx.old cx.new }
-        ensures unpolled { OnErr result (ticket.new ≡ ticket.old) }
+        ensures unpolled { OnErr result ((ticket.new ≡ ticket.old) × HasMade unchanged pass.new) }
     {
-        let held = self.mutex.lock(rt, pass);
-        let core = pass.value_mut(&self.mutex, &held);
+        let held = self.mutex.lock(rt, &mut pass.lock);
+        let core = pass.lock.value_mut(&self.mutex, &held);
         let polled = self.poll_closed(rt, core, ticket, waiter, cx);
-        self.mutex.unlock_as::<Kept<P, Unruled>>(pass, held);
+        self.give_back::<Kept<P, Unruled>, R>(pass, held, Ringer::new(rt));
         polled
     }
 
@@ -424,18 +449,21 @@ impl<T: Drop, V, P: Protocol<T, V>> RuledChannel<T, V, P> {
     ///
     /// ```
     /// let (channel, mut pass) = bounded_with::<u64, (), Unruled>(rt.alloc(), 1)?;
-    /// channel.give_up_send(&rt, &mut pass, &mut None);
+    /// let mut ticket = None;
+    /// channel.give_up_send(&rt, &mut pass, &mut ticket);
+    /// Ticket::destroy_none(ticket);
     /// ```
     pub fn give_up_send<R: Wait>(&self, rt: &R, pass: &mut Pass<T, V>, ticket: &mut Option<Ticket>)
         requires { IsPassOf self.now pass.old }
         ensures own { IsPassOf self.now pass.new × IsSamePass pass.old pass.new }
         ensures same { view pass.new ≡ view pass.old }
         ensures ticket { ticket.new ≡ None }
+        ensures step { HasMade (send_given_up ticket.old) pass.new }
     {
-        let held = self.mutex.lock(rt, pass);
+        let held = self.mutex.lock(rt, &mut pass.lock);
         let mut bell = Ringer::new(rt);
-        pass.value_mut(&self.mutex, &held)
-            .cancel_send(ticket, &mut bell);
+        let core = pass.lock.value_mut(&self.mutex, &held);
+        core.cancel_send(ticket, &mut bell);
         self.give_back::<Kept<P, Unruled>, R>(pass, held, bell);
     }
 
@@ -443,18 +471,21 @@ impl<T: Drop, V, P: Protocol<T, V>> RuledChannel<T, V, P> {
     ///
     /// ```
     /// let (channel, mut pass) = bounded_with::<u64, (), Unruled>(rt.alloc(), 1)?;
-    /// channel.give_up_recv(&rt, &mut pass, &mut None);
+    /// let mut ticket = None;
+    /// channel.give_up_recv(&rt, &mut pass, &mut ticket);
+    /// Ticket::destroy_none(ticket);
     /// ```
     pub fn give_up_recv<R: Wait>(&self, rt: &R, pass: &mut Pass<T, V>, ticket: &mut Option<Ticket>)
         requires { IsPassOf self.now pass.old }
         ensures own { IsPassOf self.now pass.new × IsSamePass pass.old pass.new }
         ensures same { view pass.new ≡ view pass.old }
         ensures ticket { ticket.new ≡ None }
+        ensures step { HasMade (receive_given_up ticket.old) pass.new }
     {
-        let held = self.mutex.lock(rt, pass);
+        let held = self.mutex.lock(rt, &mut pass.lock);
         let mut bell = Ringer::new(rt);
-        pass.value_mut(&self.mutex, &held)
-            .cancel_recv(ticket, &mut bell);
+        let core = pass.lock.value_mut(&self.mutex, &held);
+        core.cancel_recv(ticket, &mut bell);
         self.give_back::<Kept<P, Unruled>, R>(pass, held, bell);
     }
 
@@ -462,7 +493,9 @@ impl<T: Drop, V, P: Protocol<T, V>> RuledChannel<T, V, P> {
     ///
     /// ```
     /// let (channel, mut pass) = bounded_with::<u64, (), Unruled>(rt.alloc(), 1)?;
-    /// channel.give_up_closed(&rt, &mut pass, &mut None);
+    /// let mut ticket = None;
+    /// channel.give_up_closed(&rt, &mut pass, &mut ticket);
+    /// Ticket::destroy_none(ticket);
     /// ```
     pub fn give_up_closed<R: Wait>(
         &self,
@@ -474,9 +507,11 @@ impl<T: Drop, V, P: Protocol<T, V>> RuledChannel<T, V, P> {
         ensures own { IsPassOf self.now pass.new × IsSamePass pass.old pass.new }
         ensures same { view pass.new ≡ view pass.old }
         ensures ticket { ticket.new ≡ None }
+        ensures step { HasMade (closed_left ticket.old) pass.new }
     {
-        let held = self.mutex.lock(rt, pass);
-        pass.value_mut(&self.mutex, &held).cancel_closed(ticket);
-        self.mutex.unlock_as::<Kept<P, Unruled>>(pass, held);
+        let held = self.mutex.lock(rt, &mut pass.lock);
+        let core = pass.lock.value_mut(&self.mutex, &held);
+        core.cancel_closed(ticket);
+        self.give_back::<Kept<P, Unruled>, R>(pass, held, Ringer::new(rt));
     }
 }

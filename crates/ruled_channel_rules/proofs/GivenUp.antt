@@ -1,9 +1,7 @@
 -- What is left of a send that is given up.
 use Rattle.std.proofs.Common.{◌≡◌, Option, Some, None, Err, rules, inl}
-use Rattle.channel_core.specs.Channel.{Channel as Core}
-use Rattle.ruled_channel.specs.declared.mark.Mark.{Mark}
-use Rattle.ruled_mutex.specs.declared.pass.Pass.{Pass}
 use Rattle.ruled_channel.specs.declared.channel.RuledChannel.{RuledChannel}
+use Rattle.ruled_channel.specs.declared.pass.Pass.{Pass}
 use Rattle.ruled_channel.specs.Sending.{AreBack}
 use Rattle.ruled_channel_rules.specs.declared.log.Log.{Log}
 use Rattle.ruled_channel_rules.specs.declared.handles.Channel.{Channel}
@@ -11,15 +9,12 @@ use Rattle.ruled_channel_rules.specs.declared.handles.Sender.{Sender}
 use Rattle.ruled_channel_rules.specs.Handles.{IsSenderOf}
 use Rattle.ruled_channel_rules.specs.Sending.{MaySend, IsAsItWas}
 
-abbrev PassOf : Type 0 → Type 0
-PassOf T = Pass (Core T Mark) (Log T)
-
 module _ {T P : Type 0} where
   -- a send gives the same back as one that wants memory
-  pub send_back : (channel : Channel T) (s : Sender T) (m : T) (below : RuledChannel T (Log T) P) (parts : Option (PassOf T × T)) (pass : PassOf T) (message : T)
+  pub send_back : (channel : Channel T) (s : Sender T) (m : T) (below : RuledChannel T (Log T) P) (parts : Option (Pass T (Log T) × T)) (pass : Pass T (Log T)) (message : T)
       → MaySend channel s m below parts → AreBack below parts (Some (pass, message))
       → IsSenderOf channel (record { pass = pass }) × IsAsItWas s (record { pass = pass }) × (message ≡ m)
   send_back channel s m below None pass message may back = absurd (search rules)
   send_back channel s m below (Some h) pass message may back =
       let came = may.1 (pass, Err (record { 0 = message })) (back.0, back.1, tt, (back.3, back.2, inl tt)) in
-      (came.0, came.2.1, came.2.0)
+      (came.0.0, (came.0.2.1, came.1), came.0.2.0)

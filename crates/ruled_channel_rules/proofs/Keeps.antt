@@ -1,15 +1,17 @@
 -- Each move keeps the rule.
-use Rattle.std.proofs.Common.{◌≡◌, ◌≢◌, ℕ, ◌+◌, zero, suc, Bool, not, true, false, true≢false, Option, List, [], ◌∷◌, ◌++◌, length, set, sym, refl, ap, ◌∙◌, subst, ⊎_elim, append_assoc, arith}
+use Rattle.std.proofs.Common.{◌≡◌, ◌≢◌, ℕ, ◌+◌, zero, suc, Bool, not, ◌||◌, true, false, true≢false, Option, List, [], ◌∷◌, ◌++◌, length, set, sym, refl, ap, ◌∙◌, subst, ⊎_elim, append_assoc, arith}
+use Rattle.std.proofs.lemmas.Bool.{or_cases}
 use Rattle.std.proofs.lemmas.List.{append-nil, length-append}
-use Rattle.std.specs.List.{flat_map}
+use Rattle.std.proofs.lemmas.List.Folds.{list_any-append}
+use Rattle.std.specs.List.{flat_map, list_any}
 use mathlib.Core.Option.{some, some-ne-none, some-injective}
 use lib.ListN.{get_elem?}
 use Rattle.atomic_table.proofs.Lists.{at_set, at_snoc}
 use Rattle.ruled_channel.proofs.Views.{Each as All, each_set as all_set}
 use Rattle.ruled_channel.specs.Rule.{Sends, Receives, Closes, Ends, Forks, Merges, Learns}
 use Rattle.ruled_channel_rules.specs.declared.log.Log.{Log}
-use Rattle.ruled_channel_rules.specs.Merged.{IsMergeOf, AllArrived}
-use Rattle.ruled_channel_rules.specs.Whole.{log, hub_log, sent, got, Knows, IsWhole, more, with_sent, with_got, with_closed, with_end, sender_log, receiver_log, spent_log, either, together, one_sender_more, one_receiver_more}
+use Rattle.ruled_channel_rules.specs.Merged.{IsMergeOf, HaveArrived, AllArrived}
+use Rattle.ruled_channel_rules.specs.Whole.{log, hub_log, sent, got, has_closed, Knows, IsWhole, more, with_sent, with_got, with_closed, with_end, sender_log, receiver_log, spent_log, together, one_sender_more, one_receiver_more}
 use Rattle.ruled_channel_rules.proofs.Merging.{grows, joins, trades}
 
 cons-ne-nil : {X : Type 0} (x : X) (xs : List X) → x ∷ xs ≢ []
@@ -18,9 +20,23 @@ cons-ne-nil x xs e = some-ne-none x (ap (λ l. get_elem? l 0) e)
 no : {P : Type 0} → false ≡ true → P
 no e = absurd (true≢false (sym e))
 
-one_of : {P : Type 0} (a b : Bool) → (a ≡ true → P) → (b ≡ true → P) → either a b ≡ true → P
-one_of true b p q e = p refl
-one_of false b p q e = q e
+or_none : (a : Bool) → (a || false) ≡ a
+or_none true = refl
+or_none false = refl
+
+or_assoc : (a b c : Bool) → ((a || b) || c) ≡ (a || (b || c))
+or_assoc true b c = refl
+or_assoc false b c = refl
+
+or_comm : (a b : Bool) → (a || b) ≡ (b || a)
+or_comm true true = refl
+or_comm true false = refl
+or_comm false b = sym (or_none b)
+
+or_swap : (a b c : Bool) → (a || (b || c)) ≡ (b || (a || c))
+or_swap true true c = refl
+or_swap true false c = refl
+or_swap false b c = refl
 
 none : {X : Type 0} (xs : List X) → length xs ≡ 0 → xs ≡ []
 none [] e = refl
@@ -48,6 +64,15 @@ module _ {T : Type 0} where
   at_other (x ∷ xs) zero (suc j) a b n e = e
   at_other (x ∷ xs) (suc i) zero a b n e = e
   at_other (x ∷ xs) (suc i) (suc j) a b n e = at_other xs i j a b (λ e. n (ap suc e)) e
+
+  abbrev any : List (Log T) → Bool
+  any views = list_any has_closed views
+
+  -- what one pass adds to those that have closed changes
+  turns : (views : List (Log T)) (i : ℕ) (v w : Log T) (a b : Bool) → get_elem? views i ≡ some v → (a || v.closed) ≡ (b || w.closed) → (a || any views) ≡ (b || any (set views i w))
+  turns [] i v w a b at e = absurd (some-ne-none v (sym at))
+  turns (x ∷ xs) zero v w a b at e = sym (or_assoc a x.closed (any xs)) ∙ ap (λ c. c || any xs) (ap (λ (u : Log T). a || u.closed) (some-injective x v at) ∙ e) ∙ or_assoc b w.closed (any xs)
+  turns (x ∷ xs) (suc i) v w a b at e = or_swap a x.closed (any xs) ∙ ap (λ c. x.closed || c) (turns xs i v w a b at e) ∙ or_swap x.closed b (any (set xs i w))
 
   module _ (f : Log T → List (List T)) where
     -- the lists of one pass stand among those of all
@@ -98,9 +123,9 @@ module _ {T : Type 0} where
   length_trade n one two after e = omega (arith, length-append one (two ++ after), length-append two after, length-append two (one ++ after), length-append one after)
 
   -- what the others know stays
-  module _ (messages messages' : List T) (closed closed' : Bool) (hub s s' g g' : ℕ) (kc : closed ≡ true → closed' ≡ true) (k : (closed ≡ true) × (messages ≡ []) → (closed' ≡ true) × (messages' ≡ [])) (es : s' ≡ s) (eg : g' ≡ g) where
+  module _ (messages messages' : List T) (closed closed' : Bool) (hub s s' g g' : ℕ) (k : (closed ≡ true) × (messages ≡ []) → (closed' ≡ true) × (messages' ≡ [])) (es : s' ≡ s) (eg : g' ≡ g) where
     carry : (j : ℕ) (u : Log T) → Knows messages closed hub s g j u → Knows messages' closed' hub s' g' j u
-    carry j u o = ((λ p. let q = o.0 p in (q.0, q.1 ∙ sym es, q.2 ∙ sym eg)), (λ p. kc (o.1 p)), λ p. k (o.2 p))
+    carry j u o = ((λ p. let q = o.0 p in (q.0, q.1 ∙ sym es, q.2 ∙ sym eg)), λ p. k (o.1 p))
 
   at_first : (v u : Log T) (j : ℕ) → get_elem? (v ∷ []) j ≡ some u → j ≡ 0
   at_first v u zero e = refl
@@ -112,7 +137,8 @@ module _ {T : Type 0} where
     [],
     refl,
     refl,
-    all_set (Knows [] false 0 0 0) (spent_log ∷ []) 0 (hub_log 0 0) ((λ _. (refl, refl, refl)), (λ e. no e), λ e. no e)
+    refl,
+    all_set (Knows [] false 0 0 0) (spent_log ∷ []) 0 (hub_log 0 0) ((λ _. (refl, refl, refl)), λ e. no e)
         (λ j u other e. absurd (other (at_first spent_log u j e))),
   )
 
@@ -126,14 +152,15 @@ module _ {T : Type 0} where
       let grown = grows (h.1 ++ messages) r.0 xs (others ++ r.1) m (subst (IsMergeOf (h.1 ++ messages)) was h.2) in
       let same : flat_map got (set views pass w) ≡ flat_map got views = same_flat got views pass v w at refl in
       let long : length (flat_map sent (set views pass w)) ≡ length (flat_map sent views) = ap (λ (l : List (List T)). length l) now ∙ as_long r.0 (others ++ r.1) _ xs ∙ sym (ap (λ (l : List (List T)). length l) was) in
-      let c = carry messages (messages ++ m ∷ []) false false h.0 _ (length (flat_map sent (set views pass w))) _ (length (flat_map got (set views pass w))) (λ e. no e) (λ e. no e.0) long (ap (λ (l : List (List T)). length l) same) in (
+      let c = carry messages (messages ++ m ∷ []) false false h.0 _ (length (flat_map sent (set views pass w))) _ (length (flat_map got (set views pass w))) (λ e. no e.0) long (ap (λ (l : List (List T)). length l) same) in (
         w,
         (
           h.0,
           h.1,
           subst (λ (z : List T × List (List T)). IsMergeOf z.0 z.1) (λ i. (append_assoc h.1 messages (m ∷ []) i, sym now i)) grown,
           subst (IsMergeOf h.1) (sym same) h.3,
-          all_set _ views pass w (c pass v (h.4 pass v at)) (λ j u other e. c j u (h.4 j u e)),
+          h.4 ∙ turns views pass v w false false at refl,
+          all_set _ views pass w (c pass v (h.5 pass v at)) (λ j u other e. c j u (h.5 j u e)),
         ),
         refl,
       )
@@ -147,44 +174,46 @@ module _ {T : Type 0} where
       let grown = grows h.1 r.0 xs (others ++ r.1) m (subst (IsMergeOf h.1) was h.3) in
       let same : flat_map sent (set views pass w) ≡ flat_map sent views = same_flat sent views pass v w at refl in
       let long : length (flat_map got (set views pass w)) ≡ length (flat_map got views) = ap (λ (l : List (List T)). length l) now ∙ as_long r.0 (others ++ r.1) _ xs ∙ sym (ap (λ (l : List (List T)). length l) was) in
-      let c = carry (m ∷ messages) messages closed closed h.0 _ (length (flat_map sent (set views pass w))) _ (length (flat_map got (set views pass w))) (λ e. e) (λ e. absurd (cons-ne-nil m messages e.1)) (ap (λ (l : List (List T)). length l) same) long in (
+      let c = carry (m ∷ messages) messages closed closed h.0 _ (length (flat_map sent (set views pass w))) _ (length (flat_map got (set views pass w))) (λ e. absurd (cons-ne-nil m messages e.1)) (ap (λ (l : List (List T)). length l) same) long in (
         w,
         (
           h.0,
           h.1 ++ m ∷ [],
           subst (λ (z : List T × List (List T)). IsMergeOf z.0 z.1) (λ i. (sym (append_assoc h.1 (m ∷ []) messages) i, sym same i)) h.2,
           subst (IsMergeOf (h.1 ++ m ∷ [])) (sym now) grown,
-          all_set _ views pass w (c pass v (h.4 pass v at)) (λ j u other e. c j u (h.4 j u e)),
+          h.4 ∙ turns views pass v w false false at refl,
+          all_set _ views pass w (c pass v (h.5 pass v at)) (λ j u other e. c j u (h.5 j u e)),
         ),
         refl,
       )
 
   -- a view that changes in what it has found alone
   turned : (messages : List T) (closed closed' : Bool) (views : List (Log T)) (pass : ℕ) (v w : Log T) → IsWhole messages closed views → get_elem? views pass ≡ some v
-      → w.sent ≡ v.sent → w.got ≡ v.got → (closed ≡ true → closed' ≡ true) → ((closed ≡ true) × (messages ≡ []) → (closed' ≡ true) × (messages ≡ []))
+      → w.sent ≡ v.sent → w.got ≡ v.got → closed' ≡ any (set views pass w) → ((closed ≡ true) × (messages ≡ []) → (closed' ≡ true) × (messages ≡ []))
       → ((hub s g : ℕ) → Knows messages closed hub s g pass v → Knows messages closed' hub s g pass w) → IsWhole messages closed' (set views pass w)
-  turned messages closed closed' views pass v w h at es eg kc k mine =
+  turned messages closed closed' views pass v w h at es eg by k mine =
       let ss = same_flat sent views pass v w at es in
       let sg = same_flat got views pass v w at eg in
       let ls : length (flat_map sent (set views pass w)) ≡ length (flat_map sent views) = ap (λ (l : List (List T)). length l) ss in
       let lg : length (flat_map got (set views pass w)) ≡ length (flat_map got views) = ap (λ (l : List (List T)). length l) sg in
-      let c = carry messages messages closed closed' h.0 _ _ _ _ kc k ls lg in (
+      let c = carry messages messages closed closed' h.0 _ _ _ _ k ls lg in (
         h.0,
         h.1,
         subst (IsMergeOf (h.1 ++ messages)) (sym ss) h.2,
         subst (IsMergeOf h.1) (sym sg) h.3,
-        all_set _ views pass w (subst (λ (n : ℕ × ℕ). Knows messages closed' h.0 n.0 n.1 pass w) (λ i. (sym ls i, sym lg i)) (mine h.0 _ _ (h.4 pass v at))) (λ j u other e. c j u (h.4 j u e)),
+        by,
+        all_set _ views pass w (subst (λ (n : ℕ × ℕ). Knows messages closed' h.0 n.0 n.1 pass w) (λ i. (sym ls i, sym lg i)) (mine h.0 _ _ (h.5 pass v at))) (λ j u other e. c j u (h.5 j u e)),
       )
 
-  pub closes : (pass : ℕ) (v : Log T) → Closes IsWhole pass v (λ u was w. (w ≡ with_closed u) × (u.closed ≡ true → was ≡ false))
+  pub closes : (pass : ℕ) (v : Log T) → Closes IsWhole pass v (λ u was w. (w ≡ with_closed u) × (u.closed ≡ true → was ≡ false) × (u.ended ≡ true → was ≡ false))
   closes pass v messages closed views h at = (
     with_closed v,
-    turned messages closed true views pass v (with_closed v) h at refl refl (λ e. refl) (λ e. (refl, e.1)) (λ hub s g o. (o.0, (λ _. refl), λ p. (refl, (o.2 p).1))),
-    (refl, λ p. ap not ((h.4 pass v at).1 p)),
+    turned messages closed true views pass v (with_closed v) h at refl refl (turns views pass v (with_closed v) true false at refl) (λ e. (refl, e.1)) (λ hub s g o. (o.0, λ p. (refl, (o.1 p).1))),
+    (refl, (λ p. ap not (h.4 ∙ turns views pass v v false true at p)), λ p. ap not ((h.5 pass v at).1 p).0),
   )
 
   pub ends : (pass : ℕ) (v : Log T) → Ends IsWhole pass v (λ u w. w ≡ with_end u)
-  ends pass v views h at = (with_end v, turned [] true true views pass v (with_end v) h at refl refl (λ e. e) (λ e. e) (λ hub s g o. (o.0, (λ _. refl), λ _. (refl, refl))), refl)
+  ends pass v views h at = (with_end v, turned [] true true views pass v (with_end v) h at refl refl (h.4 ∙ turns views pass v (with_end v) false false at refl) (λ e. e) (λ hub s g o. (o.0, λ _. (refl, refl))), refl)
 
   -- who makes the passes makes one that has sent s and got g, which are empty
   parted : (pass : ℕ) (v : Log T) (n k : ℕ) (s g : List (List T)) → v.makes ≡ true → n ≡ v.senders + length s → k ≡ v.receivers + length g
@@ -198,16 +227,17 @@ module _ {T : Type 0} where
       let fg : flat_map got (vs ++ right ∷ []) ≡ flat_map got views ++ g = flat_last got vs right ∙ ap (λ l. l ++ g) (same_flat got views pass v left at refl) in
       let ls : length (flat_map sent (vs ++ right ∷ [])) ≡ length (flat_map sent views) + length s = ap (λ (l : List (List T)). length l) fs ∙ length-append (flat_map sent views) s in
       let lg : length (flat_map got (vs ++ right ∷ [])) ≡ length (flat_map got views) + length g = ap (λ (l : List (List T)). length l) fg ∙ length-append (flat_map got views) g in
-      let mine = h.4 pass v at in
+      let mine = h.5 pass v at in
       let q = mine.0 makes in
       let F : ℕ → Log T → Type 0 = Knows messages closed h.0 (length (flat_map sent (vs ++ right ∷ []))) (length (flat_map got (vs ++ right ∷ []))) in
-      let old : All F vs = all_set F views pass left ((λ _. (q.0, en ∙ ap (λ x. x + length s) q.1 ∙ sym ls, ek ∙ ap (λ x. x + length g) q.2 ∙ sym lg)), mine.1, mine.2)
-      (λ j u other e. let theirs = h.4 j u e in ((λ p. absurd (other ((theirs.0 p).0 ∙ sym q.0))), theirs.1, theirs.2)) in (
+      let old : All F vs = all_set F views pass left ((λ _. (q.0, en ∙ ap (λ x. x + length s) q.1 ∙ sym ls, ek ∙ ap (λ x. x + length g) q.2 ∙ sym lg)), mine.1)
+      (λ j u other e. let theirs = h.5 j u e in ((λ p. absurd (other ((theirs.0 p).0 ∙ sym q.0))), theirs.1)) in (
         h.0,
         h.1,
         subst (IsMergeOf (h.1 ++ messages)) (sym fs) (js (h.1 ++ messages) (flat_map sent views) h.2),
         subst (IsMergeOf h.1) (sym fg) (jg h.1 (flat_map got views) h.3),
-        λ j u e. ⊎_elim (λ x. old j u x) (λ (is : right ≡ u). ((λ p. no (ap (λ (y : Log T). y.makes) is ∙ p)), (λ p. no (ap (λ (y : Log T). y.closed) is ∙ p)), λ p. no (ap (λ (y : Log T). y.ended) is ∙ p))) (at_snoc vs right u j e),
+        h.4 ∙ turns views pass v left false false at refl ∙ sym (list_any-append has_closed vs (right ∷ []) ∙ or_none (any vs)),
+        λ j u e. ⊎_elim (λ x. old j u x) (λ (is : right ≡ u). ((λ p. no (ap (λ (y : Log T). y.makes) is ∙ p)), λ p. no (ap (λ (y : Log T). y.ended) is ∙ p))) (at_snoc vs right u j e),
       )
 
   stays : (zs : List T) (l : List (List T)) → IsMergeOf zs l → IsMergeOf zs (l ++ [])
@@ -226,26 +256,29 @@ module _ {T : Type 0} where
       let new : List (Log T) = set (set views pass both) other spent_log in
       let ls = hands_over sent (λ l. length l ≡ length (flat_map sent views)) (length_trade _) views pass other v w both spent_log apart at was refl refl refl in
       let lg = hands_over got (λ l. length l ≡ length (flat_map got views)) (length_trade _) views pass other v w both spent_log apart at was refl refl refl in
-      let c = carry messages messages closed closed h.0 _ (length (flat_map sent new)) _ (length (flat_map got new)) (λ e. e) (λ e. e) ls lg in
-      let mine = h.4 pass v at in
-      let theirs = h.4 other w was in
+      let c = carry messages messages closed closed h.0 _ (length (flat_map sent new)) _ (length (flat_map got new)) (λ e. e) ls lg in
+      let mine = h.5 pass v at in
+      let theirs = h.5 other w was in
+      let left : List (Log T) = set views other spent_log in
+      let back = turns left pass v both w.closed false (at_other views other pass spent_log v (λ e. apart (sym e)) at) (or_comm w.closed v.closed) in
       let F : ℕ → Log T → Type 0 = Knows messages closed h.0 (length (flat_map sent new)) (length (flat_map got new)) in (
         h.0,
         h.1,
         hands_over sent (IsMergeOf (h.1 ++ messages)) (trades (h.1 ++ messages)) views pass other v w both spent_log apart at was refl refl h.2,
         hands_over got (IsMergeOf h.1) (trades h.1) views pass other v w both spent_log apart at was refl refl h.3,
-        all_set F (set views pass both) other spent_log ((λ p. no p), (λ p. no p), λ p. no p)
-            (λ j u n e. all_set F views pass both ((c pass v mine).0, (λ p. one_of v.closed w.closed mine.1 theirs.1 p), λ p. one_of v.ended w.ended mine.2 theirs.2 p) (λ j u other e. c j u (h.4 j u e)) j u e),
+        h.4 ∙ turns views other w spent_log false w.closed was (sym (or_none w.closed)) ∙ back ∙ ap any (sym (set_other views pass other both spent_log apart)),
+        all_set F (set views pass both) other spent_log ((λ p. no p), λ p. no p)
+            (λ j u n e. all_set F views pass both ((c pass v mine).0, λ p. ⊎_elim mine.1 theirs.1 (or_cases v.ended w.ended p)) (λ j u other e. c j u (h.5 j u e)) j u e),
       )
 
-  -- who made the others, and has them back, knows that all arrived
-  pub settles : (pass : ℕ) (v : Log T) → v.makes ≡ true → length v.sent ≡ v.senders → length v.got ≡ v.receivers → v.ended ≡ true → Learns IsWhole pass v (λ messages closed. AllArrived v.sent v.got)
-  settles pass v makes all_sent all_got ended messages closed views h at =
-      let mine = h.4 pass v at in
+  -- who made the others, and has them back, knows what arrived, and all if the end was found
+  pub settles : (pass : ℕ) (v : Log T) → v.makes ≡ true → length v.sent ≡ v.senders → length v.got ≡ v.receivers
+      → Learns IsWhole pass v (λ messages closed. HaveArrived v.sent v.got messages × (v.ended ≡ true → AllArrived v.sent v.got))
+  settles pass v makes all_sent all_got messages closed views h at =
+      let mine = h.5 pass v at in
       let q = mine.0 makes in
-      let ss = has_all sent views pass v at (all_sent ∙ q.1) in
-      let sg = has_all got views pass v at (all_got ∙ q.2) in (
-        h.1,
-        subst (λ (z : List T × List (List T)). IsMergeOf z.0 z.1) (λ i. ((ap (λ l. h.1 ++ l) (mine.2 ended).1 ∙ append-nil h.1) i, ss i)) h.2,
-        subst (IsMergeOf h.1) sg h.3,
+      let sents = subst (IsMergeOf (h.1 ++ messages)) (has_all sent views pass v at (all_sent ∙ q.1)) h.2 in
+      let gots = subst (IsMergeOf h.1) (has_all got views pass v at (all_got ∙ q.2)) h.3 in (
+        (h.1, sents, gots),
+        λ ended. (h.1, subst (λ (l : List T). IsMergeOf l v.sent) (ap (λ l. h.1 ++ l) (mine.1 ended).1 ∙ append-nil h.1) sents, gots),
       )

@@ -5,7 +5,7 @@ use Rattle.std.specs.Prelude.{IsPermutation}
 use Rattle.std.specs.List.{flat_map}
 use mathlib.Core.Option.{some-ne-none}
 use lib.ListN.{get_elem?}
-use Rattle.ruled_channel_rules.specs.Merged.{IsMerge, IsMergeOf, AllArrived}
+use Rattle.ruled_channel_rules.specs.Merged.{IsMerge, IsMergeOf, HaveArrived, AllArrived}
 
 module _ {T : Type 0} where
   pub merge_all : (xs : List T) → IsMerge xs xs []
@@ -55,14 +55,14 @@ module _ {T : Type 0} where
   trades zs one (xs ∷ two) after s = let t = fronts zs one xs (two ++ after) s in (t.0, t.1, trades t.0 one two after t.2)
 
   -- one list alone
-  alone : (zs xs : List T) → IsMergeOf zs (xs ∷ []) → zs ≡ xs
+  pub alone : (zs xs : List T) → IsMergeOf zs (xs ∷ []) → zs ≡ xs
   alone zs xs s = merge_none zs xs (subst (IsMerge zs xs) s.2 s.1)
-
-  pub pair : (xs ys : List T) → AllArrived (xs ∷ []) (ys ∷ []) → ys ≡ xs
-  pair xs ys a = sym (alone a.0 ys a.2) ∙ alone a.0 xs a.1
 
   pub to_one : (sents : List (List T)) (ys : List T) → AllArrived sents (ys ∷ []) → IsMergeOf ys sents
   to_one sents ys a = subst (λ (l : List T). IsMergeOf l sents) (alone a.0 ys a.2) a.1
+
+  pub to_one_but : (sents : List (List T)) (ys held : List T) → HaveArrived sents (ys ∷ []) held → IsMergeOf (ys ++ held) sents
+  to_one_but sents ys held a = subst (λ (l : List T). IsMergeOf (l ++ held) sents) (alone a.0 ys a.2) a.1
 
   permutes_two : (zs xs ys : List T) → IsMerge zs xs ys → IsPermutation zs (xs ++ ys)
   permutes_two [] xs ys m = subst (λ (l : List T × List T). IsPermutation [] (l.0 ++ l.1)) (λ i. (sym m.0 i, sym m.1 i)) (IsPermutation-refl [])

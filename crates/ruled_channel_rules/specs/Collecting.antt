@@ -1,31 +1,35 @@
 -- When a receive of all messages may be polled, and what it gives.
-use Rattle.std.specs.Prelude.{◌≡◌, ℕ, true, List, ◌++◌, Option, Result, IfOk, IsSomeAnd}
+use Rattle.std.specs.Prelude.{◌≡◌, ℕ, true, List, Option, Result, OnOk, OnErr, IsSomeAnd}
 use Rattle.std.specs.declared.alloc.Global.{Global}
 use Rattle.std.specs.declared.vec.Vec.{Vec}
 use Rattle.channel_model.specs.declared.errors.OutOfMemory.{OutOfMemory}
 use Rattle.ruled_channel_rules.specs.declared.handles.Channel.{Channel}
 use Rattle.ruled_channel_rules.specs.declared.handles.Receiver.{Receiver}
 use Rattle.ruled_channel_rules.specs.declared.receiving.Recv.{Recv}
-use Rattle.ruled_channel_rules.specs.Handles.{IsReceiverOf, got_by, has_ended}
-use Rattle.ruled_channel_rules.specs.Receiving.{MayReceive}
+use Rattle.ruled_channel_rules.specs.Handles.{IsReceiverOf, receiver_closed, has_ended}
+use Rattle.ruled_channel_rules.specs.Receiving.{MayReceive, HasAdded}
 
 module _ {T : Type 0} where
-  -- a receiver that is now so has got these
-  abbrev pub HasGot : Channel T → Receiver T → List T → Receiver T → Type 0
-  HasGot channel r all now = IsReceiverOf channel now × (got_by now ≡ got_by r ++ all)
+  -- what a receiver that is now so has got more was added to the list, and it has closed nothing
+  abbrev pub HasGot : Channel T → Receiver T → List T → Receiver T → List T → Type 0
+  HasGot channel r list now all =
+      IsReceiverOf channel now × HasAdded r list now all × (receiver_closed now ≡ receiver_closed r)
 
-  -- The receiver comes back. With all that it has got, it has found the channel closed and empty.
-  abbrev pub TellsCollected : Channel T → Receiver T
-      → Receiver T × Result (Vec T Global) OutOfMemory → Type 0
-  TellsCollected channel r out =
-      IsReceiverOf channel out.0
-      × IfOk out.1 (λ all. (got_by out.0 ≡ got_by r ++ all.items) × (has_ended out.0 ≡ true))
+  -- The receiver comes back, with the list to which all was added that it has got. It has found the
+  -- channel closed and empty; if memory was refused, it has closed it.
+  abbrev pub TellsCollected : Channel T → Receiver T → List T
+      → Receiver T × Vec T Global × Result (Unit {0}) OutOfMemory → Type 0
+  TellsCollected channel r list out =
+      IsReceiverOf channel out.0 × HasAdded r list out.0 out.1.items
+      × OnOk out.2 ((has_ended out.0 ≡ true) × (receiver_closed out.0 ≡ receiver_closed r))
+      × OnErr out.2 (receiver_closed out.0 ≡ true)
 
   module _ {R : Type 0} where
-    -- the receiver has got these, and receives the next
-    abbrev pub MayCollect : Channel T → Receiver T → Option (Recv T R × Vec T Global) → Type 0
-    MayCollect channel r parts = IsSomeAnd parts
-        (λ h. HasGot channel r h.1.items h.0.receiver.value × (h.0.channel.now ≡ channel)
+    -- what the receiver has got was added to the list, and it receives the next
+    abbrev pub MayCollect : Channel T → Receiver T → List T → Option (Recv T R × Vec T Global)
+        → Type 0
+    MayCollect channel r list parts = IsSomeAnd parts
+        (λ h. HasGot channel r list h.0.receiver.value h.1.items × (h.0.channel.now ≡ channel)
         × IsSomeAnd h.0.inner
         (λ b. MayReceive channel h.0.receiver.value b.channel.now b.pass))
 

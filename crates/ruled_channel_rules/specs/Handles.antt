@@ -1,7 +1,6 @@
 -- What a clause says of a channel whose messages all arrive, and of its handles.
 use Rattle.std.specs.Prelude.{◌≡◌, ℕ, Bool, true, List, [], ◌∷◌, Option}
-use Rattle.ruled_mutex.specs.Passes.{view}
-use Rattle.ruled_channel.specs.Passes.{IsPassOf}
+use Rattle.ruled_channel.specs.Passes.{IsPassOf, view}
 use Rattle.ruled_channel_rules.specs.declared.log.Log.{Log}
 use Rattle.ruled_channel_rules.specs.declared.handles.Channel.{Channel}
 use Rattle.ruled_channel_rules.specs.declared.handles.Hub.{Hub}

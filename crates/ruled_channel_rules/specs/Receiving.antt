@@ -1,11 +1,11 @@
 -- What a receive keeps while it waits, and what it gives.
-use Rattle.std.specs.Prelude.{◌≡◌, true, [], ◌∷◌, ◌++◌, Option, Result, IsSomeAnd, IfOk, IfErr}
-use Rattle.channel_core.specs.Channel.{Channel as Core}
+use Rattle.std.specs.Prelude.{◌≡◌, true, List, [], ◌∷◌, ◌++◌, Option, Result, IsSomeAnd, IfOk, IfErr}
 use Rattle.channel_model.specs.declared.errors.OutOfMemory.{OutOfMemory}
 use Rattle.channel_model.specs.declared.errors.RecvError.{RecvError}
-use Rattle.ruled_channel.specs.declared.mark.Mark.{Mark}
-use Rattle.ruled_mutex.specs.declared.pass.Pass.{Pass}
+use Rattle.channel_model.specs.declared.errors.TryRecvError.{TryRecvError}
+use Rattle.channel_model.specs.declared.errors.TryRecvError.TheVariants.{Empty, Closed}
 use Rattle.ruled_channel.specs.declared.channel.RuledChannel.{RuledChannel}
+use Rattle.ruled_channel.specs.declared.pass.Pass.{Pass}
 use Rattle.ruled_channel_rules.specs.declared.log.Log.{Log}
 use Rattle.ruled_channel_rules.specs.declared.log.Whole.{Whole}
 use Rattle.ruled_channel_rules.specs.declared.handles.Channel.{Channel}
@@ -19,8 +19,18 @@ module _ {T : Type 0} where
       (got_by new ≡ got_by old) × (receiver_closed new ≡ receiver_closed old)
       × (has_ended new ≡ has_ended old)
 
+  -- what a receive knows that found no message
+  abbrev pub FoundNone : Receiver T → Receiver T → TryRecvError → Type 0
+  FoundNone old new Empty = IsAsItWas old new
+  FoundNone old new Closed = (got_by new ≡ got_by old) × (has_ended new ≡ true)
+
+  -- what a receiver has got more is what a list has more at its end
+  abbrev pub HasAdded : Receiver T → List T → Receiver T → List T → Type 0
+  HasAdded old before new after =
+      (came : List T) × (after ≡ before ++ came) × (got_by new ≡ got_by old ++ came)
+
   -- The receiver comes back, and has got the message, or has found the channel closed and empty. If
-  -- memory was refused, it is as it was.
+  -- memory was refused, it is as it was. It has closed nothing.
   abbrev pub TellsReceived : Channel T → Receiver T
       → Receiver T × Result (Result T RecvError) OutOfMemory → Type 0
   TellsReceived channel r out =
@@ -28,11 +38,12 @@ module _ {T : Type 0} where
       × IfOk out.1 (λ answer. IfOk answer (λ message. got_by out.0 ≡ got_by r ++ message ∷ [])
       × IfErr answer (λ _. (got_by out.0 ≡ got_by r) × (has_ended out.0 ≡ true)))
       × IfErr out.1 (λ _. IsAsItWas r out.0)
+      × (receiver_closed out.0 ≡ receiver_closed r)
 
   -- The receive below is one at this channel, and keeps the pass of this receiver, which is as it
   -- was.
   abbrev pub MayReceive : Channel T → Receiver T → RuledChannel T (Log T) Whole
-      → Option (Pass (Core T Mark) (Log T)) → Type 0
+      → Option (Pass T (Log T)) → Type 0
   MayReceive channel r below pass =
       (below ≡ channel.ruled)
       × IsSomeAnd pass (λ p. IsReceiverOf channel (record { pass = p })

@@ -1,11 +1,11 @@
 -- When a send may be polled, and what it gives.
-use Rattle.std.specs.Prelude.{◌≡◌, true, [], ◌∷◌, ◌++◌, Option, Result, IfOk, IfErr}
-use Rattle.channel_core.specs.Channel.{Channel as Core}
+use Rattle.std.specs.Prelude.{◌≡◌, Bool, ◌||◌, true, false, [], ◌∷◌, ◌++◌, Option, Result, Ok, Err, IfOk, IfErr}
 use Rattle.channel_model.specs.declared.errors.NoMemory.{NoMemory}
 use Rattle.channel_model.specs.declared.errors.SendError.{SendError}
-use Rattle.ruled_channel.specs.declared.mark.Mark.{Mark}
-use Rattle.ruled_mutex.specs.declared.pass.Pass.{Pass}
+use Rattle.channel_model.specs.declared.errors.TrySendError.{TrySendError}
+use Rattle.channel_model.specs.declared.errors.TrySendError.TheVariants.{Full, Closed}
 use Rattle.ruled_channel.specs.declared.channel.RuledChannel.{RuledChannel}
+use Rattle.ruled_channel.specs.declared.pass.Pass.{Pass}
 use Rattle.ruled_channel.specs.Sending.{MaySend as MayPoll, GivesSent}
 use Rattle.ruled_channel_rules.specs.declared.log.Log.{Log}
 use Rattle.ruled_channel_rules.specs.declared.handles.Channel.{Channel}
@@ -18,37 +18,51 @@ module _ {T : Type 0} where
   abbrev pub IsAsItWas : Sender T → Sender T → Type 0
   IsAsItWas old new = (sent_by new ≡ sent_by old) × (sender_closed new ≡ sender_closed old)
 
-  -- The sender comes back, and has sent the message; or it has not, and the message comes back too.
-  -- If the channel was closed, it knows it.
+  -- whether a send was refused, as the channel was closed
+  abbrev pub was_refused : Result (Result (Unit {0}) (SendError T)) (NoMemory T) → Bool
+  was_refused (Ok (Ok sent)) = false
+  was_refused (Ok (Err error)) = true
+  was_refused (Err error) = false
+
+  -- the same of one that doesn't wait
+  abbrev pub found_closed : Result (Result (Unit {0}) (TrySendError T)) (NoMemory T) → Bool
+  found_closed (Ok (Ok sent)) = false
+  found_closed (Ok (Err (Full message))) = false
+  found_closed (Ok (Err (Closed message))) = true
+  found_closed (Err error) = false
+
+  -- the sender comes back, and has sent the message; or it has not, and the message comes back too
+  abbrev pub Gave : Channel T → Sender T → T
+      → Sender T × Result (Result (Unit {0}) (SendError T)) (NoMemory T) → Type 0
+  Gave channel s m out =
+      IsSenderOf channel out.0
+      × IfOk out.1 (λ answer. IfOk answer (λ _. sent_by out.0 ≡ sent_by s ++ m ∷ [])
+      × IfErr answer (λ error. (error.0 ≡ m) × (sent_by out.0 ≡ sent_by s)))
+      × IfErr out.1 (λ error. (error.0 ≡ m) × (sent_by out.0 ≡ sent_by s))
+
+  -- The same, and if the channel was closed it has closed it too; else it has closed nothing.
   abbrev pub TellsSent : Channel T → Sender T → T
       → Sender T × Result (Result (Unit {0}) (SendError T)) (NoMemory T) → Type 0
   TellsSent channel s m out =
-      IsSenderOf channel out.0
-      × IfOk out.1 (λ answer. IfOk answer (λ _. sent_by out.0 ≡ sent_by s ++ m ∷ [])
-      × IfErr answer (λ error. (error.0 ≡ m) × (sent_by out.0 ≡ sent_by s)
-      × (sender_closed out.0 ≡ true)))
-      × IfErr out.1 (λ error. (error.0 ≡ m) × IsAsItWas s out.0)
+      Gave channel s m out
+      × (sender_closed out.0 ≡ (was_refused out.1 || sender_closed s))
 
-  -- the same, before one that was refused is told that the channel is closed
+  -- the same, before one that was refused closes the channel too
   abbrev pub Comes : Channel T → Sender T → T
       → Sender T × Result (Result (Unit {0}) (SendError T)) (NoMemory T) → Type 0
-  Comes channel s m out =
-      IsSenderOf channel out.0
-      × IfOk out.1 (λ answer. IfOk answer (λ _. sent_by out.0 ≡ sent_by s ++ m ∷ [])
-      × IfErr answer (λ error. (error.0 ≡ m) × IsAsItWas s out.0))
-      × IfErr out.1 (λ error. (error.0 ≡ m) × IsAsItWas s out.0)
+  Comes channel s m out = Gave channel s m out × (sender_closed out.0 ≡ sender_closed s)
 
   module _ {P : Type 0} where
     -- what the send below gives
-    abbrev pub Gives : RuledChannel T (Log T) P → Option (Pass (Core T Mark) (Log T) × T)
-        → Pass (Core T Mark) (Log T) × Result (Result (Unit {0}) (SendError T)) (NoMemory T)
+    abbrev pub Gives : RuledChannel T (Log T) P → Option (Pass T (Log T) × T)
+        → Pass T (Log T) × Result (Result (Unit {0}) (SendError T)) (NoMemory T)
         → Type 0
     Gives = GivesSent (λ _. Unit {0}) (λ v m w. w ≡ with_sent v m) (λ _ _ _. Unit {0})
 
     -- The send below may be polled, and whatever it gives is a send of this message by this sender.
     abbrev pub MaySend : Channel T → Sender T → T → RuledChannel T (Log T) P
-        → Option (Pass (Core T Mark) (Log T) × T) → Type 0
+        → Option (Pass T (Log T) × T) → Type 0
     MaySend channel s m below parts =
         MayPoll (λ _. Unit {0}) IsWhole (λ v m w. w ≡ with_sent v m) (λ _ _ _. Unit {0}) below parts
-        × ((x : Pass (Core T Mark) (Log T) × Result (Result (Unit {0}) (SendError T)) (NoMemory T))
+        × ((x : Pass T (Log T) × Result (Result (Unit {0}) (SendError T)) (NoMemory T))
         → Gives below parts x → Comes channel s m (record { pass = x.0 }, x.1))

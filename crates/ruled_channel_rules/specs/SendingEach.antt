@@ -1,38 +1,53 @@
 -- When a send of several messages may be polled, and what it gives.
-use Rattle.std.specs.Prelude.{◌≡◌, ℕ, ◌≤◌, Bool, true, List, ◌++◌, length, take, slice_get, Some, IsSomeAnd}
+use Rattle.std.specs.Prelude.{◌≡◌, ℕ, Bool, ◌||◌, List, ◌∷◌, ◌++◌, Result, IfOk, IfErr, IsSomeAnd}
+use Rattle.std.specs.declared.alloc.Global.{Global}
+use Rattle.std.specs.declared.collections.VecDeque.{VecDeque}
+use Rattle.channel_model.specs.declared.errors.NoMemory.{NoMemory}
+use Rattle.channel_model.specs.declared.errors.SendError.{SendError}
 use Rattle.ruled_channel_rules.specs.declared.handles.Channel.{Channel}
 use Rattle.ruled_channel_rules.specs.declared.handles.Sender.{Sender}
 use Rattle.ruled_channel_rules.specs.declared.sending.Send.{Send}
 use Rattle.ruled_channel_rules.specs.declared.sending.Turn.{Turn}
 use Rattle.ruled_channel_rules.specs.declared.sending.Turn.TheVariants.{Next, Wait, Over}
 use Rattle.ruled_channel_rules.specs.Handles.{IsSenderOf, sent_by, sender_closed}
-use Rattle.ruled_channel_rules.specs.Sending.{MaySend}
+use Rattle.ruled_channel_rules.specs.Sending.{MaySend, was_refused}
 
 module _ {T : Type 0} where
-  -- of these messages, a sender that is now so has sent so many
-  abbrev pub HasSent : Channel T → Sender T → List T → ℕ → Sender T → Type 0
-  HasSent channel s messages sent now =
-      IsSenderOf channel now × (sent ≤ length messages)
-      × (sent_by now ≡ sent_by s ++ take sent messages)
+  -- these messages were sent but for the last ones, by a sender that is now so and closed nothing
+  abbrev pub HasSentBut : Channel T → Sender T → List T → List T → Sender T → Type 0
+  HasSentBut channel s messages rest now =
+      IsSenderOf channel now × (sent_by now ++ rest ≡ sent_by s ++ messages)
+      × (sender_closed now ≡ sender_closed s)
 
-  -- the sender comes back with how many it has sent, and knows that it has closed the channel
-  abbrev pub TellsSentEach : Channel T → Sender T → List T → Bool → Sender T × ℕ → Type 0
+  -- all messages were sent; or those before one that comes back, and the rest comes after it
+  abbrev pub TellsSentAll : Sender T → List T → Sender T → List T
+      → Result (Result (Unit {0}) (SendError T)) (NoMemory T) → Type 0
+  TellsSentAll s messages now rest answer =
+      IfOk answer (λ sent. IfOk sent (λ _. sent_by now ≡ sent_by s ++ messages)
+      × IfErr sent (λ error. sent_by now ++ error.0 ∷ rest ≡ sent_by s ++ messages))
+      × IfErr answer (λ error. sent_by now ++ error.0 ∷ rest ≡ sent_by s ++ messages)
+
+  -- The sender comes back so, and has closed the channel if it was to, or was refused.
+  abbrev pub TellsSentEach : Channel T → Sender T → List T → Bool
+      → Sender T × VecDeque T Global × Result (Result (Unit {0}) (SendError T)) (NoMemory T)
+      → Type 0
   TellsSentEach channel s messages closes out =
-      HasSent channel s messages out.1 out.0 × (closes ≡ true → sender_closed out.0 ≡ true)
+      IsSenderOf channel out.0 × TellsSentAll s messages out.0 out.1.items out.2
+      × (sender_closed out.0 ≡ (closes || (was_refused out.2 || sender_closed s)))
 
   module _ {R : Type 0} where
-    -- So many are sent, and the sender is at hand, or sends the next.
-    abbrev pub MaySendEach : Channel T → Sender T → List T → ℕ
-        → Turn (Sender T) (Send T R) → Type 0
-    MaySendEach channel s messages sent (Next now) = HasSent channel s messages sent now
-    MaySendEach channel s messages sent (Wait f) =
-        HasSent channel s messages sent f.sender.value × (f.channel.now ≡ channel)
-        × (slice_get messages sent ≡ Some f.message.value)
+    -- The sender is at hand, or sends the next; the others are left.
+    abbrev pub MaySendEach : Channel T → Sender T → List T
+        → Turn (Sender T) (Send T R) (VecDeque T Global) → Type 0
+    MaySendEach channel s messages (Next now rest) = HasSentBut channel s messages rest.items now
+    MaySendEach channel s messages (Wait f rest) =
+        HasSentBut channel s messages (f.message.value ∷ rest.items) f.sender.value
+        × (f.channel.now ≡ channel)
         × IsSomeAnd f.inner
         (λ b. MaySend channel f.sender.value f.message.value b.channel.now b.parts)
-    MaySendEach channel s messages sent Over = ⊥
+    MaySendEach channel s messages Over = ⊥
 
     -- the sources that it waits for
-    abbrev pub waits_at : Turn (Sender T) (Send T R) → ℕ → Type 0
-    waits_at (Wait f) source = IsSomeAnd f.inner (λ b. source ≡ b.channel.now.source.id)
+    abbrev pub waits_at : Turn (Sender T) (Send T R) (VecDeque T Global) → ℕ → Type 0
+    waits_at (Wait f rest) source = IsSomeAnd f.inner (λ b. source ≡ b.channel.now.source.id)
     waits_at _ source = ⊥

@@ -1,15 +1,12 @@
--- The rule: what was sent is what was got and then what the channel holds. Each sender and each
--- receiver knows its own part, and who made them knows how many there are.
-use Rattle.std.specs.Prelude.{◌≡◌, ℕ, ◌+◌, Bool, true, false, List, [], ◌∷◌, ◌++◌, length}
-use Rattle.std.specs.List.{flat_map}
+-- The rule: what was sent is what was got and then what the channel holds, and it is closed exactly
+-- if one of the handles has closed it. Each sender and each receiver knows its own part, and who made
+-- them knows how many there are.
+use Rattle.std.specs.Prelude.{◌≡◌, ℕ, ◌+◌, Bool, ◌||◌, true, false, List, [], ◌∷◌, ◌++◌, length}
+use Rattle.std.specs.List.{flat_map, list_any}
 use mathlib.Core.Option.{some}
 use lib.ListN.{get_elem?}
 use Rattle.ruled_channel_rules.specs.declared.log.Log.{Log}
 use Rattle.ruled_channel_rules.specs.Merged.{IsMergeOf}
-
-abbrev pub either : Bool → Bool → Bool
-either true b = true
-either false b = b
 
 module _ {T : Type 0} where
   abbrev pub log : Bool → ℕ → ℕ → Bool → Bool → List (List T) → List (List T) → Log T
@@ -29,18 +26,20 @@ module _ {T : Type 0} where
   abbrev pub got : Log T → List (List T)
   got v = v.got
 
-  -- one pass makes the others, and knows how many; who knows that it is closed, or found
-  -- the end, is right for ever
+  abbrev pub has_closed : Log T → Bool
+  has_closed v = v.closed
+
+  -- one pass makes the others, and knows how many; who found the end is right for ever
   abbrev pub Knows : List T → Bool → ℕ → ℕ → ℕ → ℕ → Log T → Type 0
   Knows messages closed hub senders receivers pass v =
       (v.makes ≡ true → (pass ≡ hub) × (v.senders ≡ senders) × (v.receivers ≡ receivers))
-      × (v.closed ≡ true → closed ≡ true)
       × (v.ended ≡ true → (closed ≡ true) × (messages ≡ []))
 
   abbrev pub IsWhole : List T → Bool → List (Log T) → Type 0
   IsWhole messages closed views =
       (hub : ℕ) × (taken : List T)
       × IsMergeOf (taken ++ messages) (flat_map sent views) × IsMergeOf taken (flat_map got views)
+      × (closed ≡ list_any has_closed views)
       × ((pass : ℕ) (v : Log T) → get_elem? views pass ≡ some v
       → Knows messages closed hub (length (flat_map sent views))
       (length (flat_map got views)) pass v)
@@ -62,7 +61,7 @@ module _ {T : Type 0} where
   with_closed v = record v { closed = true }
 
   abbrev pub with_end : Log T → Log T
-  with_end v = record v { closed = true; ended = true }
+  with_end v = record v { ended = true }
 
   abbrev pub one_sender_more : Log T → Log T
   one_sender_more v = record v { senders = v.senders + 1 }
@@ -85,8 +84,8 @@ module _ {T : Type 0} where
 
   abbrev pub together : Log T → Log T → Log T
   together v w = record v {
-    closed = either v.closed w.closed;
-    ended = either v.ended w.ended;
+    closed = v.closed || w.closed;
+    ended = v.ended || w.ended;
     sent = v.sent ++ w.sent;
     got = v.got ++ w.got;
   }

@@ -1,5 +1,5 @@
 //! The channel, and who sends and receives.
-ghost use Rattle.std.specs.Prelude.{◌≡◌, ◌<◌, ◌≤◌, [], ◌∷◌, ◌++◌, length, take, true, false, Some, None, IfOk, IfErr};
+ghost use Rattle.std.specs.Prelude.{◌≡◌, ◌<◌, ◌≤◌, [], ◌∷◌, ◌++◌, length, ◌||◌, true, false, Some, None, IfOk, IfErr, OnOk, OnErr};
 ghost use Rattle.std.specs.Prelude.{IsPermutation};
 ghost use Rattle.std.specs.List.{flat_map};
 ghost use Rattle.ruled_channel_rules.specs.Handles.{IsHubOf, known, capacity_of};
@@ -7,10 +7,11 @@ ghost use Rattle.ruled_channel_rules.specs.Whole.{hub_log};
 
 use crate::log::{ForReceiver, ForSender, Log, Whole};
 use ruled_channel::{
-    NoMemory, OutOfMemory, Pass, RecvError, RuledChannel, SendError, Unruled, bounded_with,
-    unbounded_with,
+    NoMemory, OutOfMemory, Pass, RecvError, RuledChannel, SendError, TryRecvError, TrySendError,
+    Unruled, bounded_with, unbounded_with,
 };
 use std::alloc::Global;
+use std::collections::VecDeque;
 use std::sync::Wait;
 
 /// A channel. Threads share it by reference, each with a sender or a receiver of its own.
@@ -70,7 +71,7 @@ pub struct Receiver<T> {
 /// ```
 /// let (channel, mut hub) = bounded(rt.alloc(), 4)?;
 /// let mut sender = hub.sender(&channel);
-/// assert_eq!(rt; sender.send_all(&rt, &channel, &[1, 2, 3]), 3);
+/// assert_eq!(rt; sender.send_blocking(&rt, &channel, 1)?, Ok(()));
 /// ```
 #[tactic(auto, using(crate::proofs::Keeps::begins))]
 pub fn bounded<T: Drop>(alloc: Global, cap: usize) -> Result<(Channel<T>, Hub<T>), OutOfMemory>
@@ -88,7 +89,7 @@ pub fn bounded<T: Drop>(alloc: Global, cap: usize) -> Result<(Channel<T>, Hub<T>
 /// ```
 /// let (channel, mut hub) = unbounded(rt.alloc())?;
 /// let mut sender = hub.sender(&channel);
-/// assert_eq!(rt; sender.send_all(&rt, &channel, &[1, 2, 3]), 3);
+/// assert_eq!(rt; sender.send_blocking(&rt, &channel, 1)?, Ok(()));
 /// ```
 #[tactic(auto, using(crate::proofs::Keeps::begins))]
 pub fn unbounded<T: Drop>(alloc: Global) -> Result<(Channel<T>, Hub<T>), OutOfMemory>
@@ -118,6 +119,9 @@ impl<T: Drop> Channel<T> {
 
 impl<T: Drop> Sender<T> {
     ghost use Rattle.ruled_channel_rules.specs.Handles.{IsSenderOf, sent_by, sender_closed};
+    ghost use Rattle.ruled_channel_rules.specs.Sending.{found_closed, was_refused};
+    ghost use Rattle.channel_model.specs.Errors.{message_of};
+    ghost use Rattle.ruled_channel_rules.specs.SendingEach.{TellsSentAll};
 
     /// Sends a message, and waits while the channel is full. A closed channel hands it back, and
     /// the sender knows then that it is closed. The outer error says that memory was refused.
@@ -141,10 +145,10 @@ impl<T: Drop> Sender<T> {
         ensures sent { IfOk result (λ answer. IfOk answer
             (λ _. sent_by self.new ≡ sent_by self.old ++ message ∷ [])) }
         ensures refused { IfOk result (λ answer. IfErr answer
-            (λ error. (error.0 ≡ message) × (sent_by self.new ≡ sent_by self.old)
-            × (sender_closed self.new ≡ true))) }
+            (λ error. (error.0 ≡ message) × (sent_by self.new ≡ sent_by self.old))) }
         ensures memory { IfErr result
             (λ error. (error.0 ≡ message) × (sent_by self.new ≡ sent_by self.old)) }
+        ensures closed { sender_closed self.new ≡ (was_refused result || sender_closed self.old) }
     {
         let ruled = &channel.ruled;
         match ruled.send_blocking_as::<Whole, Unruled, R>(rt, &mut self.pass, message) {
@@ -158,30 +162,71 @@ impl<T: Drop> Sender<T> {
         }
     }
 
-    /// Sends messages until one can't be sent, as the channel is closed or memory was refused, and
-    /// answers how many were sent.
+    /// Sends a message, if there is room at once. A full channel hands it back, and so does a closed
+    /// one, which the sender knows then. The outer error says that memory was refused.
+    ///
+    /// ```
+    /// let (channel, mut hub) = bounded(rt.alloc(), 1)?;
+    /// let mut sender = hub.sender(&channel);
+    /// assert_eq!(rt; sender.try_send(&rt, &channel, 1)?, Ok(()));
+    /// assert_eq!(rt; sender.try_send(&rt, &channel, 2)?, Err(TrySendError::Full(2)));
+    /// ```
+    pub fn try_send<R: Wait>(
+        &mut self,
+        rt: &R,
+        channel: &Channel<T>,
+        message: T,
+    ) -> Result<Result<(), TrySendError<T>>, NoMemory<T>>
+        requires own { IsSenderOf channel.now self.old }
+        ensures own { IsSenderOf channel.now self.new }
+        ensures sent { IfOk result (λ answer. IfOk answer
+            (λ _. sent_by self.new ≡ sent_by self.old ++ message ∷ [])) }
+        ensures refused { IfOk result (λ answer. IfErr answer
+            (λ error. (message_of error ≡ message) × (sent_by self.new ≡ sent_by self.old))) }
+        ensures memory { IfErr result
+            (λ error. (error.0 ≡ message) × (sent_by self.new ≡ sent_by self.old)) }
+        ensures closed { sender_closed self.new ≡ (found_closed result || sender_closed self.old) }
+    {
+        let ruled = &channel.ruled;
+        let answer = ruled.try_send_as::<Whole, Unruled, R>(rt, &mut self.pass, message)?;
+        if let Err(TrySendError::Closed(_)) = &answer {
+            // It is closed already. So this changes nothing but what the sender knows.
+            self.close(rt, channel);
+        }
+        Ok(answer)
+    }
+
+    /// Sends messages from the front until all are sent, or one can't be: that one is in the answer,
+    /// which says whether the channel is closed or memory was refused. Those after it are left.
     ///
     /// ```
     /// let (channel, mut hub) = bounded(rt.alloc(), 4)?;
     /// let mut sender = hub.sender(&channel);
     /// let mut receiver = hub.receiver(&channel);
-    /// assert_eq!(rt; sender.send_all(&rt, &channel, &[1, 2]), 2);
+    /// let mut messages = VecDeque::from(vec![in rt.alloc(); 1, 2]?);
+    /// assert_eq!(rt; sender.send_all(&rt, &channel, &mut messages)?, Ok(()));
     /// assert_eq!(rt; receiver.recv_blocking(&rt, &channel)?, Ok(1));
     /// ```
-    pub fn send_all<R: Wait>(&mut self, rt: &R, channel: &Channel<T>, messages: &[T]) -> usize
-    where
-        T: Copy,
+    #[tactic(auto, using(crate::proofs::Lists::one_sent, crate::proofs::Lists::all_sent))]
+    pub fn send_all<R: Wait>(
+        &mut self,
+        rt: &R,
+        channel: &Channel<T>,
+        messages: &mut VecDeque<T>,
+    ) -> Result<Result<(), SendError<T>>, NoMemory<T>>
         requires own { IsSenderOf channel.now self.old }
         ensures own { IsSenderOf channel.now self.new }
-        ensures count { result ≤ length messages.now }
-        ensures sent { sent_by self.new ≡ sent_by self.old ++ take result messages.now }
+        ensures sent { TellsSentAll self.old messages.old.items self.new messages.new.items result }
+        ensures closed { sender_closed self.new ≡ (was_refused result || sender_closed self.old) }
     {
-        for next in 0..messages.len() {
-            let Ok(Ok(())) = self.send_blocking(rt, channel, messages[next]) else {
-                return next;
-            };
+        while let Some(message) = messages.pop_front() {
+            match self.send_blocking(rt, channel, message) {
+                Ok(Ok(())) => {}
+                Ok(Err(refused)) => return Ok(Err(refused)),
+                Err(refused) => return Err(refused),
+            }
         }
-        messages.len()
+        Ok(Ok(()))
     }
 
     /// Closes the channel, and answers whether it was open. What it holds can be received still.
@@ -205,7 +250,7 @@ impl<T: Drop> Sender<T> {
 
 impl<T: Drop> Receiver<T> {
     ghost use Rattle.ruled_channel_rules.specs.Handles.{IsReceiverOf, got_by, has_ended, receiver_closed};
-    ghost use Rattle.ruled_channel_rules.specs.Receiving.{IsAsItWas};
+    ghost use Rattle.ruled_channel_rules.specs.Receiving.{IsAsItWas, FoundNone, HasAdded};
 
     /// Takes the oldest message, and waits while there is none. The inner error says that the
     /// channel is closed and empty, the outer that memory was refused.
@@ -214,7 +259,7 @@ impl<T: Drop> Receiver<T> {
     /// let (channel, mut hub) = bounded(rt.alloc(), 4)?;
     /// let mut sender = hub.sender(&channel);
     /// let mut receiver = hub.receiver(&channel);
-    /// assert_eq!(rt; sender.send_all(&rt, &channel, &[1]), 1);
+    /// assert_eq!(rt; sender.send_blocking(&rt, &channel, 1)?, Ok(()));
     /// sender.close(&rt, &channel);
     /// assert_eq!(rt; receiver.recv_blocking(&rt, &channel)?, Ok(1));
     /// assert_eq!(rt; receiver.recv_blocking(&rt, &channel)?, Err(RecvError));
@@ -231,43 +276,69 @@ impl<T: Drop> Receiver<T> {
         ensures ended { IfOk result (λ answer. IfErr answer
             (λ _. (got_by self.new ≡ got_by self.old) × (has_ended self.new ≡ true))) }
         ensures memory { IfErr result (λ _. IsAsItWas self.old self.new) }
+        ensures closed { receiver_closed self.new ≡ receiver_closed self.old }
     {
         let ruled = &channel.ruled;
         ruled.recv_blocking_as::<Whole, Whole, R>(rt, &mut self.pass)
     }
 
-    /// Receives messages until the channel is closed and empty. If memory is refused, it closes the
-    /// channel, so that nobody waits to send, and what it had received is gone.
+    /// Takes the oldest message, if there is one. If there is none, the error says whether the
+    /// channel is closed.
+    ///
+    /// ```
+    /// let (channel, mut hub) = bounded(rt.alloc(), 4)?;
+    /// let sender: Sender<u64> = hub.sender(&channel);
+    /// let mut receiver = hub.receiver(&channel);
+    /// assert_eq!(rt; receiver.try_recv(&rt, &channel), Err(TryRecvError::Empty));
+    /// drop(sender);
+    /// ```
+    pub fn try_recv<R: Wait>(&mut self, rt: &R, channel: &Channel<T>) -> Result<T, TryRecvError>
+        requires own { IsReceiverOf channel.now self.old }
+        ensures own { IsReceiverOf channel.now self.new }
+        ensures got { IfOk result
+            (λ message. got_by self.new ≡ got_by self.old ++ message ∷ []) }
+        ensures refused { IfErr result (FoundNone self.old self.new) }
+        ensures closed { receiver_closed self.new ≡ receiver_closed self.old }
+    {
+        let ruled = &channel.ruled;
+        ruled.try_recv_as::<Whole, Whole, Unruled, R>(rt, &mut self.pass)
+    }
+
+    /// Receives messages until the channel is closed and empty, and puts each at the end of a list.
+    /// If memory is refused, it closes the channel, so that nobody waits to send. All that came is in
+    /// the list then too: there is room in it before a message is taken.
     ///
     /// ```
     /// let (channel, mut hub) = bounded(rt.alloc(), 4)?;
     /// let mut sender = hub.sender(&channel);
     /// let mut receiver = hub.receiver(&channel);
-    /// assert_eq!(rt; sender.send_all(&rt, &channel, &[1, 2]), 2);
+    /// assert_eq!(rt; sender.send_blocking(&rt, &channel, 1)?, Ok(()));
     /// sender.close(&rt, &channel);
-    /// let all = receiver.recv_all(&rt, rt.alloc(), &channel)?;
-    /// assert_eq!(rt; all.as_slice(), [1, 2].as_slice());
+    /// let mut all = Vec::new(rt.alloc());
+    /// receiver.recv_all(&rt, &channel, &mut all)?;
+    /// assert_eq!(rt; all.as_slice(), [1].as_slice());
     /// ```
+    #[tactic(auto, using(crate::proofs::Lists::one_got))]
     pub fn recv_all<R: Wait>(
         &mut self,
         rt: &R,
-        alloc: Global,
         channel: &Channel<T>,
-    ) -> Result<Vec<T>, OutOfMemory>
+        all: &mut Vec<T>,
+    ) -> Result<(), OutOfMemory>
         requires own { IsReceiverOf channel.now self.old }
         ensures own { IsReceiverOf channel.now self.new }
-        ensures got { IfOk result (λ all. got_by self.new ≡ got_by self.old ++ all.items) }
-        ensures ended { IfOk result (λ _. has_ended self.new ≡ true) }
+        ensures got { HasAdded self.old all.old.items self.new all.new.items }
+        ensures ended { OnOk result ((has_ended self.new ≡ true)
+            × (receiver_closed self.new ≡ receiver_closed self.old)) }
+        ensures memory { OnErr result (receiver_closed self.new ≡ true) }
     {
-        let mut all = Vec::new(alloc);
         for _ in rt.forever() {
+            if all.reserve(1).is_err() {
+                break;
+            }
             match self.recv_blocking(rt, channel) {
-                Ok(Ok(message)) => {
-                    if all.push(message).is_err() {
-                        break;
-                    }
-                }
-                Ok(Err(_)) => return Ok(all),
+                Ok(Ok(message)) => all.push_reserved(message),
+                Ok(Err(_)) => return Ok(()),
                 Err(_) => break,
             }
         }
@@ -282,7 +353,7 @@ impl<T: Drop> Receiver<T> {
     /// let mut sender = hub.sender(&channel);
     /// let mut receiver = hub.receiver(&channel);
     /// assert!(rt; receiver.close(&rt, &channel));
-    /// assert_eq!(rt; sender.send_all(&rt, &channel, &[1, 2]), 0);
+    /// assert_eq!(rt; sender.send_blocking(&rt, &channel, 1)?, Err(SendError(1)));
     /// ```
     pub fn close<R: Wait>(&mut self, rt: &R, channel: &Channel<T>) -> bool
         requires own { IsReceiverOf channel.now self.old }
@@ -291,6 +362,7 @@ impl<T: Drop> Receiver<T> {
             × (has_ended self.new ≡ has_ended self.old) }
         ensures closed { receiver_closed self.new ≡ true }
         ensures again { receiver_closed self.old ≡ true → result ≡ false }
+        ensures ended { has_ended self.old ≡ true → result ≡ false }
     {
         channel.ruled.close_as::<Whole, R>(rt, &mut self.pass)
     }
@@ -298,7 +370,7 @@ impl<T: Drop> Receiver<T> {
 
 impl<T: Drop> Hub<T> {
     ghost use Rattle.ruled_channel_rules.specs.Handles.{IsHubOf, IsSenderOf, IsReceiverOf, sent_by, got_by, sender_closed, receiver_closed, has_ended, known};
-    ghost use Rattle.ruled_channel_rules.specs.Merged.{IsMergeOf, AllArrived};
+    ghost use Rattle.ruled_channel_rules.specs.Merged.{IsMergeOf, HaveArrived, AllArrived, Leaves};
     ghost use Rattle.ruled_channel_rules.specs.Whole.{hub_log, one_sender_more, one_receiver_more, together, sender_log, receiver_log};
 
     /// A sender.
@@ -343,12 +415,13 @@ impl<T: Drop> Hub<T> {
     /// let (channel, mut hub) = bounded(rt.alloc(), 4)?;
     /// let mut sender = hub.sender(&channel);
     /// let mut receiver = hub.receiver(&channel);
-    /// assert_eq!(rt; sender.send_all(&rt, &channel, &[1, 2]), 2);
+    /// assert_eq!(rt; sender.send_blocking(&rt, &channel, 1)?, Ok(()));
     /// sender.close(&rt, &channel);
-    /// let all = receiver.recv_all(&rt, rt.alloc(), &channel)?;
+    /// let mut all = Vec::new(rt.alloc());
+    /// receiver.recv_all(&rt, &channel, &mut all)?;
     /// hub.take_sender(&channel, sender);
     /// hub.settle_to_one(&rt, &channel, receiver);
-    /// assert_eq!(rt; all.as_slice(), [1, 2].as_slice());
+    /// assert_eq!(rt; all.as_slice(), [1].as_slice());
     /// ```
     pub fn take_sender(&mut self, channel: &Channel<T>, sender: Sender<T>)
         requires own { IsHubOf channel.now self.old × IsSenderOf channel.now sender }
@@ -366,13 +439,14 @@ impl<T: Drop> Hub<T> {
     /// let (channel, mut hub) = bounded(rt.alloc(), 4)?;
     /// let mut sender = hub.sender(&channel);
     /// let mut receiver = hub.receiver(&channel);
-    /// assert_eq!(rt; sender.send_all(&rt, &channel, &[1, 2]), 2);
+    /// assert_eq!(rt; sender.send_blocking(&rt, &channel, 1)?, Ok(()));
     /// sender.close(&rt, &channel);
-    /// let all = receiver.recv_all(&rt, rt.alloc(), &channel)?;
+    /// let mut all = Vec::new(rt.alloc());
+    /// receiver.recv_all(&rt, &channel, &mut all)?;
     /// hub.take_sender(&channel, sender);
     /// hub.take_receiver(&channel, receiver);
     /// hub.settle(&rt, &channel);
-    /// assert_eq!(rt; all.as_slice(), [1, 2].as_slice());
+    /// assert_eq!(rt; all.as_slice(), [1].as_slice());
     /// ```
     pub fn take_receiver(&mut self, channel: &Channel<T>, receiver: Receiver<T>)
         requires own { IsHubOf channel.now self.old × IsReceiverOf channel.now receiver }
@@ -384,45 +458,51 @@ impl<T: Drop> Hub<T> {
         channel.ruled.absorb::<Whole>(&mut self.pass, pass);
     }
 
-    /// Learns, once all are back and the end was found, that all that was sent arrived.
+    /// Learns, once all are back, what arrived and what is held still, and answers how much that is.
+    /// If the end was found, all that was sent arrived.
     ///
     /// ```
     /// let (channel, mut hub) = bounded(rt.alloc(), 4)?;
     /// let mut sender = hub.sender(&channel);
     /// let mut receiver = hub.receiver(&channel);
-    /// assert_eq!(rt; sender.send_all(&rt, &channel, &[1, 2]), 2);
+    /// assert_eq!(rt; sender.send_blocking(&rt, &channel, 1)?, Ok(()));
     /// sender.close(&rt, &channel);
-    /// let all = receiver.recv_all(&rt, rt.alloc(), &channel)?;
+    /// let mut all = Vec::new(rt.alloc());
+    /// receiver.recv_all(&rt, &channel, &mut all)?;
     /// hub.take_sender(&channel, sender);
     /// hub.take_receiver(&channel, receiver);
     /// hub.settle(&rt, &channel);
-    /// assert_eq!(rt; all.as_slice(), [1, 2].as_slice());
+    /// assert_eq!(rt; all.as_slice(), [1].as_slice());
     /// ```
-    pub fn settle<R: Wait>(&mut self, rt: &R, channel: &Channel<T>)
+    pub fn settle<R: Wait>(&mut self, rt: &R, channel: &Channel<T>) -> usize
         requires own { IsHubOf channel.now self.old }
         requires senders { length (known self.old).sent ≡ (known self.old).senders }
         requires receivers { length (known self.old).got ≡ (known self.old).receivers }
-        requires ended { (known self.old).ended ≡ true }
         ensures own { IsHubOf channel.now self.new × (known self.new ≡ known self.old) }
-        ensures arrived { AllArrived (known self.old).sent (known self.old).got }
-        ensures each_once { IsPermutation (flat_map (λ list. list) (known self.old).got)
+        ensures held { Leaves result
+            (λ held. HaveArrived (known self.old).sent (known self.old).got held) }
+        ensures arrived { (known self.old).ended ≡ true
+            → AllArrived (known self.old).sent (known self.old).got }
+        ensures each_once { (known self.old).ended ≡ true
+            → IsPermutation (flat_map (λ list. list) (known self.old).got)
             (flat_map (λ list. list) (known self.old).sent) }
     {
-        channel.ruled.learn_as::<Whole, R>(rt, &mut self.pass);
+        channel.ruled.learn_as::<Whole, R>(rt, &mut self.pass).len
     }
 
-    /// Learns of one sender and one receiver, once the receiver found the end, that what was
-    /// received is what was sent.
+    /// Learns of one sender and one receiver that what was received is the beginning of what was
+    /// sent, and answers how much is held still. If the receiver found the end, it is all.
     ///
     /// ```
     /// let (channel, mut hub) = bounded(rt.alloc(), 4)?;
     /// let mut sender = hub.sender(&channel);
     /// let mut receiver = hub.receiver(&channel);
-    /// assert_eq!(rt; sender.send_all(&rt, &channel, &[1, 2]), 2);
+    /// assert_eq!(rt; sender.send_blocking(&rt, &channel, 1)?, Ok(()));
     /// sender.close(&rt, &channel);
-    /// let all = receiver.recv_all(&rt, rt.alloc(), &channel)?;
+    /// let mut all = Vec::new(rt.alloc());
+    /// receiver.recv_all(&rt, &channel, &mut all)?;
     /// hub.settle_pair(&rt, &channel, sender, receiver);
-    /// assert_eq!(rt; all.as_slice(), [1, 2].as_slice());
+    /// assert_eq!(rt; all.as_slice(), [1].as_slice());
     /// ```
     pub fn settle_pair<R: Wait>(
         self,
@@ -430,42 +510,49 @@ impl<T: Drop> Hub<T> {
         channel: &Channel<T>,
         sender: Sender<T>,
         receiver: Receiver<T>,
-    )
+    ) -> usize
         requires own { IsHubOf channel.now self × IsSenderOf channel.now sender
             × IsReceiverOf channel.now receiver }
         requires pair { known self ≡ hub_log 1 1 }
-        requires ended { has_ended receiver ≡ true }
-        ensures { got_by receiver ≡ sent_by sender }
+        ensures begun { Leaves result (λ held. sent_by sender ≡ got_by receiver ++ held) }
+        ensures whole { has_ended receiver ≡ true → got_by receiver ≡ sent_by sender }
     {
         let mut all = self;
         all.take_sender(channel, sender);
-        all.take_receiver(channel, receiver);
-        all.settle(rt, channel);
+        all.settle_to_one(rt, channel, receiver)
     }
 
-    /// Learns of several senders and one receiver, once the receiver found the end, that each
-    /// sender's messages were received, in its order.
+    /// Learns of several senders and one receiver that what was received, and then what is held
+    /// still, are the messages of all senders, each one's in its order, and answers how much is
+    /// held. If the receiver found the end, that is nothing.
     ///
     /// ```
     /// let (channel, mut hub) = bounded(rt.alloc(), 4)?;
     /// let mut sender = hub.sender(&channel);
     /// let mut receiver = hub.receiver(&channel);
-    /// assert_eq!(rt; sender.send_all(&rt, &channel, &[1, 2]), 2);
+    /// assert_eq!(rt; sender.send_blocking(&rt, &channel, 1)?, Ok(()));
     /// sender.close(&rt, &channel);
-    /// let all = receiver.recv_all(&rt, rt.alloc(), &channel)?;
+    /// let mut all = Vec::new(rt.alloc());
+    /// receiver.recv_all(&rt, &channel, &mut all)?;
     /// hub.take_sender(&channel, sender);
     /// hub.settle_to_one(&rt, &channel, receiver);
-    /// assert_eq!(rt; all.as_slice(), [1, 2].as_slice());
+    /// assert_eq!(rt; all.as_slice(), [1].as_slice());
     /// ```
-    pub fn settle_to_one<R: Wait>(self, rt: &R, channel: &Channel<T>, receiver: Receiver<T>)
+    pub fn settle_to_one<R: Wait>(
+        self,
+        rt: &R,
+        channel: &Channel<T>,
+        receiver: Receiver<T>,
+    ) -> usize
         requires own { IsHubOf channel.now self × IsReceiverOf channel.now receiver }
         requires one { ((known self).receivers ≡ 1) × ((known self).got ≡ []) }
         requires senders { length (known self).sent ≡ (known self).senders }
-        requires ended { has_ended receiver ≡ true }
-        ensures { IsMergeOf (got_by receiver) (known self).sent }
+        ensures held { Leaves result
+            (λ held. IsMergeOf (got_by receiver ++ held) (known self).sent) }
+        ensures whole { has_ended receiver ≡ true → IsMergeOf (got_by receiver) (known self).sent }
     {
         let mut all = self;
         all.take_receiver(channel, receiver);
-        all.settle(rt, channel);
+        all.settle(rt, channel)
     }
 }

@@ -22,5 +22,5 @@ mod sending;
 
 pub use handles::{Channel, Hub, Receiver, Sender, bounded, unbounded};
 pub use receiving::{Collect, Recv};
-pub use ruled_channel::{NoMemory, OutOfMemory, RecvError, SendError};
+pub use ruled_channel::{NoMemory, OutOfMemory, RecvError, SendError, TryRecvError, TrySendError};
 pub use sending::{Send, SendEach};

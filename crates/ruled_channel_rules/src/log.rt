@@ -1,6 +1,6 @@
 //! The rule, and what each step tells.
 ghost use Rattle.std.specs.Prelude.{◌≡◌, [], true, false};
-ghost use Rattle.ruled_channel_rules.specs.Merged.{AllArrived};
+ghost use Rattle.ruled_channel_rules.specs.Merged.{HaveArrived, AllArrived};
 ghost use Rattle.ruled_channel_rules.specs.Whole.{IsWhole, hub_log, sender_log, receiver_log, spent_log, with_sent, with_got, with_closed, with_end, one_sender_more, one_receiver_more, together};
 
 use ruled_channel::{AtEnd, Closed, Join, Lesson, Protocol, Received, Sent, Split};
@@ -13,7 +13,7 @@ pub struct Log<T> {
     /// How many it has made.
     pub senders: u64,
     pub receivers: u64,
-    /// Whether it knows that the channel is closed.
+    /// Whether it has closed the channel.
     pub closed: bool,
     /// Whether it found the channel closed and empty.
     pub ended: bool,
@@ -44,11 +44,13 @@ impl<T> AtEnd<Log<T>> for Whole {
 }
 
 impl<T> Closed<Log<T>> for Whole {
-    ghost then = { λ v was_open w. (w ≡ with_closed v) × (v.closed ≡ true → was_open ≡ false) };
+    ghost then = { λ v was_open w. (w ≡ with_closed v)
+        × (v.closed ≡ true → was_open ≡ false) × (v.ended ≡ true → was_open ≡ false) };
 }
 
 impl<T> Lesson<T, Log<T>> for Whole {
-    ghost fact = { λ v messages closed. AllArrived v.sent v.got };
+    ghost fact = { λ v messages closed. HaveArrived v.sent v.got messages
+        × (v.ended ≡ true → AllArrived v.sent v.got) };
 }
 
 impl<T> Join<Log<T>> for Whole {

@@ -12,7 +12,6 @@ use futures::future::Future;
 use futures::ready;
 use futures::task::{Context, Poll};
 use ruled_channel::{OutOfMemory, RecvError};
-use std::alloc::Global;
 use std::snapshot::Snapshot;
 use std::sync::Wait;
 
@@ -139,7 +138,8 @@ impl<T: Drop, R: Wait> Recv<'_, '_, T, R> {
 /// ```
 /// let (channel, mut hub) = bounded(rt.alloc(), 4)?;
 /// let receiver = hub.receiver(&channel);
-/// let mut collect: Collect<'_, '_, u64, _> = receiver.collect(&rt, rt.alloc(), &channel);
+/// let list = Vec::new(rt.alloc());
+/// let mut collect: Collect<'_, '_, u64, _> = receiver.collect(&rt, &channel, list);
 /// assert!(rt; collect.give_up().1.is_empty());
 /// ```
 #[derive(Drop)]
@@ -150,55 +150,64 @@ pub struct Collect<'r, 'c, T: Drop, R: Wait> {
     parts: Option<(Recv<'r, 'c, T, R>, Vec<T>)>,
     // What it began with.
     receiver: Snapshot<Receiver<T>>,
+    list: Snapshot<Vec<T>>,
 }
 
 impl<T: Drop> Receiver<T> {
     ghost use Rattle.ruled_channel_rules.specs.Collecting.{MayCollect};
 
-    /// Receives messages, in a task, as `recv_all` does: until the channel is closed and empty. If
-    /// memory is refused, it closes the channel, so that nobody waits to send, and what it had
-    /// received is gone.
+    /// Receives messages, in a task, as `recv_all` does: until the channel is closed and empty, or
+    /// memory is refused, and then it closes the channel. It gives the receiver, and the list with
+    /// all that came.
     ///
     /// ```
     /// let (channel, mut hub) = bounded(rt.alloc(), 4)?;
     /// let mut sender = hub.sender(&channel);
-    /// assert_eq!(rt; sender.send_all(&rt, &channel, &[1, 2]), 2);
+    /// assert_eq!(rt; sender.send_blocking(&rt, &channel, 1)?, Ok(()));
     /// sender.close(&rt, &channel);
-    /// let collect = hub.receiver(&channel).collect(&rt, rt.alloc(), &channel);
-    /// let (receiver, all) = block_on(&rt, collect)?;
-    /// assert_eq!(rt; all?.as_slice(), [1, 2].as_slice());
+    /// let collect = hub.receiver(&channel).collect(&rt, &channel, Vec::new(rt.alloc()));
+    /// let (receiver, all, received) = block_on(&rt, collect)?;
+    /// assert_eq!(rt; received, Ok(()));
+    /// assert_eq!(rt; all.as_slice(), [1].as_slice());
     /// drop(receiver);
     /// ```
     pub fn collect<'r, 'c, R: Wait>(
         self,
         rt: &'r R,
-        alloc: Global,
         channel: &'c Channel<T>,
+        list: Vec<T>,
     ) -> Collect<'r, 'c, T, R>
         requires own { IsReceiverOf channel.now self }
-        ensures may { MayCollect result.channel.now result.receiver.value result.parts }
-        ensures of { (result.channel.now ≡ channel.now) × (result.receiver.value ≡ self) }
+        ensures may { MayCollect result.channel.now result.receiver.value result.list.value.items
+            result.parts }
+        ensures of { (result.channel.now ≡ channel.now) × (result.receiver.value ≡ self)
+            × (result.list.value ≡ list) }
     {
         let receiver = Snapshot::of(&self);
+        let first = Snapshot::of(&list);
         Collect {
             rt,
             channel,
-            parts: Some((self.recv(rt, channel), Vec::new(alloc))),
+            parts: Some((self.recv(rt, channel), list)),
             receiver,
+            list: first,
         }
     }
 }
 
+/// The receiver, the list with what came, and whether memory was refused.
+type Collected<T> = (Receiver<T>, Vec<T>, Result<(), OutOfMemory>);
+
 impl<T: Drop, R: Wait> Future for Collect<'_, '_, T, R> {
     ghost use Rattle.ruled_channel_rules.specs.Collecting.{MayCollect, TellsCollected, waits_at};
 
-    type Output = (Receiver<T>, Result<Vec<T>, OutOfMemory>);
+    type Output = Collected<T>;
 
-    ghost can_poll = { λ f. MayCollect f.channel.now f.receiver.value f.parts };
+    ghost can_poll = { λ f. MayCollect f.channel.now f.receiver.value f.list.value.items f.parts };
 
     ghost needs = { λ f. waits_at f.parts };
 
-    ghost gives = { λ f. TellsCollected f.channel.now f.receiver.value };
+    ghost gives = { λ f. TellsCollected f.channel.now f.receiver.value f.list.value.items };
 
     fn poll(&mut self, cx: &mut Context<'_>) -> Poll<Self::Output> {
         for _ in 0..BUDGET {
@@ -213,19 +222,21 @@ impl<T: Drop, R: Wait> Future for Collect<'_, '_, T, R> {
 impl<T: Drop, R: Wait> Collect<'_, '_, T, R> {
     ghost use Rattle.ruled_channel_rules.specs.Collecting.{MayCollect, TellsCollected, HasGot, waits_at};
 
-    /// Gives it up before it was ready: its receiver, and what it received.
+    /// Gives it up before it was ready: its receiver, and the list with what came.
     ///
     /// ```
     /// let (channel, mut hub) = bounded(rt.alloc(), 4)?;
-    /// let receiver = hub.receiver(&channel);
-    /// let mut collect: Collect<'_, '_, u64, _> = receiver.collect(&rt, rt.alloc(), &channel);
+    /// let list: Vec<u64> = Vec::new(rt.alloc());
+    /// let mut collect = hub.receiver(&channel).collect(&rt, &channel, list);
     /// let (receiver, messages) = collect.give_up();
     /// assert!(rt; messages.is_empty());
     /// drop(receiver);
     /// ```
     pub fn give_up(&mut self) -> (Receiver<T>, Vec<T>)
-        requires may { MayCollect self.old.channel.now self.old.receiver.value self.old.parts }
-        ensures { HasGot self.old.channel.now self.old.receiver.value result.1.items result.0 }
+        requires may { MayCollect self.old.channel.now self.old.receiver.value
+            self.old.list.value.items self.old.parts }
+        ensures { HasGot self.old.channel.now self.old.receiver.value self.old.list.value.items
+            result.0 result.1.items }
     {
         let Some((mut receive, all)) = self.parts.take() else {
             unreachable!()
@@ -234,48 +245,52 @@ impl<T: Drop, R: Wait> Collect<'_, '_, T, R> {
     }
 
     // Polls the receive that waits, and begins the next one after a message.
-    fn advance(
-        &mut self,
-        cx: &mut Context<'_>,
-    ) -> Poll<Option<(Receiver<T>, Result<Vec<T>, OutOfMemory>)>>
-        requires { MayCollect self.old.channel.now self.old.receiver.value self.old.parts }
-        ensures done { IfReady result (λ done. IfSome done
-            (TellsCollected self.old.channel.now self.old.receiver.value)) }
-        ensures goes_on { IfReady result (λ done. IfNone done
-            (MayCollect self.old.channel.now self.old.receiver.value self.new.parts)) }
-        ensures again { OnPending result
-            (MayCollect self.old.channel.now self.old.receiver.value self.new.parts) }
+    #[tactic(auto, using(crate::proofs::Lists::one_got))]
+    fn advance(&mut self, cx: &mut Context<'_>) -> Poll<Option<Collected<T>>>
+        requires { MayCollect self.old.channel.now self.old.receiver.value
+            self.old.list.value.items self.old.parts }
+        ensures done { IfReady result (λ done. IfSome done (TellsCollected self.old.channel.now
+            self.old.receiver.value self.old.list.value.items)) }
+        ensures goes_on { IfReady result (λ done. IfNone done (MayCollect self.old.channel.now
+            self.old.receiver.value self.old.list.value.items self.new.parts)) }
+        ensures again { OnPending result (MayCollect self.old.channel.now
+            self.old.receiver.value self.old.list.value.items self.new.parts) }
         ensures registered { OnPending result (Covers cx.new (waits_at self.new.parts)) }
         ensures stays { (self.new.channel.now ≡ self.old.channel.now)
-            × (self.new.receiver.value ≡ self.old.receiver.value) }
+            × (self.new.receiver.value ≡ self.old.receiver.value)
+            × (self.new.list.value ≡ self.old.list.value) }
         ensures kept { Keeps cx.old cx.new }
     {
         let Some((mut receive, mut all)) = self.parts.take() else {
             unreachable!()
         };
+        if all.reserve(1).is_err() {
+            let receiver = receive.give_up();
+            return Poll::Ready(Some(self.refuse(receiver, all)));
+        }
         let Poll::Ready((receiver, got)) = receive.poll(cx) else {
             self.parts = Some((receive, all));
             return Poll::Pending;
         };
         match got {
             Ok(Ok(message)) => {
-                if all.push(message).is_err() {
-                    return Poll::Ready(Some((self.refuse(receiver), Err(OutOfMemory))));
-                }
+                all.push_reserved(message);
                 self.parts = Some((receiver.recv(self.rt, self.channel), all));
                 Poll::Ready(None)
             }
-            Ok(Err(_)) => Poll::Ready(Some((receiver, Ok(all)))),
-            Err(_) => Poll::Ready(Some((self.refuse(receiver), Err(OutOfMemory)))),
+            Ok(Err(_)) => Poll::Ready(Some((receiver, all, Ok(())))),
+            Err(_) => Poll::Ready(Some(self.refuse(receiver, all))),
         }
     }
 
     // Memory was refused: nobody is to wait to send.
-    fn refuse(&self, mut receiver: Receiver<T>) -> Receiver<T>
-        requires { IsReceiverOf self.now.channel.now receiver }
-        ensures { IsReceiverOf self.now.channel.now result }
+    fn refuse(&self, mut receiver: Receiver<T>, all: Vec<T>) -> Collected<T>
+        requires { HasGot self.now.channel.now self.now.receiver.value self.now.list.value.items
+            receiver all.items }
+        ensures { TellsCollected self.now.channel.now self.now.receiver.value
+            self.now.list.value.items result }
     {
         receiver.close(self.rt, self.channel);
-        receiver
+        (receiver, all, Err(OutOfMemory))
     }
 }

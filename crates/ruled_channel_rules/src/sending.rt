@@ -11,6 +11,7 @@ use futures::future::Future;
 use futures::ready;
 use futures::task::{Context, Poll};
 use ruled_channel::{NoMemory, SendError, Unruled};
+use std::collections::VecDeque;
 use std::mem;
 use std::snapshot::Snapshot;
 use std::sync::Wait;
@@ -163,66 +164,73 @@ impl<T: Drop, R: Wait> Send<'_, '_, T, R> {
     }
 }
 
-/// A send of several messages, one after another, that owns its sender and gives it back with how
-/// many were sent.
+/// A send of several messages, one after another, that owns its sender and its messages, and gives
+/// back the sender, and what was not sent.
 ///
-/// Dropping it sends no more, and its sender is dropped with it. `give_up` keeps it.
+/// Dropping it sends no more, and its sender and its messages are dropped with it. `give_up` keeps
+/// them.
 ///
 /// ```
 /// let (channel, mut hub) = bounded(rt.alloc(), 4)?;
 /// let sender: Sender<u64> = hub.sender(&channel);
-/// let mut send: SendEach<'_, '_, '_, _, _> = sender.send_each(&rt, &channel, &[1, 2]);
-/// assert!(rt; matches!(send.give_up(), (_, 0)));
+/// let messages = VecDeque::from(vec![in rt.alloc(); 1, 2]?);
+/// let mut send: SendEach<'_, '_, _, _> = sender.send_each(&rt, &channel, messages);
+/// let (sender, waits, rest) = send.give_up();
+/// assert_eq!(rt; (waits, rest.len()), (None, 2));
+/// drop(sender);
 /// ```
 #[derive(Drop)]
-pub struct SendEach<'r, 'c, 'm, T: Drop, R: Wait> {
+pub struct SendEach<'r, 'c, T: Drop, R: Wait> {
     rt: &'r R,
     channel: &'c Channel<T>,
-    messages: &'m [T],
-    // How many were sent.
-    sent: usize,
     closes: bool,
-    turn: Turn<Sender<T>, Send<'r, 'c, T, R>>,
+    turn: Turn<Sender<T>, Send<'r, 'c, T, R>, VecDeque<T>>,
     // What it began with.
     sender: Snapshot<Sender<T>>,
+    messages: Snapshot<VecDeque<T>>,
 }
 
-/// What a send of several messages does next.
+/// What a send of several messages does next, and the messages after that.
 #[derive(Drop)]
-pub enum Turn<S, F> {
+pub enum Turn<S, F, M> {
     // The sender is at hand.
-    Next(S),
-    // The next message is being sent.
-    Wait(F),
+    Next(S, M),
+    // A message is being sent.
+    Wait(F, M),
     Over,
 }
 
-impl<T: Copy + Drop> Sender<T> {
+/// The sender, what was not sent, and the answer of the last message.
+type SentEach<T> = (Sender<T>, VecDeque<T>, Sent<T>);
+
+impl<T: Drop> Sender<T> {
     ghost use Rattle.ruled_channel_rules.specs.SendingEach.{MaySendEach};
 
     /// Sends messages, in a task, as `send_all` does: until one can't be sent, as the channel is
-    /// closed or memory was refused. It gives the sender, and how many were sent.
+    /// closed or memory was refused. It gives the sender, the messages after that one, and the
+    /// answer of the last, which has it.
     ///
     /// ```
     /// let (channel, mut hub) = bounded(rt.alloc(), 4)?;
     /// let mut receiver = hub.receiver(&channel);
-    /// let send = hub.sender(&channel).send_each(&rt, &channel, &[1, 2]);
-    /// let (sender, sent) = block_on(&rt, send)?;
-    /// assert_eq!(rt; sent, 2);
+    /// let messages = VecDeque::from(vec![in rt.alloc(); 1, 2]?);
+    /// let send = hub.sender(&channel).send_each(&rt, &channel, messages);
+    /// let (sender, rest, sent) = block_on(&rt, send)?;
+    /// assert_eq!(rt; (rest.len(), sent), (0, Ok(Ok(()))));
     /// assert_eq!(rt; receiver.recv_blocking(&rt, &channel)?, Ok(1));
     /// drop(sender);
     /// ```
-    pub fn send_each<'r, 'c, 'm, R: Wait>(
+    pub fn send_each<'r, 'c, R: Wait>(
         self,
         rt: &'r R,
         channel: &'c Channel<T>,
-        messages: &'m [T],
-    ) -> SendEach<'r, 'c, 'm, T, R>
+        messages: VecDeque<T>,
+    ) -> SendEach<'r, 'c, T, R>
         requires own { IsSenderOf channel.now self }
-        ensures may { MaySendEach result.channel.now result.sender.value result.messages.now
-            result.sent result.turn }
+        ensures may { MaySendEach result.channel.now result.sender.value
+            result.messages.value.items result.turn }
         ensures of { (result.channel.now ≡ channel.now) × (result.sender.value ≡ self)
-            × (result.messages.now ≡ messages.now) }
+            × (result.messages.value ≡ messages) }
         ensures open { result.closes ≡ false }
     {
         self.each(rt, channel, messages, false)
@@ -233,150 +241,155 @@ impl<T: Copy + Drop> Sender<T> {
     /// ```
     /// let (channel, mut hub) = bounded(rt.alloc(), 4)?;
     /// let mut receiver = hub.receiver(&channel);
-    /// let send = hub.sender(&channel).send_each_and_close(&rt, &channel, &[1, 2]);
-    /// let (sender, sent) = block_on(&rt, send)?;
-    /// assert_eq!(rt; sent, 2);
-    /// let all = receiver.recv_all(&rt, rt.alloc(), &channel)?;
+    /// let messages = VecDeque::from(vec![in rt.alloc(); 1, 2]?);
+    /// let send = hub.sender(&channel).send_each_and_close(&rt, &channel, messages);
+    /// let (sender, _, sent) = block_on(&rt, send)?;
+    /// assert_eq!(rt; sent, Ok(Ok(())));
+    /// let mut all = Vec::new(rt.alloc());
+    /// receiver.recv_all(&rt, &channel, &mut all)?;
     /// assert_eq!(rt; all.as_slice(), [1, 2].as_slice());
     /// drop(sender);
     /// ```
-    pub fn send_each_and_close<'r, 'c, 'm, R: Wait>(
+    pub fn send_each_and_close<'r, 'c, R: Wait>(
         self,
         rt: &'r R,
         channel: &'c Channel<T>,
-        messages: &'m [T],
-    ) -> SendEach<'r, 'c, 'm, T, R>
+        messages: VecDeque<T>,
+    ) -> SendEach<'r, 'c, T, R>
         requires own { IsSenderOf channel.now self }
-        ensures may { MaySendEach result.channel.now result.sender.value result.messages.now
-            result.sent result.turn }
+        ensures may { MaySendEach result.channel.now result.sender.value
+            result.messages.value.items result.turn }
         ensures of { (result.channel.now ≡ channel.now) × (result.sender.value ≡ self)
-            × (result.messages.now ≡ messages.now) }
+            × (result.messages.value ≡ messages) }
         ensures closes { result.closes ≡ true }
     {
         self.each(rt, channel, messages, true)
     }
 
     // A send of these messages that closes the channel when it is done, or not.
-    fn each<'r, 'c, 'm, R: Wait>(
+    fn each<'r, 'c, R: Wait>(
         self,
         rt: &'r R,
         channel: &'c Channel<T>,
-        messages: &'m [T],
+        messages: VecDeque<T>,
         closes: bool,
-    ) -> SendEach<'r, 'c, 'm, T, R>
+    ) -> SendEach<'r, 'c, T, R>
         requires own { IsSenderOf channel.now self }
-        ensures may { MaySendEach result.channel.now result.sender.value result.messages.now
-            result.sent result.turn }
+        ensures may { MaySendEach result.channel.now result.sender.value
+            result.messages.value.items result.turn }
         ensures of { (result.channel.now ≡ channel.now) × (result.sender.value ≡ self)
-            × (result.messages.now ≡ messages.now) }
+            × (result.messages.value ≡ messages) }
         ensures closes { result.closes ≡ closes }
     {
         let sender = Snapshot::of(&self);
+        let all = Snapshot::of(&messages);
         SendEach {
             rt,
             channel,
-            messages,
-            sent: 0,
             closes,
-            turn: Turn::Next(self),
+            turn: Turn::Next(self, messages),
             sender,
+            messages: all,
         }
     }
 }
 
-impl<T: Drop, R: Wait> SendEach<'_, '_, '_, T, R> {
-    ghost use Rattle.ruled_channel_rules.specs.SendingEach.{MaySendEach, HasSent};
+impl<T: Drop, R: Wait> SendEach<'_, '_, T, R> {
+    ghost use Rattle.std.specs.Prelude.{option_to_list, ◌++◌};
+    ghost use Rattle.ruled_channel_rules.specs.SendingEach.{MaySendEach, HasSentBut, TellsSentEach, waits_at};
 
-    /// Gives it up before it was ready: its sender, and how many messages were sent.
+    /// Gives it up before it was ready: its sender, the message that waited to be sent, if one did,
+    /// and the messages after it.
     ///
     /// ```
     /// let (channel, mut hub) = bounded(rt.alloc(), 4)?;
-    /// let mut send = hub.sender(&channel).send_each(&rt, &channel, &[1, 2]);
-    /// let (sender, sent) = send.give_up();
-    /// assert_eq!(rt; sent, 0);
+    /// let messages = VecDeque::from(vec![in rt.alloc(); 1, 2]?);
+    /// let mut send = hub.sender(&channel).send_each(&rt, &channel, messages);
+    /// let (sender, waits, rest) = send.give_up();
+    /// assert_eq!(rt; (waits, rest.len()), (None, 2));
     /// drop(sender);
     /// ```
-    pub fn give_up(&mut self) -> (Sender<T>, usize)
+    pub fn give_up(&mut self) -> (Sender<T>, Option<T>, VecDeque<T>)
         requires may { MaySendEach self.old.channel.now self.old.sender.value
-            self.old.messages.now self.old.sent self.old.turn }
-        ensures { HasSent self.old.channel.now self.old.sender.value self.old.messages.now
-            result.1 result.0 }
+            self.old.messages.value.items self.old.turn }
+        ensures { HasSentBut self.old.channel.now self.old.sender.value
+            self.old.messages.value.items (option_to_list result.1 ++ result.2.items) result.0 }
     {
         match mem::replace(&mut self.turn, Turn::Over) {
-            Turn::Next(sender) => (sender, self.sent),
-            Turn::Wait(mut send) => (send.give_up().0, self.sent),
+            Turn::Next(sender, rest) => (sender, None, rest),
+            Turn::Wait(mut send, rest) => {
+                let (sender, message) = send.give_up();
+                (sender, Some(message), rest)
+            }
             Turn::Over => unreachable!(),
         }
     }
-}
-
-impl<T: Copy + Drop, R: Wait> SendEach<'_, '_, '_, T, R> {
-    ghost use Rattle.ruled_channel_rules.specs.SendingEach.{MaySendEach, HasSent, waits_at};
 
     // Makes one step: begins the next send, or polls the one that waits.
-    fn advance(&mut self, cx: &mut Context<'_>) -> Poll<Option<Sender<T>>>
-        requires { MaySendEach self.old.channel.now self.old.sender.value self.old.messages.now
-            self.old.sent self.old.turn }
-        ensures done { IfReady result (λ done. IfSome done
-            (HasSent self.old.channel.now self.old.sender.value self.old.messages.now
-            self.new.sent)) }
-        ensures goes_on { IfReady result (λ done. IfNone done
-            (MaySendEach self.old.channel.now self.old.sender.value self.old.messages.now
-            self.new.sent self.new.turn)) }
-        ensures again { OnPending result
-            (MaySendEach self.old.channel.now self.old.sender.value self.old.messages.now
-            self.new.sent self.new.turn) }
+    #[tactic(auto, using(crate::proofs::Lists::one_sent, crate::proofs::Lists::all_sent))]
+    fn advance(&mut self, cx: &mut Context<'_>) -> Poll<Option<SentEach<T>>>
+        requires { MaySendEach self.old.channel.now self.old.sender.value
+            self.old.messages.value.items self.old.turn }
+        ensures done { IfReady result (λ done. IfSome done (λ out.
+            TellsSentEach self.old.channel.now self.old.sender.value
+            self.old.messages.value.items false out)) }
+        ensures goes_on { IfReady result (λ done. IfNone done (MaySendEach self.old.channel.now
+            self.old.sender.value self.old.messages.value.items self.new.turn)) }
+        ensures again { OnPending result (MaySendEach self.old.channel.now
+            self.old.sender.value self.old.messages.value.items self.new.turn) }
         ensures registered { OnPending result (Covers cx.new (waits_at self.new.turn)) }
         ensures stays { (self.new.channel.now ≡ self.old.channel.now)
             × (self.new.sender.value ≡ self.old.sender.value)
-            × (self.new.messages.now ≡ self.old.messages.now)
+            × (self.new.messages.value ≡ self.old.messages.value)
             × (self.new.closes ≡ self.old.closes) }
         ensures kept { Keeps cx.old cx.new }
     {
         match mem::replace(&mut self.turn, Turn::Over) {
-            Turn::Next(sender) => {
-                if self.sent == self.messages.len() {
-                    return Poll::Ready(Some(sender));
-                }
-                let message = self.messages[self.sent];
-                self.turn = Turn::Wait(sender.send(self.rt, self.channel, message));
+            Turn::Next(sender, mut rest) => {
+                let Some(message) = rest.pop_front() else {
+                    return Poll::Ready(Some((sender, rest, Ok(Ok(())))));
+                };
+                self.turn = Turn::Wait(sender.send(self.rt, self.channel, message), rest);
                 Poll::Ready(None)
             }
-            Turn::Wait(mut send) => match send.poll(cx) {
-                Poll::Ready((sender, Ok(Ok(())))) => {
-                    self.sent += 1;
-                    self.turn = Turn::Next(sender);
-                    Poll::Ready(None)
+            Turn::Wait(mut send, rest) => {
+                let Poll::Ready((sender, sent)) = send.poll(cx) else {
+                    self.turn = Turn::Wait(send, rest);
+                    return Poll::Pending;
+                };
+                match sent {
+                    Ok(Ok(())) => {
+                        self.turn = Turn::Next(sender, rest);
+                        Poll::Ready(None)
+                    }
+                    Ok(Err(refused)) => Poll::Ready(Some((sender, rest, Ok(Err(refused))))),
+                    Err(refused) => Poll::Ready(Some((sender, rest, Err(refused)))),
                 }
-                Poll::Ready((sender, _)) => Poll::Ready(Some(sender)),
-                Poll::Pending => {
-                    self.turn = Turn::Wait(send);
-                    Poll::Pending
-                }
-            },
+            }
             Turn::Over => unreachable!(),
         }
     }
 }
 
-impl<T: Copy + Drop, R: Wait> Future for SendEach<'_, '_, '_, T, R> {
+impl<T: Drop, R: Wait> Future for SendEach<'_, '_, T, R> {
     ghost use Rattle.ruled_channel_rules.specs.SendingEach.{MaySendEach, TellsSentEach, waits_at};
 
-    type Output = (Sender<T>, usize);
+    type Output = SentEach<T>;
 
-    ghost can_poll = { λ f. MaySendEach f.channel.now f.sender.value f.messages.now f.sent f.turn };
+    ghost can_poll = { λ f. MaySendEach f.channel.now f.sender.value f.messages.value.items f.turn };
 
     ghost needs = { λ f. waits_at f.turn };
 
-    ghost gives = { λ f. TellsSentEach f.channel.now f.sender.value f.messages.now f.closes };
+    ghost gives = { λ f. TellsSentEach f.channel.now f.sender.value f.messages.value.items
+        f.closes };
 
     fn poll(&mut self, cx: &mut Context<'_>) -> Poll<Self::Output> {
         for _ in 0..BUDGET {
-            if let Some(mut sender) = ready!(self.advance(cx)) {
+            if let Some((mut sender, rest, sent)) = ready!(self.advance(cx)) {
                 if self.closes {
                     sender.close(self.rt, self.channel);
                 }
-                return Poll::Ready((sender, self.sent));
+                return Poll::Ready((sender, rest, sent));
             }
         }
         cx.yield_now()

@@ -2,7 +2,6 @@
 use crate::answer::{Answer, Counted};
 use crate::line::{Line, Messages, Way};
 use crate::operation::{Kept, Operation, Streamed, Tasks};
-use crate::subject::{Subject, Waiting};
 use anyhow::{Result, anyhow};
 use async_channel::inspect::{Waiters, who_waits};
 use async_channel::{
@@ -16,6 +15,15 @@ use std::alloc::{AllocGlobal, Global};
 use std::collections::{BTreeMap, VecDeque};
 use std::random::RandomSource;
 use std::sync::Wait;
+
+/// Who may wait.
+#[derive(Clone, Copy)]
+pub struct Waiting {
+    pub who: Who,
+    pub group: Group,
+    /// Whether the task of its last poll was woken since.
+    pub is_woken: bool,
+}
 
 /// All that is live. An operation has a copy of its handle.
 #[derive(Drop)]
@@ -180,21 +188,17 @@ impl<'a, R: Wait + Clone + Drop + RandomSource + AllocGlobal> Handles<'a, R> {
         let operation = Operation::new(kept, Tasks::new(self.rt)?);
         put(&mut self.operations, op, operation)
     }
-}
 
-impl<R: Wait + Clone + Drop + RandomSource + AllocGlobal> Subject for Handles<'_, R> {
-    fn has(&self, _line: Line) -> bool {
-        true
-    }
-
-    fn first_sides(&self) -> (Option<u64>, Option<u64>) {
+    /// A sender and a receiver that answer questions, the first of each.
+    pub fn first_sides(&self) -> (Option<u64>, Option<u64>) {
         (
             self.senders.keys().next().copied(),
             self.receivers.keys().next().copied(),
         )
     }
 
-    fn waiting(&self) -> Result<Vec<Waiting>> {
+    /// All whose tasks may be woken.
+    pub fn waiting(&self) -> Result<Vec<Waiting>> {
         let mut all = Vec::new(self.alloc);
         for (op, operation) in self.operations.iter() {
             all.push(Waiting {
@@ -213,11 +217,13 @@ impl<R: Wait + Clone + Drop + RandomSource + AllocGlobal> Subject for Handles<'_
         Ok(all)
     }
 
-    fn counted(&self, group: Group) -> Option<Waiters> {
-        Some(who_waits(&self.observer, group))
+    /// How many wait in a group, and how many of them are told.
+    pub fn counted(&self, group: Group) -> Waiters {
+        who_waits(&self.observer, group)
     }
 
-    fn poll(&mut self, who: Who) -> Result<Reply<u64>> {
+    /// Polls who may wait.
+    pub fn poll(&mut self, who: Who) -> Result<Reply<u64>> {
         match who {
             Who::Op(op) => match self.operations.get_mut(&op) {
                 Some(operation) => operation.poll(),
@@ -230,7 +236,8 @@ impl<R: Wait + Clone + Drop + RandomSource + AllocGlobal> Subject for Handles<'_
         }
     }
 
-    fn make(&mut self, line: Line) -> Result<Answer> {
+    /// Makes the call of a line.
+    pub fn make(&mut self, line: Line) -> Result<Answer> {
         match line {
             Line::One(step) => Ok(Answer::Replied(self.step(step)?)),
             Line::SendBlocking { sender, message } => {
@@ -247,9 +254,7 @@ impl<R: Wait + Clone + Drop + RandomSource + AllocGlobal> Subject for Handles<'_
             line => self.make_batch(line),
         }
     }
-}
 
-impl<'a, R: Wait + Clone + Drop + RandomSource + AllocGlobal> Handles<'a, R> {
     fn make_batch(&mut self, line: Line) -> Result<Answer> {
         match line {
             Line::SendMany {

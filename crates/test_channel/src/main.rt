@@ -1,31 +1,32 @@
-//! Makes scripts with a channel and with a run, and compares the two.
+//! Makes scripts with the handles of a channel and with a run, and compares the two.
 //!
-//! Each script is made twice: with the plain handles of a channel, and with a channel under the rule
-//! that asks nothing, without the lines that it has no call for. After each line it compares the
-//! answer, what the channel says of itself, and who was told with who was woken.
+//! After each line it compares the answer, what the channel says of itself, and who was told with who
+//! was woken.
 //!
 //! The arguments are how many random scripts to make, the seed of the first one, and the files
-//! whose rows are made first; if there are no random scripts, by plain handles alone. A call that is refused memory is made again, if it changed nothing;
-//! the program doesn't end well then.
+//! whose rows are made first. Behind random scripts it makes the rows that no script has; with one
+//! argument, the row of that name; with none, these rows. A call that is refused memory is made
+//! again, if it changed nothing; the program doesn't end well then.
 #![tactic(auto)]
 
 mod answer;
-mod channels;
 mod draw;
 mod handles;
 mod judge;
 mod line;
+mod many;
+mod maps;
 mod operation;
+mod others;
 mod pair;
+mod records;
 mod refused;
 mod rows;
-mod ruled;
-mod ruled_operation;
 mod shortest;
-mod subject;
 mod words;
 mod writer;
 
+use crate::pair::make_all;
 use crate::rows::Rows;
 use crate::shortest::shortest;
 use crate::writer::script_of;
@@ -48,18 +49,9 @@ pub struct Sums {
 }
 
 impl Sums {
-    fn with(self, more: Sums) -> Sums {
-        Sums {
-            scripts: self.scripts.saturating_add(more.scripts),
-            lines: self.lines.saturating_add(more.lines),
-            differences: self.differences.saturating_add(more.differences),
-            was_refused: self.was_refused || more.was_refused,
-        }
-    }
-
-    /// Whether they are of some lines, nothing differs, and no call was refused memory.
+    /// Whether they are of some lines, and nothing differs.
     fn is_good(self) -> bool {
-        self.lines > 0 && self.differences == 0 && !self.was_refused
+        self.lines > 0 && self.differences == 0
     }
 }
 
@@ -71,7 +63,7 @@ where
     let mut sums = Sums::default();
     for number in 0..count {
         let script = script_of(rt.alloc(), seed.wrapping_add(number))?;
-        let outcome = channels::make(rt, script.kind, script.lines.as_slice())?;
+        let outcome = make_all(rt, script.kind, script.lines.as_slice())?;
         sums.scripts = sums.scripts.saturating_add(1);
         sums.lines = sums.lines.saturating_add(outcome.lines);
         sums.was_refused |= outcome.was_refused;
@@ -86,57 +78,56 @@ where
 }
 
 /// The rows of all files, and how many of their lines aren't as they say.
-fn rows_of<R>(rt: &R, files: &[String], is_ruled: bool) -> Result<Sums>
+fn rows_of<R>(rt: &R, files: &[String]) -> Result<Sums>
 where
     R: Wait + Clone + Drop + RandomSource + AllocGlobal + Print + Files,
 {
-    let mut sums = Sums::default();
+    let mut rows = Rows::new(rt);
     for file in files {
         let text = fs::read_to_string(rt, file.as_str())?;
-        let mut rows = Rows::new(rt, file.as_str(), is_ruled);
-        rows.make_all(text.as_str())?;
-        sums = sums.with(rows.sums());
+        rows.make_all(file.as_str(), text.as_str())?;
     }
-    Ok(sums)
+    Ok(rows.sums)
 }
 
-fn number_of(words: &[String], place: usize) -> Result<u64> {
-    let word = words
-        .get(place)
-        .ok_or_else(|| anyhow!("a number is missing"))?;
-    word.as_str()
-        .parse::<u64>()
+fn number_of(word: &str) -> Result<u64> {
+    word.parse::<u64>()
         .map_err(|_| anyhow!("{word} is no number"))
 }
 
 /// How the program ends. It says if a call was refused memory.
-fn ending(rt: &impl Eprint, sums: Sums) -> Result<ExitCode> {
-    if sums.was_refused {
+fn ending(rt: &impl Eprint, is_good: bool, was_refused: bool) -> Result<ExitCode> {
+    if was_refused {
         eprintln!(rt; "a call was refused memory, and made again")?;
     }
-    if sums.is_good() {
+    if is_good && !was_refused {
         return Ok(ExitCode::SUCCESS);
     }
     Ok(ExitCode::FAILURE)
 }
 
 fn main(rt: HostRuntime) -> Result<ExitCode> {
-    let words: Vec<String> = env::args(&rt)?.skip(1).collect(rt.alloc())?;
-    let count = number_of(words.as_slice(), 0)?;
-    let seed = number_of(words.as_slice(), 1)?;
-    let files = words.as_slice().get(2..).unwrap_or(&[]);
-    let rows = rows_of(&rt, files, count > 0)?;
+    let mut words = env::args(&rt)?.skip(1);
+    let (first, second) = (words.next(), words.next());
+    let (Some(count), Some(seed)) = (&first, &second) else {
+        let was_refused = others::make(&rt, first.as_deref())?;
+        return ending(&rt, true, was_refused);
+    };
+    let (count, seed) = (number_of(count.as_str())?, number_of(seed.as_str())?);
+    let files: Vec<String> = words.collect(rt.alloc())?;
+    let rows = rows_of(&rt, files.as_slice())?;
     println!(rt;
         "{} rows, {} lines, {} differences",
         rows.scripts, rows.lines, rows.differences
     )?;
     if count == 0 || (!files.is_empty() && !rows.is_good()) {
-        return ending(&rt, rows);
+        return ending(&rt, rows.is_good(), rows.was_refused);
     }
     let random = compare(&rt, count, seed)?;
     println!(rt;
         "{} random scripts, {} lines, {} differences",
         random.scripts, random.lines, random.differences
     )?;
-    ending(&rt, random)
+    let was_refused = others::make(&rt, None)? || rows.was_refused || random.was_refused;
+    ending(&rt, random.is_good(), was_refused)
 }

@@ -45,13 +45,6 @@ impl Tasks {
         }
     }
 
-    /// Forgets that the task of the last poll was woken.
-    pub fn rest(&self) {
-        if let Some(task) = self.last() {
-            task.enter(|_| ());
-        }
-    }
-
     /// Whether the task of the last poll was woken since.
     pub fn is_woken(&self) -> bool {
         self.last().is_some_and(|task| task.is_woken())

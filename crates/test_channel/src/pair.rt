@@ -1,21 +1,23 @@
-//! One script, made by a channel and by the run.
+//! One script, made by a channel and by a run.
 ghost use Rattle.channel_model.specs.Capacity.{HasPositiveCapacity};
 
 use crate::answer::Answer;
+use crate::handles::{Handles, Waiting};
 use crate::judge::Judge;
 use crate::line::Line;
 use crate::refused::{rest_of, wants_memory};
-use crate::subject::{Subject, Waiting};
 use anyhow::{Result, anyhow};
 use async_channel::Group;
 use channel_model::{Kind, Notice, Reply, Side, Step, Who};
 use chanrun::reply_text::{ReplyText, WhoText};
-use std::alloc::Global;
+use std::alloc::{AllocGlobal, Global};
+use std::random::RandomSource;
+use std::sync::Wait;
 
 /// What came of a line.
 #[derive(Drop)]
 pub enum Made {
-    /// Nothing: the channel has no such call, or would block.
+    /// Nothing: the call would block.
     Skipped,
     /// Nothing: the run refuses it.
     Refused(Answer),
@@ -35,12 +37,12 @@ pub struct Outcome {
 
 /// A channel whose handles have names, and the run that judges it.
 #[derive(Drop)]
-pub struct Pair<S: Drop> {
+pub struct Pair<'a, R: Wait + Clone + Drop> {
     alloc: Global,
     judge: Judge,
-    subject: S,
+    handles: Handles<'a, R>,
     /// Whether a call was refused memory, and made again.
-    was_refused: bool,
+    pub was_refused: bool,
 }
 
 const GROUPS: [Group; 4] = [
@@ -65,27 +67,20 @@ fn question(number: usize, side: Side) -> Step<u64> {
     }
 }
 
-impl<S: Subject + Drop> Pair<S> {
-    pub fn new(alloc: Global, kind: Kind, subject: S) -> Result<Pair<S>>
+impl<'a, R: Wait + Clone + Drop + RandomSource + AllocGlobal> Pair<'a, R> {
+    pub fn new(rt: &'a R, kind: Kind) -> Result<Pair<'a, R>>
         requires { HasPositiveCapacity kind }
     {
         Ok(Pair {
-            alloc,
-            judge: Judge::new(alloc, kind)?,
-            subject,
+            alloc: rt.alloc(),
+            judge: Judge::new(rt.alloc(), kind)?,
+            handles: Handles::new(rt, kind)?,
             was_refused: false,
         })
     }
 
-    pub fn was_refused(&self) -> bool {
-        self.was_refused
-    }
-
     /// Makes a line with both, and compares.
     pub fn make(&mut self, line: Line) -> Result<Made> {
-        if !self.subject.has(line) {
-            return Ok(Made::Skipped);
-        }
         let made = match line {
             Line::Settle => self.settle()?,
             line => self.make_once(line)?,
@@ -124,14 +119,14 @@ impl<S: Subject + Drop> Pair<S> {
     /// Makes a call. One that is refused memory changes nothing, and is made again.
     fn call(&mut self, line: Line) -> Result<Answer> {
         let before = self.shown()?;
-        match self.subject.make(line) {
+        match self.handles.make(line) {
             Ok(answer) if !wants_memory(line, &answer) => return Ok(answer),
             _ => self.was_refused = true,
         }
         if self.shown()? != before {
             return Err(anyhow!("{line} changed something, but was refused memory"));
         }
-        self.subject
+        self.handles
             .make(line)
             .map_err(|_| anyhow!("{line} was refused memory twice"))
     }
@@ -139,20 +134,19 @@ impl<S: Subject + Drop> Pair<S> {
     /// What the channel says of itself, who waits, and who was woken.
     fn shown(&mut self) -> Result<Vec<Answer>> {
         let mut all = Vec::new(self.alloc);
-        let (sender, receiver) = self.subject.first_sides();
+        let (sender, receiver) = self.handles.first_sides();
         let sides = [sender.map(Side::Sender), receiver.map(Side::Receiver)];
         for side in sides.into_iter().flatten() {
             for number in 0..QUESTIONS {
-                all.push(self.subject.make(Line::One(question(number, side)))?)?;
+                all.push(self.handles.make(Line::One(question(number, side)))?)?;
             }
         }
         for group in GROUPS {
-            if let Some(counted) = self.subject.counted(group) {
-                all.push(Answer::Replied(Reply::Count(counted.waiting)))?;
-                all.push(Answer::Replied(Reply::Count(counted.told)))?;
-            }
+            let counted = self.handles.counted(group);
+            all.push(Answer::Replied(Reply::Count(counted.waiting)))?;
+            all.push(Answer::Replied(Reply::Count(counted.told)))?;
         }
-        for one in self.subject.waiting()? {
+        for one in self.handles.waiting()? {
             all.push(Answer::Replied(Reply::Flag(one.is_woken)))?;
         }
         Ok(all)
@@ -165,7 +159,7 @@ impl<S: Subject + Drop> Pair<S> {
             let Some((who, expected)) = self.judge.poll_first_told() else {
                 return Ok(Made::Answered(Answer::Settled(polls, ready)));
             };
-            let reply = self.subject.poll(who)?;
+            let reply = self.handles.poll(who)?;
             if reply != expected {
                 let text = self.of_poll(who, reply, expected)?;
                 return Ok(Made::Differs(text));
@@ -184,12 +178,15 @@ impl<S: Subject + Drop> Pair<S> {
 
     /// What the channel says of itself otherwise than the run does.
     fn difference(&mut self) -> Result<Option<String>> {
-        let (sender, receiver) = self.subject.first_sides();
-        if let Some(difference) = self.of_side(sender.map(Side::Sender))? {
-            return Ok(Some(difference));
-        }
-        if let Some(difference) = self.of_side(receiver.map(Side::Receiver))? {
-            return Ok(Some(difference));
+        let (sender, receiver) = self.handles.first_sides();
+        let sides = [sender.map(Side::Sender), receiver.map(Side::Receiver)];
+        for side in sides.into_iter().flatten() {
+            for number in 0..QUESTIONS {
+                let difference = self.of_question(question(number, side))?;
+                if difference.is_some() {
+                    return Ok(difference);
+                }
+            }
         }
         if let Some(receiver) = receiver {
             let difference = self.of_question(Step::IsTerminated(receiver))?;
@@ -200,23 +197,10 @@ impl<S: Subject + Drop> Pair<S> {
         self.of_waiting()
     }
 
-    fn of_side(&mut self, side: Option<Side>) -> Result<Option<String>> {
-        let Some(side) = side else {
-            return Ok(None);
-        };
-        for number in 0..QUESTIONS {
-            let difference = self.of_question(question(number, side))?;
-            if difference.is_some() {
-                return Ok(difference);
-            }
-        }
-        Ok(None)
-    }
-
     fn of_question(&mut self, question: Step<u64>) -> Result<Option<String>> {
         let line = Line::One(question);
         let expected = Answer::Replied(self.judge.ask(question));
-        let answer = self.subject.make(line)?;
+        let answer = self.handles.make(line)?;
         if answer == expected {
             return Ok(None);
         }
@@ -226,7 +210,7 @@ impl<S: Subject + Drop> Pair<S> {
 
     /// Who was woken and not told, or told and not woken; and whether others wait than should.
     fn of_waiting(&self) -> Result<Option<String>> {
-        let all = self.subject.waiting()?;
+        let all = self.handles.waiting()?;
         for one in &all {
             let (who, is_told) = (one.who, self.judge.notice_of(one.who) == Notice::Told);
             if one.is_woken != is_told {
@@ -235,9 +219,7 @@ impl<S: Subject + Drop> Pair<S> {
             }
         }
         for group in GROUPS {
-            let Some(counted) = self.subject.counted(group) else {
-                continue;
-            };
+            let counted = self.handles.counted(group);
             let expected = self.expected_in(group, all.as_slice());
             if (counted.waiting, counted.told) != expected {
                 let (waiting, told) = (counted.waiting, counted.told);
@@ -276,7 +258,7 @@ impl<S: Subject + Drop> Pair<S> {
     /// Those who were woken since their last poll, as a row has them.
     pub fn woken_text(&self) -> Result<String> {
         let mut text = String::new(self.alloc);
-        for one in self.subject.waiting()?.iter().filter(|one| one.is_woken) {
+        for one in self.handles.waiting()?.iter().filter(|one| one.is_woken) {
             text.push_str(format!(in self.alloc; " {}", WhoText(one.who))?.as_str())?;
         }
         Ok(text)
@@ -284,8 +266,12 @@ impl<S: Subject + Drop> Pair<S> {
 }
 
 /// Makes lines in order with both, up to the first difference.
-pub fn make_all<S: Subject + Drop>(mut pair: Pair<S>, lines: &[Line]) -> Result<Outcome> {
-    let mut made = 0u64;
+pub fn make_all<R>(rt: &R, kind: Kind, lines: &[Line]) -> Result<Outcome>
+where
+    R: Wait + Clone + Drop + RandomSource + AllocGlobal,
+    requires { HasPositiveCapacity kind }
+{
+    let (mut pair, mut made) = (Pair::new(rt, kind)?, 0u64);
     for line in lines {
         match pair.make(*line)? {
             Made::Skipped | Made::Refused(_) => {}
@@ -307,12 +293,15 @@ pub fn make_all<S: Subject + Drop>(mut pair: Pair<S>, lines: &[Line]) -> Result<
 }
 
 /// The lines, with what is said of each, up to what differs.
-pub fn said_of_all<S: Subject + Drop>(mut pair: Pair<S>, lines: &[Line]) -> Result<String> {
-    let alloc = pair.alloc;
-    let mut text = String::new(alloc);
+pub fn said_of_all<R>(rt: &R, kind: Kind, lines: &[Line]) -> Result<String>
+where
+    R: Wait + Clone + Drop + RandomSource + AllocGlobal,
+    requires { HasPositiveCapacity kind }
+{
+    let (mut pair, mut text) = (Pair::new(rt, kind)?, String::new(rt.alloc()));
     for line in lines {
         let said = pair.said(*line)?;
-        text.push_str(format!(in alloc; "    {line}{said}\n")?.as_str())?;
+        text.push_str(format!(in rt.alloc(); "    {line}{said}\n")?.as_str())?;
     }
     Ok(text)
 }

@@ -1,7 +1,7 @@
 //! The shortest script that shows a difference.
 ghost use Rattle.channel_model.specs.Capacity.{HasPositiveCapacity};
 
-use crate::channels::{make, said_of};
+use crate::pair::{make_all, said_of_all};
 use crate::writer::Script;
 use anyhow::Result;
 use channel_model::Kind;
@@ -28,7 +28,7 @@ where
             if place < fewer.len() {
                 fewer.remove(place);
             }
-            if make(rt, kind, fewer.as_slice())?.difference.is_some() {
+            if make_all(rt, kind, fewer.as_slice())?.difference.is_some() {
                 lines = fewer;
             }
         }
@@ -46,7 +46,7 @@ impl Script {
             Kind::Bounded(capacity) => println!(rt; "    bounded {capacity}")?,
             Kind::Unbounded => println!(rt; "    unbounded")?,
         }
-        print!(rt; "{}", said_of(rt, self.kind, self.lines.as_slice())?)?;
+        print!(rt; "{}", said_of_all(rt, self.kind, self.lines.as_slice())?)?;
         Ok(())
     }
 }

@@ -1,8 +1,16 @@
-//! Tests of waiting lists, of a queue and of a core, by public calls alone.
+//! Tests of waiting lists, cores, runs and scripts, by public calls alone.
 #![tactic(auto)]
 
 #[cfg(test)]
 mod cores;
+#[cfg(test)]
+mod devices;
+#[cfg(test)]
+mod ends;
+#[cfg(test)]
+mod hostile;
+#[cfg(test)]
+mod large;
 #[cfg(test)]
 mod lists;
 #[cfg(test)]
@@ -11,3 +19,9 @@ mod log;
 mod plain;
 #[cfg(test)]
 mod plain_agrees;
+#[cfg(test)]
+mod replay;
+#[cfg(test)]
+mod scripts;
+#[cfg(test)]
+mod steps;

@@ -14,6 +14,8 @@ struct Entry<W> {
 pub struct PlainList<W> {
     entries: Vec<Entry<W>>,
     told: usize,
+    // The key of the next entry: each has another one.
+    next_key: usize,
 }
 
 impl<W: Drop> PlainList<W> {
@@ -21,22 +23,13 @@ impl<W: Drop> PlainList<W> {
         PlainList {
             entries: Vec::new(alloc),
             told: 0,
+            next_key: 0,
         }
     }
 
     // The place of a key among the entries.
     fn place_of(&self, key: usize) -> Option<usize> {
         self.entries.iter().position(|entry| entry.key == key)
-    }
-
-    // A key that none of the entries has.
-    fn fresh_key(&self) -> usize {
-        for key in 0..self.entries.len() {
-            if self.place_of(key).is_none() {
-                return key;
-            }
-        }
-        self.entries.len()
     }
 
     // Takes an entry out. The answer is whether it was told.
@@ -52,7 +45,8 @@ impl<W: Drop> PlainList<W> {
     }
 
     pub fn listen(&mut self, w: W) -> Result<usize, AllocError> {
-        let key = self.fresh_key();
+        let key = self.next_key;
+        self.next_key = key.saturating_add(1);
         self.entries.push(Entry {
             key,
             payload: Some(w),

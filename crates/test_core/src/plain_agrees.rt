@@ -10,7 +10,6 @@ use std::test::Fail;
 const CALLS: usize = 10_000;
 
 // Both lists, their logs, and the entries' names in each.
-#[derive(Drop)]
 struct Pair {
     linked: WaitList<u64>,
     plain: PlainList<u64>,
@@ -31,22 +30,22 @@ impl Pair {
     }
 
     // Makes the call that a word draws. The answer is whether both lists gave the same result.
-    fn call(&mut self, word: u64) -> Result<bool, Fail> {
+    fn call(&mut self, rt: &impl Abort, word: u64) -> Result<bool, Fail> {
         // The low bits of these words repeat soon.
         let draw = word >> 33;
         let (linked_log, plain_log) = (&mut self.linked_log, &mut self.plain_log);
         match draw % 64 {
-            0..16 => self.listen(word),
+            0..16 => self.listen(rt, word),
             16..28 => Ok(self.linked.tell_one(linked_log) == self.plain.tell_one(plain_log)),
             28 => Ok(self.linked.tell_all(linked_log) == self.plain.tell_all(plain_log)),
             kind => self.call_named(kind, draw / 64, word),
         }
     }
 
-    fn listen(&mut self, payload: u64) -> Result<bool, Fail> {
-        let linked = listen(&mut self.linked, payload)?;
+    fn listen(&mut self, rt: &impl Abort, payload: u64) -> Result<bool, Fail> {
         let plain = self.plain.listen(payload)?;
-        self.names.push((linked, plain))?;
+        let linked = listen(rt, &mut self.linked, payload);
+        self.names.push((linked, plain)).expect(rt, "memory");
         Ok(true)
     }
 
@@ -70,6 +69,24 @@ impl Pair {
         self.plain.cancel(plain, &mut self.plain_log);
         Ok(true)
     }
+
+    // Takes all entries out.
+    fn end(self, rt: &impl Abort) {
+        let Pair {
+            mut linked,
+            mut names,
+            plain: _,
+            linked_log: _,
+            plain_log: _,
+        } = self;
+        for _ in 0..CALLS {
+            if let Some((ticket, _)) = names.pop() {
+                linked.remove(ticket);
+            }
+        }
+        assert!(rt; names.is_empty());
+        names.destroy_empty();
+    }
 }
 
 fn agrees(rt: &impl Abort, pair: &mut Pair) -> Result<(), Fail> {
@@ -78,7 +95,7 @@ fn agrees(rt: &impl Abort, pair: &mut Pair) -> Result<(), Fail> {
         word = word
             .wrapping_mul(6364136223846793005)
             .wrapping_add(1442695040888963407);
-        assert!(rt; pair.call(word)?, "the results of call {turn}");
+        assert!(rt; pair.call(rt, word)?, "the results of call {turn}");
         assert_eq!(rt; pair.linked.len(), pair.plain.len(), "at call {turn}");
         assert_eq!(rt; pair.linked.told(), pair.plain.told(), "at call {turn}");
         assert!(rt;
@@ -91,5 +108,8 @@ fn agrees(rt: &impl Abort, pair: &mut Pair) -> Result<(), Fail> {
 
 #[test]
 fn the_plain_list_agrees(rt: HostRuntime) -> Result<(), Fail> {
-    agrees(&rt, &mut Pair::new(rt.alloc()))
+    let mut pair = Pair::new(rt.alloc());
+    let agreed = agrees(&rt, &mut pair);
+    pair.end(&rt);
+    agreed
 }

@@ -18,7 +18,7 @@ use std::thread::{JoinHandle, Threads};
 #[derive(Clone, Copy, Debug)]
 enum Call {
     Recv,
-    /// Receives up to five messages.
+    /// Receives what there is, without a limit.
     RecvMany,
     Send(u64),
     /// Sends this message and the next.
@@ -63,7 +63,7 @@ impl Call {
                 Ok(Err(RecvError)) => Closed,
                 Err(_) => Otherwise,
             },
-            Call::RecvMany => match r.recv_many_blocking(&mut Vec::new(alloc), 5) {
+            Call::RecvMany => match r.recv_many_blocking(&mut Vec::new(alloc), usize::MAX) {
                 Ok(Ok(count)) => Batch(count),
                 Ok(Err(RecvError)) => Closed,
                 Err(_) => Otherwise,
@@ -311,7 +311,7 @@ where
     assert_eq!(rt; s.try_send_many(&mut from), Ok(Ok(2)));
     let both_wait = matches!(&task.poll(&mut first), Poll::Pending)
         && matches!(&other.poll(&mut second), Poll::Pending);
-    assert!(rt; matches!(thread.join(rt), Batch(_)));
+    assert_eq!(rt; thread.join(rt), Batch(2));
     Ok(both_wait.then_some(task.is_woken() && other.is_woken()))
 }
 

@@ -1,4 +1,4 @@
-//! Tests with real threads, of sizes beyond any limit, and of refused memory, by public calls alone.
+//! Tests with real threads, and of sizes beyond any limit, by public calls alone.
 #![tactic(auto)]
 
 #[cfg(test)]
@@ -10,15 +10,27 @@ mod books;
 #[cfg(test)]
 mod given_up;
 #[cfg(test)]
+mod lists;
+#[cfg(test)]
+mod locks;
+#[cfg(test)]
 mod many;
 #[cfg(test)]
 mod maps;
 #[cfg(test)]
 mod meeting;
 #[cfg(test)]
+mod party;
+#[cfg(test)]
 mod races;
 #[cfg(test)]
 mod refused;
+#[cfg(test)]
+mod ruled_blocked;
+#[cfg(test)]
+mod ruled_futures;
+#[cfg(test)]
+mod ruled_sizes;
 #[cfg(test)]
 mod seen;
 #[cfg(test)]

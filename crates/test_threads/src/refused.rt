@@ -1,9 +1,8 @@
 //! What a refused copy of a runtime leaves, and what goes with a handle.
 use async_channel::{
-    CloneError, MakeError, OutOfMemory, Receiver, Sender, StampMaker, WeakReceiver, WeakSender,
-    bounded, unbounded,
+    CloneError, OutOfMemory, Receiver, Sender, StampMaker, WeakReceiver, WeakSender, unbounded,
 };
-use std::alloc::{AllocError, Global};
+use std::alloc::AllocError;
 use std::process::Abort;
 use std::sync::Wait;
 use std::sync::atomic::{AtomicU64, Ordering};
@@ -143,36 +142,4 @@ fn what_goes_with_a_handle(rt: HostRuntime) -> Result<(), Fail> {
     refuses_and_gives_up(&runtime, &left, &live, s, r)?;
     assert_eq!(rt; (count(&live), count(&messages)), (0, 0));
     Ok(())
-}
-
-/// Whether neither kind of channel is made by a runtime, which can be copied so often.
-fn channels_are_refused<R: Wait + Clone + Drop + Abort>(
-    rt: &R,
-    alloc: Global,
-    left: &AtomicU64,
-    copies: u64,
-    maker: &mut StampMaker,
-) {
-    left.store(copies, Ordering::SeqCst);
-    let refused = bounded::<u64, _>(rt, alloc, 1, maker);
-    assert!(rt; matches!(&refused, Err(MakeError::OutOfMemory)));
-    left.store(copies, Ordering::SeqCst);
-    let refused = unbounded::<u64, _>(rt, alloc, maker);
-    assert!(rt; matches!(&refused, Err(MakeError::OutOfMemory)));
-}
-
-#[test]
-fn refused_copies_of_a_new_channel(rt: HostRuntime) {
-    let (left, live) = (AtomicU64::new(0), AtomicU64::new(0));
-    let copies = Copies {
-        left: &left,
-        live: &live,
-    };
-    let runtime = (rt, copies);
-    let mut maker = StampMaker::starting_at(u64::MAX);
-    for copies in 0..2 {
-        channels_are_refused(&runtime, rt.alloc(), &left, copies, &mut maker);
-        assert_eq!(rt; count(&live), 0);
-    }
-    assert!(rt; maker.draw().is_some());
 }

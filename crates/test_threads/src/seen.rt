@@ -13,24 +13,6 @@ use std::sync::atomic::{AtomicU64, Ordering};
 use std::test::Fail;
 use std::thread::Threads;
 
-/// How many messages are sent into a full channel.
-const FORCED: u64 = 15_000;
-
-/// Sends into a channel that is full with the message 0.
-#[derive(Drop)]
-struct Forces<'a, R: Wait + Clone + Drop>(&'a Sender<u64, R>);
-
-impl<R: Wait + Clone + Drop> Deed for Forces<'_, R> {
-    /// Whether each send hands out the message before.
-    fn act(&mut self) -> bool {
-        let mut are_well = true;
-        for message in 1..=FORCED {
-            are_well = are_well && self.0.force_send(message) == Ok(Ok(message.checked_sub(1)));
-        }
-        are_well
-    }
-}
-
 /// How many messages a channel may hold: one of these two.
 #[derive(Drop)]
 struct Holds<'a, R: Wait + Clone + Drop>(&'a Receiver<u64, R>, usize, usize);
@@ -40,14 +22,6 @@ impl<R: Wait + Clone + Drop> Sight for Holds<'_, R> {
         let held = self.0.len();
         held == self.1 || held == self.2
     }
-}
-
-#[test]
-fn a_forced_send_leaves_a_full_channel_full(rt: HostRuntime) -> Result<(), Fail> {
-    let (s, r) = channel(&rt, Some(1))?;
-    assert_eq!(rt; s.try_send(0), Ok(Ok(())));
-    assert!(rt; are_well(&rt, &mut Forces(&s), &Holds(&r, 1, 1)));
-    Ok(())
 }
 
 /// How many messages a batch has that goes in one round, and how often it is moved.
@@ -67,9 +41,9 @@ struct Counts {
     in_receives: AtomicU64,
 }
 
-/// Whether rounds that move multiples of this number can be of the right length.
-fn is_short(divisor: &AtomicU64) -> bool {
-    (1..=ROUND_LIMIT as u64).contains(&divisor.load(Ordering::SeqCst))
+/// Whether rounds of the right length move multiples of this number, and of no larger one.
+fn is_round(divisor: &AtomicU64) -> bool {
+    divisor.load(Ordering::SeqCst) == ROUND_LIMIT as u64
 }
 
 /// The largest number that divides both. Each divides 0.
@@ -93,10 +67,10 @@ impl Counts {
         }
     }
 
-    /// Whether the other thread came in between rounds that are as short as they should be, at
-    /// sends and at receives.
+    /// Whether the other thread came in between rounds that are as long as they should be, at sends
+    /// and at receives.
     fn are_seen(&self) -> bool {
-        is_short(&self.in_sends) && is_short(&self.in_receives)
+        is_round(&self.in_sends) && is_round(&self.in_receives)
     }
 }
 

@@ -145,12 +145,11 @@ impl<T> Blocks<T> {
     pub fn len(&self) -> usize {
         self.first.len() + self.later.as_ref().map_or(0, |later| later.values)
     }
+    /// Further blocks have no room to give back.
     #[inline]
     pub fn capacity(&self) -> usize {
-        let later = self.later.as_ref().map_or(0, |later| later.blocks.len());
-        self.first.capacity().saturating_add(later.saturating_mul(block_of::<T>()))
+        self.later.as_ref().map_or(self.first.capacity(), |_later| self.len())
     }
-    /// Further blocks have no room to give back.
     pub fn shrink_to(&mut self, capacity: usize) {
         if self.later.is_none() {
             self.first.shrink_to(capacity);

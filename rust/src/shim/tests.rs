@@ -248,6 +248,9 @@ fn a_map_is_in_the_order_of_its_keys() {
     assert!(map.values().eq(&[10, 20]));
     assert_eq!(map.remove(&2), Some(20));
     assert_eq!((map.get(&2), map.len()), (None, 1));
+    assert!(matches!(map.insert(0, 30), Ok(None)));
+    assert_eq!([(); 3].map(|()| map.pop_first()), [Some((0, 30)), Some((1, 10)), None]);
+    map.destroy_empty();
 }
 
 #[test]

@@ -148,10 +148,12 @@ impl<T: Drop, W: Drop> Core<T, W> {
     ///
     /// ```
     /// let mut core: Core<u64, ()> = Core::unbounded(rt.alloc());
+    /// let mut stream = None;
     /// assert!(rt; core.add_receiver());
-    /// assert!(rt; !core.drop_receiver(&mut None, &mut Quiet));
-    /// assert!(rt; core.drop_receiver(&mut None, &mut Quiet));
+    /// assert!(rt; !core.drop_receiver(&mut stream, &mut Quiet));
+    /// assert!(rt; core.drop_receiver(&mut stream, &mut Quiet));
     /// assert!(rt; core.is_closed());
+    /// Ticket::destroy_none(stream);
     /// ```
     #[tactic(auto, using(crate::proofs::Rings::rings_in_turn))]
     pub fn drop_receiver<B: Bell<W>>(&mut self, stream: &mut Option<Ticket>, bell: &mut B) -> bool

@@ -23,15 +23,16 @@ impl<T: Drop, W: Drop> Core<T, W> {
     ///
     /// ```
     /// let mut core: Core<u64, ()> = Core::bounded(rt.alloc(), 1)?;
-    /// let (mut message, mut ticket) = (Some(2), None);
     /// assert_eq!(rt; core.try_send(1, &mut Quiet)?, Ok(()));
-    /// let poll = core.poll_send(&mut message, &mut ticket, (), &mut Quiet)?;
-    /// assert!(rt; poll.is_pending());
+    /// let (mut message, mut ticket) = (Some(2), None);
+    /// let poll = core.poll_send(&mut message, &mut ticket, (), &mut Quiet);
+    /// assert_eq!(rt; poll, Ok(Poll::Pending));
     ///
     /// assert_eq!(rt; core.try_recv(&mut Quiet), Ok(1));
-    /// let poll = core.poll_send(&mut message, &mut ticket, (), &mut Quiet)?;
-    /// assert!(rt; poll.is_ready());
+    /// let poll = core.poll_send(&mut message, &mut ticket, (), &mut Quiet);
+    /// assert_eq!(rt; poll, Ok(Poll::Ready(Ok(()))));
     /// assert!(rt; message.is_none());
+    /// Ticket::destroy_none(ticket);
     /// ```
     #[inline(always)]
     pub fn poll_send<B: Bell<W>>(
@@ -71,15 +72,16 @@ impl<T: Drop, W: Drop> Core<T, W> {
     /// let mut core: Core<u64, u64> = Core::bounded(rt.alloc(), 1)?;
     /// assert_eq!(rt; core.try_send(1, &mut Quiet)?, Ok(()));
     /// let (mut message, mut ticket, mut w, mut back) = (Some(2), None, Some(10), None);
-    /// let poll = core.poll_send_with(&mut message, &mut ticket, &mut w, &mut Quiet, &mut back)?;
-    /// assert!(rt; poll.is_pending());
+    /// let poll = core.poll_send_with(&mut message, &mut ticket, &mut w, &mut Quiet, &mut back);
+    /// assert_eq!(rt; poll, Ok(Poll::Pending));
     /// assert_eq!(rt; (w, back), (None, None));
     ///
     /// assert!(rt; core.close(&mut Quiet));
     /// w = Some(11);
-    /// let poll = core.poll_send_with(&mut message, &mut ticket, &mut w, &mut Quiet, &mut back)?;
-    /// assert!(rt; poll.is_ready());
+    /// let poll = core.poll_send_with(&mut message, &mut ticket, &mut w, &mut Quiet, &mut back);
+    /// assert_eq!(rt; poll, Ok(Poll::Ready(Err(SendError(2)))));
     /// assert_eq!(rt; (w, back), (Some(11), None));
+    /// Ticket::destroy_none(ticket);
     /// ```
     #[inline(always)]
     pub fn poll_send_with<B: Bell<W>>(
@@ -149,12 +151,12 @@ impl<T: Drop, W: Drop> Core<T, W> {
     /// ```
     /// let mut core: Core<u64, ()> = Core::unbounded(rt.alloc());
     /// let mut ticket = None;
-    /// assert!(rt; core.poll_recv(&mut ticket, (), &mut Quiet)?.is_pending());
+    /// assert_eq!(rt; core.poll_recv(&mut ticket, (), &mut Quiet), Ok(Poll::Pending));
     /// assert!(rt; ticket.is_some());
     ///
-    /// assert_eq!(rt; core.try_send(1, &mut Quiet)?, Ok(()));
-    /// assert!(rt; core.poll_recv(&mut ticket, (), &mut Quiet)?.is_ready());
-    /// assert!(rt; ticket.is_none());
+    /// assert_eq!(rt; core.try_send(1, &mut Quiet), Ok(Ok(())));
+    /// assert_eq!(rt; core.poll_recv(&mut ticket, (), &mut Quiet), Ok(Poll::Ready(Ok(1))));
+    /// Ticket::destroy_none(ticket);
     /// ```
     #[inline(always)]
     pub fn poll_recv<B: Bell<W>>(
@@ -191,16 +193,18 @@ impl<T: Drop, W: Drop> Core<T, W> {
     /// ```
     /// let mut core: Core<u64, u64> = Core::unbounded(rt.alloc());
     /// let (mut ticket, mut w, mut back) = (None, None, None);
-    /// let poll = core.poll_recv_with(&mut ticket, &mut w, &mut Quiet, &mut back)?;
-    /// assert!(rt; poll.is_pending());
+    /// let poll = core.poll_recv_with(&mut ticket, &mut w, &mut Quiet, &mut back);
+    /// assert_eq!(rt; poll, Ok(Poll::Pending));
     /// assert!(rt; ticket.is_none());
     ///
     /// for payload in [10, 11] {
     ///     w = Some(payload);
-    ///     let poll = core.poll_recv_with(&mut ticket, &mut w, &mut Quiet, &mut back)?;
-    ///     assert!(rt; poll.is_pending());
+    ///     let poll = core.poll_recv_with(&mut ticket, &mut w, &mut Quiet, &mut back);
+    ///     assert_eq!(rt; poll, Ok(Poll::Pending));
     /// }
     /// assert_eq!(rt; back, Some(10));
+    /// core.cancel_recv(&mut ticket, &mut Quiet);
+    /// Ticket::destroy_none(ticket);
     /// ```
     #[inline(always)]
     pub fn poll_recv_with<B: Bell<W>>(
@@ -255,9 +259,10 @@ impl<T: Drop, W: Drop> Core<T, W> {
     /// ```
     /// let mut core: Core<u64, ()> = Core::unbounded(rt.alloc());
     /// let mut ticket = None;
-    /// assert!(rt; core.poll_next(&mut ticket, (), &mut Quiet)?.is_pending());
+    /// assert_eq!(rt; core.poll_next(&mut ticket, (), &mut Quiet), Ok(Poll::Pending));
     /// core.close(&mut Quiet);
-    /// assert!(rt; core.poll_next(&mut ticket, (), &mut Quiet)?.is_ready());
+    /// assert_eq!(rt; core.poll_next(&mut ticket, (), &mut Quiet), Ok(Poll::Ready(None)));
+    /// Ticket::destroy_none(ticket);
     /// ```
     pub fn poll_next<B: Bell<W>>(
         &mut self,
@@ -293,14 +298,15 @@ impl<T: Drop, W: Drop> Core<T, W> {
     /// ```
     /// let mut core: Core<u64, u64> = Core::unbounded(rt.alloc());
     /// let (mut ticket, mut w, mut back) = (None, Some(10), None);
-    /// let poll = core.poll_next_with(&mut ticket, &mut w, &mut Quiet, &mut back)?;
-    /// assert!(rt; poll.is_pending());
+    /// let poll = core.poll_next_with(&mut ticket, &mut w, &mut Quiet, &mut back);
+    /// assert_eq!(rt; poll, Ok(Poll::Pending));
     ///
     /// // The bell has the payload of one that is told.
     /// core.close(&mut Quiet);
-    /// let poll = core.poll_next_with(&mut ticket, &mut w, &mut Quiet, &mut back)?;
-    /// assert!(rt; poll.is_ready());
+    /// let poll = core.poll_next_with(&mut ticket, &mut w, &mut Quiet, &mut back);
+    /// assert_eq!(rt; poll, Ok(Poll::Ready(None)));
     /// assert_eq!(rt; back, None);
+    /// Ticket::destroy_none(ticket);
     /// ```
     pub fn poll_next_with<B: Bell<W>>(
         &mut self,
@@ -353,10 +359,12 @@ impl<T: Drop, W: Drop> Core<T, W> {
     ///
     /// ```
     /// let mut core: Core<u64, ()> = Core::unbounded(rt.alloc());
-    /// let mut ticket = None;
-    /// assert!(rt; core.poll_closed(&mut ticket, ())?.is_pending());
-    /// core.drop_receiver(&mut None, &mut Quiet);
-    /// assert!(rt; core.poll_closed(&mut ticket, ())?.is_ready());
+    /// let (mut ticket, mut stream) = (None, None);
+    /// assert_eq!(rt; core.poll_closed(&mut ticket, ()), Ok(Poll::Pending));
+    /// core.drop_receiver(&mut stream, &mut Quiet);
+    /// assert_eq!(rt; core.poll_closed(&mut ticket, ()), Ok(Poll::Ready(())));
+    /// Ticket::destroy_none(ticket);
+    /// Ticket::destroy_none(stream);
     /// ```
     pub fn poll_closed(&mut self, t: &mut Option<Ticket>, w: W) -> Result<Poll<()>, OutOfMemory>
         ensures reply { IfOk result (λ poll. poll ≡ closed_poll (self.old.receivers == 0)) }
@@ -386,9 +394,13 @@ impl<T: Drop, W: Drop> Core<T, W> {
     /// ```
     /// let mut core: Core<u64, u64> = Core::unbounded(rt.alloc());
     /// let (mut ticket, mut back) = (None, None);
-    /// assert!(rt; core.poll_closed_with(&mut ticket, &mut Some(10), &mut back)?.is_pending());
-    /// assert!(rt; core.poll_closed_with(&mut ticket, &mut Some(11), &mut back)?.is_pending());
+    /// for payload in [10, 11] {
+    ///     let poll = core.poll_closed_with(&mut ticket, &mut Some(payload), &mut back);
+    ///     assert_eq!(rt; poll, Ok(Poll::Pending));
+    /// }
     /// assert_eq!(rt; back, Some(10));
+    /// core.cancel_closed(&mut ticket);
+    /// Ticket::destroy_none(ticket);
     /// ```
     pub fn poll_closed_with(
         &mut self,
@@ -431,12 +443,13 @@ impl<T: Drop, W: Drop> Core<T, W> {
     ///
     /// ```
     /// let mut core: Core<u64, ()> = Core::bounded(rt.alloc(), 1)?;
-    /// let (mut message, mut ticket) = (Some(2), None);
     /// assert_eq!(rt; core.try_send(1, &mut Quiet)?, Ok(()));
-    /// let poll = core.poll_send(&mut message, &mut ticket, (), &mut Quiet)?;
-    /// assert!(rt; poll.is_pending());
+    /// let (mut message, mut ticket) = (Some(2), None);
+    /// let poll = core.poll_send(&mut message, &mut ticket, (), &mut Quiet);
+    /// assert_eq!(rt; poll, Ok(Poll::Pending));
     /// core.cancel_send(&mut ticket, &mut Quiet);
     /// assert_eq!(rt; core.waiting(Group::Sends), 0);
+    /// Ticket::destroy_none(ticket);
     /// ```
     pub fn cancel_send<B: Bell<W>>(&mut self, t: &mut Option<Ticket>, bell: &mut B)
         ensures after { self.new ≡ record self.old { sends = handed_on t.old self.old.sends } }
@@ -453,11 +466,12 @@ impl<T: Drop, W: Drop> Core<T, W> {
     ///
     /// ```
     /// let mut core: Core<u64, u64> = Core::bounded(rt.alloc(), 1)?;
-    /// let (mut message, mut ticket) = (Some(2), None);
     /// assert_eq!(rt; core.try_send(1, &mut Quiet)?, Ok(()));
-    /// let poll = core.poll_send(&mut message, &mut ticket, 10, &mut Quiet)?;
-    /// assert!(rt; poll.is_pending());
+    /// let (mut message, mut ticket) = (Some(2), None);
+    /// let poll = core.poll_send(&mut message, &mut ticket, 10, &mut Quiet);
+    /// assert_eq!(rt; poll, Ok(Poll::Pending));
     /// assert_eq!(rt; core.withdraw_send(&mut ticket, &mut Quiet), Some(10));
+    /// Ticket::destroy_none(ticket);
     /// ```
     pub fn withdraw_send<B: Bell<W>>(&mut self, t: &mut Option<Ticket>, bell: &mut B) -> Option<W>
         ensures given_back { result ≡ payload_held t.old self.old.sends }
@@ -476,14 +490,17 @@ impl<T: Drop, W: Drop> Core<T, W> {
     /// ```
     /// let mut core: Core<u64, ()> = Core::unbounded(rt.alloc());
     /// let (mut first, mut second) = (None, None);
-    /// assert!(rt; core.poll_recv(&mut first, (), &mut Quiet)?.is_pending());
-    /// assert!(rt; core.poll_recv(&mut second, (), &mut Quiet)?.is_pending());
-    /// assert_eq!(rt; core.try_send(1, &mut Quiet)?, Ok(()));
+    /// assert_eq!(rt; core.poll_recv(&mut first, (), &mut Quiet), Ok(Poll::Pending));
+    /// assert_eq!(rt; core.poll_recv(&mut second, (), &mut Quiet), Ok(Poll::Pending));
+    /// assert_eq!(rt; core.try_send(1, &mut Quiet), Ok(Ok(())));
     ///
     /// // The first one was told, and its notice goes on.
     /// core.cancel_recv(&mut first, &mut Quiet);
     /// assert_eq!(rt; core.told(Group::Receives), 1);
-    /// assert_eq!(rt; core.waiting(Group::Receives), 1);
+    /// core.cancel_recv(&mut second, &mut Quiet);
+    /// assert_eq!(rt; core.waiting(Group::Receives), 0);
+    /// Ticket::destroy_none(first);
+    /// Ticket::destroy_none(second);
     /// ```
     pub fn cancel_recv<B: Bell<W>>(&mut self, t: &mut Option<Ticket>, bell: &mut B)
         ensures after { self.new ≡ record self.old {
@@ -503,13 +520,15 @@ impl<T: Drop, W: Drop> Core<T, W> {
     /// ```
     /// let mut core: Core<u64, u64> = Core::unbounded(rt.alloc());
     /// let (mut first, mut second) = (None, None);
-    /// assert!(rt; core.poll_recv(&mut first, 10, &mut Quiet)?.is_pending());
-    /// assert!(rt; core.poll_recv(&mut second, 11, &mut Quiet)?.is_pending());
-    /// assert_eq!(rt; core.try_send(1, &mut Quiet)?, Ok(()));
+    /// assert_eq!(rt; core.poll_recv(&mut first, 10, &mut Quiet), Ok(Poll::Pending));
+    /// assert_eq!(rt; core.poll_recv(&mut second, 11, &mut Quiet), Ok(Poll::Pending));
+    /// assert_eq!(rt; core.withdraw_recv(&mut second, &mut Quiet), Some(11));
     ///
-    /// // The first one was told, and the bell has its payload.
+    /// // The bell has the payload of one that is told.
+    /// assert_eq!(rt; core.try_send(1, &mut Quiet), Ok(Ok(())));
     /// assert_eq!(rt; core.withdraw_recv(&mut first, &mut Quiet), None);
-    /// assert_eq!(rt; core.told(Group::Receives), 1);
+    /// Ticket::destroy_none(first);
+    /// Ticket::destroy_none(second);
     /// ```
     pub fn withdraw_recv<B: Bell<W>>(&mut self, t: &mut Option<Ticket>, bell: &mut B) -> Option<W>
         ensures given_back { result ≡ payload_held t.old self.old.receives }
@@ -530,9 +549,10 @@ impl<T: Drop, W: Drop> Core<T, W> {
     /// ```
     /// let mut core: Core<u64, ()> = Core::unbounded(rt.alloc());
     /// let mut ticket = None;
-    /// assert!(rt; core.poll_next(&mut ticket, (), &mut Quiet)?.is_pending());
+    /// assert_eq!(rt; core.poll_next(&mut ticket, (), &mut Quiet), Ok(Poll::Pending));
     /// core.cancel_stream(&mut ticket);
     /// assert_eq!(rt; core.waiting(Group::Streams), 0);
+    /// Ticket::destroy_none(ticket);
     /// ```
     pub fn cancel_stream(&mut self, t: &mut Option<Ticket>)
         ensures after { self.new ≡ record self.old { streams = left t.old self.old.streams } }
@@ -551,9 +571,10 @@ impl<T: Drop, W: Drop> Core<T, W> {
     /// ```
     /// let mut core: Core<u64, u64> = Core::unbounded(rt.alloc());
     /// let mut ticket = None;
-    /// assert!(rt; core.poll_next(&mut ticket, 10, &mut Quiet)?.is_pending());
+    /// assert_eq!(rt; core.poll_next(&mut ticket, 10, &mut Quiet), Ok(Poll::Pending));
     /// assert_eq!(rt; core.withdraw_stream(&mut ticket), Some(10));
-    /// assert!(rt; core.drop_receiver(&mut None, &mut Quiet));
+    /// assert!(rt; core.drop_receiver(&mut ticket, &mut Quiet));
+    /// Ticket::destroy_none(ticket);
     /// ```
     pub fn withdraw_stream(&mut self, t: &mut Option<Ticket>) -> Option<W>
         ensures given_back { result ≡ payload_held t.old self.old.streams }
@@ -571,9 +592,10 @@ impl<T: Drop, W: Drop> Core<T, W> {
     /// ```
     /// let mut core: Core<u64, ()> = Core::unbounded(rt.alloc());
     /// let mut ticket = None;
-    /// assert!(rt; core.poll_closed(&mut ticket, ())?.is_pending());
+    /// assert_eq!(rt; core.poll_closed(&mut ticket, ()), Ok(Poll::Pending));
     /// core.cancel_closed(&mut ticket);
     /// assert_eq!(rt; core.waiting(Group::Closeds), 0);
+    /// Ticket::destroy_none(ticket);
     /// ```
     pub fn cancel_closed(&mut self, t: &mut Option<Ticket>)
         ensures after { self.new ≡ record self.old { closeds = left t.old self.old.closeds } }
@@ -589,9 +611,10 @@ impl<T: Drop, W: Drop> Core<T, W> {
     /// ```
     /// let mut core: Core<u64, u64> = Core::unbounded(rt.alloc());
     /// let mut ticket = None;
-    /// assert!(rt; core.poll_closed(&mut ticket, 10)?.is_pending());
+    /// assert_eq!(rt; core.poll_closed(&mut ticket, 10), Ok(Poll::Pending));
     /// assert_eq!(rt; core.withdraw_closed(&mut ticket), Some(10));
     /// assert_eq!(rt; core.withdraw_closed(&mut ticket), None);
+    /// Ticket::destroy_none(ticket);
     /// ```
     pub fn withdraw_closed(&mut self, t: &mut Option<Ticket>) -> Option<W>
         ensures given_back { result ≡ payload_held t.old self.old.closeds }

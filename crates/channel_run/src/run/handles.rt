@@ -4,11 +4,12 @@ ghost use Rattle.identity.specs.Keys.{is_among};
 ghost use Rattle.channel_model.specs.declared.step.Step.{Step};
 ghost use Rattle.channel_run.specs.RunSteps.{StepsTo};
 
-use crate::names::{put, take};
+use crate::names::take;
 use crate::run::Run;
+use crate::tickets::put_receiver;
 use channel_core::HANDLE_LIMIT;
 use channel_model::{OutOfMemory, Refusal, Reply};
-use event_list::Quiet;
+use event_list::{Quiet, Ticket};
 
 impl<T: Drop> Run<T> {
     pub(super) fn clone_sender(&mut self, of: u64, new: u64) -> Reply<T>
@@ -42,7 +43,7 @@ impl<T: Drop> Run<T> {
         if self.core.receiver_count() > HANDLE_LIMIT {
             return Reply::Refused(Refusal::TooMany, None);
         }
-        if put(&mut self.receivers, new, None).is_err() {
+        if put_receiver(&mut self.receivers, new).is_err() {
             return Reply::Refused(Refusal::OutOfMemory, None);
         }
         self.core.add_receiver();
@@ -122,7 +123,7 @@ impl<T: Drop> Run<T> {
         if self.core.receiver_count() > HANDLE_LIMIT {
             return Reply::Refused(Refusal::TooMany, None);
         }
-        if put(&mut self.receivers, new, None).is_err() {
+        if put_receiver(&mut self.receivers, new).is_err() {
             return Reply::Refused(Refusal::OutOfMemory, None);
         }
         self.core.upgrade_receiver();
@@ -154,6 +155,7 @@ impl<T: Drop> Run<T> {
         }
         let mut ticket = take(&mut self.receivers, name).flatten();
         self.core.drop_receiver(&mut ticket, &mut Quiet);
+        Ticket::destroy_none(ticket);
         Reply::Done
     }
 

@@ -1,13 +1,11 @@
 //! Operations that are started, polled and given up, and the polls of streams.
-ghost use Rattle.std.specs.Prelude.{◌≡◌, Some, true};
+ghost use Rattle.std.specs.Prelude.{◌≡◌, true};
 ghost use Rattle.identity.specs.Keys.{is_among};
 ghost use Rattle.channel_model.specs.declared.step.Step.{Step};
-ghost use Rattle.channel_run.specs.RunShown.{dropped};
 ghost use Rattle.channel_run.specs.RunSteps.{StepsAsAllowed, StepsTo};
 
 use crate::operations::Operation;
 use crate::run::Run;
-use channel_core::Core;
 use channel_model::{OutOfMemory, Refusal, Reply};
 use event_list::Quiet;
 
@@ -47,7 +45,7 @@ impl<T: Drop> Run<T> {
         };
         match self.operations.put(op, operation) {
             Ok(()) => Reply::Done,
-            Err(_) => Reply::Refused(Refusal::OutOfMemory, None),
+            Err(operation) => Reply::Refused(Refusal::OutOfMemory, operation.into_message()),
         }
     }
 
@@ -66,7 +64,7 @@ impl<T: Drop> Run<T> {
         };
         match self.operations.put(op, operation) {
             Ok(()) => Reply::Done,
-            Err(_) => Reply::Refused(Refusal::OutOfMemory, None),
+            Err(operation) => Reply::Refused(Refusal::OutOfMemory, operation.into_message()),
         }
     }
 
@@ -118,7 +116,7 @@ impl<T: Drop> Run<T> {
         let Some(operation) = self.operations.take(op) else {
             return Reply::Refused(Refusal::Unknown, None);
         };
-        cancel(&mut self.core, operation);
+        operation.cancel(&mut self.core);
         Reply::Done
     }
 
@@ -134,20 +132,5 @@ impl<T: Drop> Run<T> {
             Ok(poll) => Reply::NextPolled(poll),
             Err(OutOfMemory) => Reply::Refused(Refusal::OutOfMemory, None),
         }
-    }
-}
-
-// Gives up an operation's wait.
-fn cancel<T: Drop>(core: &mut Core<T, ()>, operation: Operation<T>)
-    ensures { core.new ≡ dropped core.old (Some operation) }
-{
-    match operation {
-        Operation::Send {
-            message: _message,
-            mut ticket,
-            ..
-        } => core.cancel_send(&mut ticket, &mut Quiet),
-        Operation::Recv { mut ticket, .. } => core.cancel_recv(&mut ticket, &mut Quiet),
-        Operation::Closed { mut ticket, .. } => core.cancel_closed(&mut ticket),
     }
 }

@@ -1,5 +1,5 @@
 //! Who was told first, and the poll of whoever that is.
-ghost use Rattle.std.specs.Prelude.{◌≡◌, ◌+◌, ◌^◌, ◌<◌, ◌≤◌, [], None, Some, slice_get, IfOk, if◌then◌else◌};
+ghost use Rattle.std.specs.Prelude.{◌≡◌, ◌+◌, ◌^◌, ◌<◌, ◌≤◌, [], None, Some, slice_get, IfOk, OnErr, if◌then◌else◌};
 ghost use Rattle.std.specs.Vec.{vec_capacity};
 ghost use Rattle.channel_model.specs.Polling.{waiting_in};
 ghost use Rattle.channel_model.specs.Rosters.{told_names};
@@ -18,6 +18,7 @@ impl<T: Drop> Run<T> {
         ensures empty { IfOk result (λ replies. replies.items ≡ []) }
         ensures room { IfOk result (λ replies. waiting_in self.now.rosters ≤ vec_capacity replies) }
         ensures few { waiting_in self.now.rosters < 2 ^ 64 }
+        ensures wanted { OnErr result (0 < waiting_in self.now.rosters) }
     {
         match Vec::with_capacity(self.alloc, self.waiting()) {
             Ok(replies) => Ok(replies),

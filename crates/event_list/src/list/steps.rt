@@ -23,7 +23,7 @@ use std::sync::ledger::{Blank, Book, Ledger, Share};
 ///     is_told_at_last(alloc, &mut Steps::<L>::of(blank))
 /// }
 ///
-/// assert_eq!(rt; counts::<Brand>(rt.alloc(), Blank::new(1)), Some(true));
+/// assert_eq!(rt; counts::<Brand>(rt.alloc(), Blank::new(1)), Some(false));
 /// ```
 #[derive(Drop)]
 pub struct Steps<L: Ledger> {

@@ -16,9 +16,9 @@ const ALL: u64 = 102_400;
 macro_rules! rows {
     ($channel:literal, $capacity:expr, of $($batch:literal)+) => {
         [
-            $(work!(concat!("spsc threads, batches of ", $batch, ", ", $channel), None,
+            $(work!(concat!("one to one, batches of ", $batch, ", ", $channel), None,
                 single($capacity, $batch): AsyncChannel Here Flume Crossbeam),)+
-            $(work!(concat!("mpmc 4x4 threads, batches of ", $batch, ", ", $channel), None,
+            $(work!(concat!("four to four, batches of ", $batch, ", ", $channel), None,
                 many($capacity, $batch): AsyncChannel Here Flume Crossbeam),)+
         ]
     };
@@ -31,6 +31,28 @@ pub fn all() -> Vec<Work> {
         rows!("unbounded", None, of 1 8 32 128),
     ];
     rows.into_iter().flatten().collect()
+}
+
+/// The table of the page, of the times of each work on each peer.
+pub fn print(time: impl Fn(&'static str, &'static str) -> f64) {
+    println!("| Threads and channel | crossbeam | 8 | 32 | 128 | to single | to best |");
+    println!("|---|---|---|---|---|---|---|");
+    let names: Vec<_> = all().iter().map(|work| work.name).collect();
+    for side in ["one to one", "four to four"] {
+        for channel in ["bounded(128)", "bounded(1024)", "unbounded"] {
+            let is_row = |name: &&str| name.starts_with(side) && name.ends_with(channel);
+            let row: Vec<_> = names.iter().copied().filter(is_row).collect();
+            let here: Vec<_> = row.iter().map(|work| time(work, Here::NAME)).collect();
+            let theirs: Vec<_> = row.iter().map(|work| time(work, Crossbeam::NAME)).collect();
+            let best = theirs.iter().copied().fold(f64::INFINITY, f64::min);
+            let (single, many) = (theirs[0], here[2]);
+            let batches: String = here[1..].iter().map(|time| format!("{time:.0} | ")).collect();
+            let (to_single, to_best) = (many / single, many / best);
+            println!(
+                "| {side}, {channel} | {single:.0} | {batches}{to_single:.2} | {to_best:.2} |"
+            );
+        }
+    }
 }
 
 /// Sends `count` messages in batches, and gives the sender up.

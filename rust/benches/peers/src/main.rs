@@ -1,6 +1,8 @@
 //! Measures channels side by side: prints a table of times as ratios to `async-channel`.
 //!
-//!     cargo run --release [ROUNDS] [WORD..]     only works whose name has one of the words
+//!     cargo run --release [ROUNDS] [WORD..]      only works whose name has one of the words
+//!     cargo run --release [ROUNDS] table NAME    one_thread, threads, one_processor or batches, as
+//!                                                docs/figures.txt has it
 //!
 //! Each round runs every work on every peer in turn, so that all share the machine's bad moments.
 //! A ratio below 1 is faster than `async-channel`. After the ratio of the medians stands the one of
@@ -89,18 +91,68 @@ fn print_table(works: &[Work], measured: &Measured) {
     }
 }
 
+/// A table as docs/figures.txt has it: nanoseconds of the crate, and ratios to `async-channel`.
+fn print_rows(works: &[Work], measured: &Measured, here: &str) {
+    println!("| Work | ns | {here} | flume | crossbeam | tokio |\n|---|---|---|---|---|---|");
+    for work in works {
+        let base = measured[&(work.name, BASE)].median;
+        let ratio = |peer| match measured.get(&(work.name, peer)) {
+            Some(times) => format!("{:.2}", times.median / base),
+            None => "".to_owned(),
+        };
+        let ratios = [HERE, "flume", "crossbeam-channel", "tokio"].map(ratio).join(" | ");
+        println!("| {} | {:.0} | {ratios} |", work.name, measured[&(work.name, HERE)].median);
+    }
+}
+
+/// Each table: its works, how it is printed, and what stands above it.
+fn print_of_page(name: &str, rounds: usize) {
+    let (works, about) = match name {
+        "one_thread" => (works::all(), "One thread: the crate's ns of processor time"),
+        "threads" => (threads::all(), "Threads, and tasks on tokio: the crate's ns"),
+        "one_processor" => (threads::crowds(), "Threads on one processor: the crate's ns"),
+        "batches" => {
+            (batches::all(), "Batches of 8, 32 and 128, by the blocking calls: ns a message")
+        }
+        _ => panic!("there is no table {name}"),
+    };
+    measure(&works, 1);
+    let measured = measure(&works, rounds);
+    let [flume, crossbeam, tokio] = ["flume", "crossbeam-channel", "tokio"].map(version);
+    if name == "batches" {
+        println!(
+            "said: {about}, beside single messages of crossbeam-channel {crossbeam}. Ratios are of \
+             batches of 32 to these, and to its best (`try_iter` of 1, 8, 32 or 128)."
+        );
+        batches::print(|work, peer| measured[&(work, peer)].median);
+        return;
+    }
+    println!(
+        "said: {about}, and ratios to async-channel {} of the crate, flume {flume}, \
+         crossbeam-channel {crossbeam} and tokio {tokio}'s mpsc.",
+        version(BASE)
+    );
+    print_rows(&works, &measured, if name == "one_thread" { "here" } else { "ratio" });
+}
+
 fn main() {
     let mut words: Vec<String> = std::env::args().skip(1).collect();
     let rounds = words.first().and_then(|word| word.parse().ok());
     if rounds.is_some() {
         words.remove(0);
     }
-    let works = [works::all(), threads::all(), batches::all()];
+    let rounds = rounds.unwrap_or(7);
+    if let [table, name] = &words[..] {
+        if table == "table" {
+            return print_of_page(name, rounds);
+        }
+    }
+    let works = [works::all(), threads::all(), threads::crowds(), batches::all()];
     let mut works = works.into_iter().flatten().collect::<Vec<_>>();
     if !words.is_empty() {
         works.retain(|work| words.iter().any(|word| work.name.contains(word.as_str())));
     }
     measure(&works, 1);
-    let measured = measure(&works, rounds.unwrap_or(7));
+    let measured = measure(&works, rounds);
     print_table(&works, &measured);
 }

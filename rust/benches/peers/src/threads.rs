@@ -13,22 +13,38 @@ pub const SIDE: u64 = 4;
 
 pub fn all() -> Vec<Work> {
     vec![
-        work!("spsc threads, bounded(1)", Some(0.3), single(Some(1), 20_000):
+        work!("one thread to one, bounded(1)", Some(0.3), single(Some(1), 20_000):
             AsyncChannel Here Flume Crossbeam Tokio),
-        work!("spsc threads, bounded(128)", Some(0.7), single(Some(128), 200_000):
+        work!("one thread to one, bounded(128)", Some(0.7), single(Some(128), 200_000):
             AsyncChannel Here Flume Crossbeam Tokio),
-        work!("spsc threads, unbounded", Some(0.8), single(None, 200_000):
+        work!("one thread to one, unbounded", Some(0.8), single(None, 200_000):
             AsyncChannel Here Flume Crossbeam Tokio),
-        work!("mpmc 4x4 threads, bounded(1)", None, many(Some(1), 20_000):
+        work!("four threads to four, bounded(1)", None, many(Some(1), SIDE, 20_000):
             AsyncChannel Here Flume Crossbeam),
-        work!("mpmc 4x4 threads, bounded(128)", Some(0.8), many(Some(128), 100_000):
+        work!("four threads to four, bounded(128)", Some(0.8), many(Some(128), SIDE, 100_000):
             AsyncChannel Here Flume Crossbeam),
-        work!("mpmc 4x4 threads, unbounded", Some(0.8), many(None, 100_000):
+        work!("four threads to four, unbounded", Some(0.8), many(None, SIDE, 100_000):
             AsyncChannel Here Flume Crossbeam),
-        work!("spsc tasks on tokio, bounded(128)", Some(0.9), single_task(Some(128)):
+        work!("one task to one on tokio, bounded(128)", Some(0.9), single_task(Some(128)):
             AsyncChannel Here Flume Tokio),
-        work!("mpmc 4x4 tasks on tokio, bounded(128)", Some(0.9), many_tasks(Some(128)):
+        work!("four tasks to four on tokio, bounded(128)", Some(0.9), many_tasks(Some(128)):
             AsyncChannel Here Flume),
+    ]
+}
+
+/// Works for one processor.
+pub fn crowds() -> Vec<Work> {
+    vec![
+        work!("1 to 1, bounded(128)", None, single(Some(128), 200_000):
+            AsyncChannel Here Flume Crossbeam Tokio),
+        work!("1 to 1, unbounded", None, single(None, 200_000):
+            AsyncChannel Here Flume Crossbeam Tokio),
+        work!("4 to 4, bounded(128)", None, many(Some(128), SIDE, 100_000):
+            AsyncChannel Here Flume Crossbeam),
+        work!("32 to 32, bounded(128)", None, many(Some(128), 32, 102_400):
+            AsyncChannel Here Flume Crossbeam),
+        work!("32 to 32, unbounded", None, many(None, 32, 102_400):
+            AsyncChannel Here Flume Crossbeam),
     ]
 }
 
@@ -63,13 +79,13 @@ fn single<P: Peer>(capacity: Option<usize>, count: u64) -> f64 {
     })
 }
 
-fn many<P: Many>(capacity: Option<usize>, count: u64) -> f64 {
+fn many<P: Many>(capacity: Option<usize>, side: u64, count: u64) -> f64 {
     let (tx, rx) = P::make(capacity);
-    let ready = &Barrier::new(2 * SIDE as usize);
-    let each_thread = 0..count / SIDE;
+    let ready = &Barrier::new(2 * side as usize);
+    let each_thread = 0..count / side;
     thread::scope(|scope| {
         let mut threads = Vec::new();
-        for _ in 0..SIDE {
+        for _ in 0..side {
             let (tx, mut rx) = (P::clone_tx(&tx), P::clone_rx(&rx));
             let (sends, receives) = (each_thread.clone(), each_thread.clone());
             threads.push(

@@ -91,11 +91,8 @@ pub(super) fn wait<W>(
             Err(back) => payload = back,
         }
     }
-    match list.listen(payload) {
-        Ok(new) => {
-            *ticket = Some(new);
-            Ok(None)
-        }
+    match list.listen_anew(ticket, payload) {
+        Ok(()) => Ok(None),
         Err(NoRoom(payload)) => {
             *w = Some(payload);
             Err(OutOfMemory)

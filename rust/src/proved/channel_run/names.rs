@@ -52,7 +52,10 @@ impl Names {
 #[inline]
 pub(super) fn put<V>(entries: &mut BTreeMap<u64, V>, name: u64, value: V) -> Result<(), V> {
     match entries.insert(name, value) {
-        Ok(_) => Ok(()),
+        Ok(earlier) => match earlier {
+            None => Ok(()),
+            Some(_) => unreachable!(),
+        },
         Err(refused) => Err(refused.value.1),
     }
 }

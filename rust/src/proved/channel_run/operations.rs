@@ -3,9 +3,9 @@
 
 use crate::proved::channel_run::tally::Tally;
 use crate::proved::channel_run::tickets::has_key;
-use crate::proved::channel_core::Group;
+use crate::proved::channel_core::{Core, Group};
 use crate::proved::channel_model::OutOfMemory;
-use crate::proved::event_list::Ticket;
+use crate::proved::event_list::{Quiet, Ticket};
 use crate::shim::Global;
 use crate::shim::BTreeMap;
 
@@ -40,13 +40,58 @@ impl<T> Operation<T> {
         }
     }
 
-    /// The message of a send that hasn't finished.
+    /// The message of a send that hasn't finished, and doesn't wait.
     #[inline]
     pub(super) fn into_message(self) -> Option<T> {
         match self {
-            Operation::Send { message, .. } => message,
-            Operation::Recv { .. } => None,
-            Operation::Closed { .. } => None,
+            Operation::Send {
+                message,
+                ticket,
+                sender: _,
+            } => {
+                Ticket::destroy_none(ticket);
+                message
+            }
+            Operation::Recv {
+                ticket,
+                receiver: _,
+            } => {
+                Ticket::destroy_none(ticket);
+                None
+            }
+            Operation::Closed { ticket, sender: _ } => {
+                Ticket::destroy_none(ticket);
+                None
+            }
+        }
+    }
+
+    /// Gives its wait up.
+    #[inline]
+    pub(super) fn cancel(self, core: &mut Core<T, ()>) {
+        match self {
+            Operation::Send {
+                message: _message,
+                mut ticket,
+                sender: _,
+            } => {
+                core.cancel_send(&mut ticket, &mut Quiet);
+                Ticket::destroy_none(ticket);
+            }
+            Operation::Recv {
+                mut ticket,
+                receiver: _,
+            } => {
+                core.cancel_recv(&mut ticket, &mut Quiet);
+                Ticket::destroy_none(ticket);
+            }
+            Operation::Closed {
+                mut ticket,
+                sender: _,
+            } => {
+                core.cancel_closed(&mut ticket);
+                Ticket::destroy_none(ticket);
+            }
         }
     }
 
@@ -76,8 +121,8 @@ pub struct Operations<T> {
     // each with the ticket of its wait; a poll changes an operation, but never what it borrows
     pub(super) by_name: BTreeMap<u64, Operation<T>>,
     // how many borrow each sender, and each receiver
-    by_sender: Tally,
-    by_receiver: Tally,
+    pub(super) by_sender: Tally,
+    pub(super) by_receiver: Tally,
 }
 
 impl<T> Operations<T> {
@@ -110,7 +155,10 @@ impl<T> Operations<T> {
             return Err(operation);
         }
         match self.by_name.insert(op, operation) {
-            Ok(_) => Ok(()),
+            Ok(earlier) => match earlier {
+                None => Ok(()),
+                Some(_) => unreachable!(),
+            },
             Err(refused) => {
                 let operation = refused.value.1;
                 self.discount(&operation);

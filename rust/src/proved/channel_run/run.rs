@@ -27,8 +27,9 @@ mod operations;
 mod questions;
 mod told;
 
-use crate::proved::channel_run::names::{Names, put};
+use crate::proved::channel_run::names::Names;
 use crate::proved::channel_run::operations::{Operation, Operations};
+use crate::proved::channel_run::tickets::put_receiver;
 use crate::proved::channel_core::{Core, Group};
 use crate::proved::channel_model::{Kind, Notice, OutOfMemory, Reply, Side, Step, Who};
 use crate::proved::event_list::Ticket;
@@ -68,7 +69,8 @@ impl<T> Run<T> {
         let mut senders = Names::new(alloc);
         senders.add(0)?;
         let mut receivers = BTreeMap::new(alloc);
-        if put(&mut receivers, 0, None).is_err() {
+        if put_receiver(&mut receivers, 0).is_err() {
+            receivers.destroy_empty();
             return Err(OutOfMemory);
         }
         Ok(Run {

@@ -1,8 +1,10 @@
 // Taken out of crates/channel_run/src/tickets.rt by tools/erase. Change that file, not this one.
 //! Who holds a ticket, by its key.
 
+use crate::proved::channel_run::names::put;
 use crate::proved::channel_run::operations::Operation;
 use crate::proved::channel_core::Group;
+use crate::proved::channel_model::OutOfMemory;
 use crate::proved::event_list::Ticket;
 use crate::shim::BTreeMap;
 
@@ -64,6 +66,21 @@ pub(super) fn receiver_with(
     }
     let (name, _ticket) = receivers.iter().find(|(_, ticket)| has_key(ticket, key))?;
     Some(*name)
+}
+
+/// Makes the name of a receiver whose stream doesn't wait.
+#[inline]
+pub(super) fn put_receiver(
+    receivers: &mut BTreeMap<u64, Option<Ticket>>,
+    name: u64,
+) -> Result<(), OutOfMemory> {
+    match put(receivers, name, None) {
+        Ok(()) => Ok(()),
+        Err(back) => {
+            Ticket::destroy_none(back);
+            Err(OutOfMemory)
+        }
+    }
 }
 
 // Whether the stream of the receiver of this name waits by a ticket of this key.

@@ -131,10 +131,10 @@ impl<W> Links<W> {
     #[inline]
     pub(super) fn unregister<L: Ledger>(
         &mut self,
-        ticket: Ticket,
+        key: usize,
         lookups: &mut Lookups<L>,
     ) -> Option<EntryState<W>> {
-        let entry = self.ends.take_out(&mut self.entries, ticket.key, lookups)?;
+        let entry = self.ends.take_out(&mut self.entries, key, lookups)?;
         self.len -= 1;
         if entry.is_told() {
             self.told -= 1;

@@ -54,6 +54,17 @@ impl<W> WaitList<W> {
         self.listen_from::<Brand>(payload, Blank::new(1))
     }
 
+    /// `listen`, which puts the new ticket in the place of one whose entry isn't in the list, or of
+    /// none.
+    #[inline]
+    pub fn listen_anew(&mut self, ticket: &mut Option<Ticket>, payload: W) -> Result<(), NoRoom<W>> {
+        let new = self.listen(payload)?;
+        if let Some(gone) = ticket.replace(new) {
+            let Ticket { key: _ } = gone;
+        }
+        Ok(())
+    }
+
     /// The entry waits again with this payload. The answer is whether it is in the list.
     #[inline]
     pub fn again(&mut self, ticket: &Ticket, payload: W) -> bool {
@@ -263,11 +274,12 @@ impl<W> WaitList<W> {
         ticket: Ticket,
         steps: &mut Steps<L>,
     ) -> Option<EntryState<W>> {
+        let Ticket { key } = ticket;
         let Some(links) = &mut self.links else {
             steps.lookups.raise();
             return None;
         };
-        let entry = links.unregister(ticket, &mut steps.lookups);
+        let entry = links.unregister(key, &mut steps.lookups);
         self.give_room_back();
         entry
     }

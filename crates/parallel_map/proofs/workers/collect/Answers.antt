@@ -1,4 +1,4 @@
-use Rattle.std.proofs.Common.{sym, subst, map}
+use Rattle.std.proofs.Common.{rules, sym, subst, map}
 use Rattle.std.proofs.lemmas.List.{length-map}
 use Rattle.std.specs.BTreeMap.{get}
 use Rattle.std.specs.Ordering.{nat_cmp}
@@ -21,4 +21,4 @@ returns g c =
     (subst (λ n. AreStartsOf n size sent) (sym (length-map inputs g.J.Job.answer)) c.requires.all)
     (found_all (known c.args.hubs.now.places) (known c.args.hubs.now.chunks) c.requires.back (sender_closed c.args.feeder) sent _ c.take_sender.ensures.known
     (receiver_closed last.receiver) (has_ended last.receiver) got _ c.take_receiver.ensures.known
-    all size c.requires.done c.settle.ensures.each_once c.settle-2.ensures.each_once)
+    all size c.requires.done (c.settle.ensures.each_once (search rules)) (c.settle-2.ensures.each_once (search rules)))

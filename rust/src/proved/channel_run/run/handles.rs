@@ -1,11 +1,12 @@
 // Taken out of crates/channel_run/src/run/handles.rt by tools/erase. Change that file, not this one.
 //! Handles that are copied, downgraded, upgraded and given up, by name.
 
-use crate::proved::channel_run::names::{put, take};
+use crate::proved::channel_run::names::take;
 use crate::proved::channel_run::run::Run;
+use crate::proved::channel_run::tickets::put_receiver;
 use crate::proved::channel_core::HANDLE_LIMIT;
 use crate::proved::channel_model::{OutOfMemory, Refusal, Reply};
-use crate::proved::event_list::Quiet;
+use crate::proved::event_list::{Quiet, Ticket};
 
 impl<T> Run<T> {
     #[inline]
@@ -37,7 +38,7 @@ impl<T> Run<T> {
         if self.core.receiver_count() > HANDLE_LIMIT {
             return Reply::Refused(Refusal::TooMany, None);
         }
-        if put(&mut self.receivers, new, None).is_err() {
+        if put_receiver(&mut self.receivers, new).is_err() {
             return Reply::Refused(Refusal::OutOfMemory, None);
         }
         self.core.add_receiver();
@@ -111,7 +112,7 @@ impl<T> Run<T> {
         if self.core.receiver_count() > HANDLE_LIMIT {
             return Reply::Refused(Refusal::TooMany, None);
         }
-        if put(&mut self.receivers, new, None).is_err() {
+        if put_receiver(&mut self.receivers, new).is_err() {
             return Reply::Refused(Refusal::OutOfMemory, None);
         }
         self.core.upgrade_receiver();
@@ -141,6 +142,7 @@ impl<T> Run<T> {
         }
         let mut ticket = take(&mut self.receivers, name).flatten();
         self.core.drop_receiver(&mut ticket, &mut Quiet);
+        Ticket::destroy_none(ticket);
         Reply::Done
     }
 

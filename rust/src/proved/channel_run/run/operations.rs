@@ -3,7 +3,6 @@
 
 use crate::proved::channel_run::operations::Operation;
 use crate::proved::channel_run::run::Run;
-use crate::proved::channel_core::Core;
 use crate::proved::channel_model::{OutOfMemory, Refusal, Reply};
 use crate::proved::event_list::Quiet;
 
@@ -41,7 +40,7 @@ impl<T> Run<T> {
         };
         match self.operations.put(op, operation) {
             Ok(()) => Reply::Done,
-            Err(_) => Reply::Refused(Refusal::OutOfMemory, None),
+            Err(operation) => Reply::Refused(Refusal::OutOfMemory, operation.into_message()),
         }
     }
 
@@ -59,7 +58,7 @@ impl<T> Run<T> {
         };
         match self.operations.put(op, operation) {
             Ok(()) => Reply::Done,
-            Err(_) => Reply::Refused(Refusal::OutOfMemory, None),
+            Err(operation) => Reply::Refused(Refusal::OutOfMemory, operation.into_message()),
         }
     }
 
@@ -108,7 +107,7 @@ impl<T> Run<T> {
         let Some(operation) = self.operations.take(op) else {
             return Reply::Refused(Refusal::Unknown, None);
         };
-        cancel(&mut self.core, operation);
+        operation.cancel(&mut self.core);
         Reply::Done
     }
 
@@ -122,19 +121,5 @@ impl<T> Run<T> {
             Ok(poll) => Reply::NextPolled(poll),
             Err(OutOfMemory) => Reply::Refused(Refusal::OutOfMemory, None),
         }
-    }
-}
-
-// Gives up an operation's wait.
-#[inline]
-fn cancel<T>(core: &mut Core<T, ()>, operation: Operation<T>) {
-    match operation {
-        Operation::Send {
-            message: _message,
-            mut ticket,
-            ..
-        } => core.cancel_send(&mut ticket, &mut Quiet),
-        Operation::Recv { mut ticket, .. } => core.cancel_recv(&mut ticket, &mut Quiet),
-        Operation::Closed { mut ticket, .. } => core.cancel_closed(&mut ticket),
     }
 }

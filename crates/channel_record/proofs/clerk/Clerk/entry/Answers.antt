@@ -7,7 +7,7 @@ use Rattle.channel_record.proofs.clerk.Clerk.entry.Goals as goal
 
 pub returns : goal.returns
 returns g c =
-    c.copied.ensures ∙ copied_at c.entries.result.now c.args.i c.get.result c.get.ensures.lookup.0
+    c.copied.ensures ∙ copied_at c.entries.result.now c.args.index c.get.result c.get.ensures.lookup.0
     c.get.ensures.lookup.1
-    ∙ ap (λ (entries : List (ℕ × Call g.row.T.Denot × Outcome g.row.T.Denot)). slice_get entries c.args.i)
+    ∙ ap (λ (entries : List (ℕ × Call g.row.T.Denot × Outcome g.row.T.Denot)). slice_get entries c.args.index)
     c.entries.ensures

@@ -23,15 +23,15 @@ invariant_of-result g c =
     ] in
     let senders = subst (λ (names : List ℕ). AreSameNames c.add.new.self (0 ∷ names)) c.new-senders.ensures
     c.in_ok-add.ensures.added in
-    let first = when_ok c.put.result (Changed 0 c.new-receivers.result.entries c.put.new.entries.entries (Some None))
-    (sym c.is_err.ensures.value ∙ c.if-is_err.false) c.put.ensures.added in
-    let count = when_ok c.put.result (length c.put.new.entries.entries ≡ length c.new-receivers.result.entries + 1)
-    (sym c.is_err.ensures.value ∙ c.if-is_err.false) c.put.ensures.more in
-    let change = subst (λ (entries : List (ℕ × Option ℕ)). Changed 0 entries c.put.new.entries.entries (Some None))
+    let first = when_ok c.put_receiver.result (Changed 0 c.new-receivers.result.entries c.put_receiver.new.receivers.entries (Some None))
+    (sym c.is_err.ensures.value ∙ c.if-is_err.false) c.put_receiver.ensures.added in
+    let count = when_ok c.put_receiver.result (length c.put_receiver.new.receivers.entries ≡ length c.new-receivers.result.entries + 1)
+    (sym c.is_err.ensures.value ∙ c.if-is_err.false) c.put_receiver.ensures.more in
+    let change = subst (λ (entries : List (ℕ × Option ℕ)). Changed 0 entries c.put_receiver.new.receivers.entries (Some None))
     c.new-receivers.ensures.empty first in
     let one = count ∙ ap (λ (entries : List (ℕ × Option ℕ)). length entries + 1) c.new-receivers.ensures.empty in
     rw (core, c.new-3.ensures.empty) (
-      whole-new g.row.T.Denot (Unit {0}) c.args.kind c.add.new.self senders c.put.new.entries.entries change one
+      whole-new g.row.T.Denot (Unit {0}) c.args.kind c.add.new.self senders c.put_receiver.new.receivers.entries change one
           (capacity_of c.args.kind),
       subst (λ (operations : List (ℕ × Started g.row.T.Denot)). AreCounted c.new-3.result.by_sender
           c.new-3.result.by_receiver operations) c.new-3.ensures.empty c.new-3.ensures.counted,
@@ -47,13 +47,13 @@ returns g c =
     ] in
     let senders = subst (λ (names : List ℕ). AreSameNames c.add.new.self (0 ∷ names)) c.new-senders.ensures
     c.in_ok-add.ensures.added in
-    let first = when_ok c.put.result (Changed 0 c.new-receivers.result.entries c.put.new.entries.entries (Some None))
-    (sym c.is_err.ensures.value ∙ c.if-is_err.false) c.put.ensures.added in
-    let count = when_ok c.put.result (length c.put.new.entries.entries ≡ length c.new-receivers.result.entries + 1)
-    (sym c.is_err.ensures.value ∙ c.if-is_err.false) c.put.ensures.more in
-    let change = subst (λ (entries : List (ℕ × Option ℕ)). Changed 0 entries c.put.new.entries.entries (Some None))
+    let first = when_ok c.put_receiver.result (Changed 0 c.new-receivers.result.entries c.put_receiver.new.receivers.entries (Some None))
+    (sym c.is_err.ensures.value ∙ c.if-is_err.false) c.put_receiver.ensures.added in
+    let count = when_ok c.put_receiver.result (length c.put_receiver.new.receivers.entries ≡ length c.new-receivers.result.entries + 1)
+    (sym c.is_err.ensures.value ∙ c.if-is_err.false) c.put_receiver.ensures.more in
+    let change = subst (λ (entries : List (ℕ × Option ℕ)). Changed 0 entries c.put_receiver.new.receivers.entries (Some None))
     c.new-receivers.ensures.empty first in
     let one = count ∙ ap (λ (entries : List (ℕ × Option ℕ)). length entries + 1) c.new-receivers.ensures.empty in
     rw (core, c.new.ensures, c.new-2.ensures, c.new-3.ensures.empty)
     (stands-new g.row.T.Denot
-    (Unit {0}) c.args.kind c.add.new.self senders c.put.new.entries.entries change one c.requires)
+    (Unit {0}) c.args.kind c.add.new.self senders c.put_receiver.new.receivers.entries change one c.requires)

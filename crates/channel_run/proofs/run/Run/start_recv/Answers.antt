@@ -58,7 +58,13 @@ returns g c =
           (StepsTo-made run _ step _ allowed (stepped-started (kept_of c.self.inside) c.self.invariant.0 step c.args.op
           (Recv c.args.receiver None) c.put.new.self.by_name.entries absent refl refl refl w.in-Ok.ensures.added
           w.in-Ok.ensures.more (made-start_recv run c.args.op c.args.receiver fresh)).made)
-      | in-Err w ↦ rw (← c.self.view_is, w.result-is, w.in-Err.ensures.unchanged)
+      | in-Err w ↦ rw (
+        ← c.self.view_is,
+        w.result-is,
+        w.into_message.ensures,
+        w.in-Err.ensures.handed_back,
+        w.in-Err.ensures.unchanged,
+      )
           (StepsTo-wants run run step _ (wants-name run step allowed refl)
           (IsRefused-unchanged run step Refusal.OutOfMemory))
     ]

@@ -17,8 +17,8 @@ use Rattle.channel_run.proofs.Steps.Refused.{StepsTo-made, not_refused}
 use Rattle.channel_run.proofs.Tables.Kept.{kept_of, shown_by}
 use Rattle.channel_run.proofs.run.Run.upgrade_receiver.Goals as goal
 
-pub put-requires : goal.put-requires
-put-requires g c = nothing_at c.self.inside.receivers.entries c.args.new
+pub put_receiver-requires : goal.put_receiver-requires
+put_receiver-requires g c = nothing_at c.self.inside.receivers.entries c.args.new
     (is_among-entry_at c.self.inside.receivers.entries c.args.new
     ∙ ap (λ (r : View g.row.T.Denot). is_among c.args.new r.receivers) c.self.view_is ∙ sym c.has_receiver.ensures
     ∙ c.if-has_receiver.false)
@@ -31,13 +31,13 @@ invariant_of-self-2 g c =
     (is_among-entry_at c.self.inside.receivers.entries c.args.new
     ∙ ap (λ (r : View g.row.T.Denot). is_among c.args.new r.receivers) c.self.view_is
     ∙ sym c.has_receiver.ensures ∙ c.if-has_receiver.false) in
-    let change = when_ok c.put.result (Changed c.args.new c.self.inside.receivers.entries c.put.new.entries.entries
-    (Some None)) (sym c.is_err.ensures.value ∙ c.if-is_err.false) c.put.ensures.added in
-    let more = when_ok c.put.result (length c.put.new.entries.entries ≡ length c.self.inside.receivers.entries + 1)
-    (sym c.is_err.ensures.value ∙ c.if-is_err.false) c.put.ensures.more in
+    let change = when_ok c.put_receiver.result (Changed c.args.new c.self.inside.receivers.entries c.put_receiver.new.receivers.entries
+    (Some None)) (sym c.is_err.ensures.value ∙ c.if-is_err.false) c.put_receiver.ensures.added in
+    let more = when_ok c.put_receiver.result (length c.put_receiver.new.receivers.entries ≡ length c.self.inside.receivers.entries + 1)
+    (sym c.is_err.ensures.value ∙ c.if-is_err.false) c.put_receiver.ensures.more in
     let is = stepped-receiver (kept_of c.self.inside) c.self.invariant.0
     (Step.UpgradeReceiver c.args.of c.args.new)
-    (Reply.Upgraded true) c.args.new c.put.new.entries.entries absent change more
+    (Reply.Upgraded true) c.args.new c.put_receiver.new.receivers.entries absent change more
     (made-upgrade_receiver run c.args.of c.args.new opened) in
     let upgraded = upgraded-count c.self.inside.core.closed c.self.inside.core.receivers opened
     (rw (← c.receiver_count.ensures) c.if-receiver_count-gt-HANDLE_LIMIT.false) in
@@ -55,13 +55,13 @@ returns g c =
     (is_among-entry_at c.self.inside.receivers.entries c.args.new
     ∙ ap (λ (r : View g.row.T.Denot). is_among c.args.new r.receivers) c.self.view_is
     ∙ sym c.has_receiver.ensures ∙ c.if-has_receiver.false) in
-    let change = when_ok c.put.result (Changed c.args.new c.self.inside.receivers.entries c.put.new.entries.entries
-    (Some None)) (sym c.is_err.ensures.value ∙ c.if-is_err.false) c.put.ensures.added in
-    let more = when_ok c.put.result (length c.put.new.entries.entries ≡ length c.self.inside.receivers.entries + 1)
-    (sym c.is_err.ensures.value ∙ c.if-is_err.false) c.put.ensures.more in
+    let change = when_ok c.put_receiver.result (Changed c.args.new c.self.inside.receivers.entries c.put_receiver.new.receivers.entries
+    (Some None)) (sym c.is_err.ensures.value ∙ c.if-is_err.false) c.put_receiver.ensures.added in
+    let more = when_ok c.put_receiver.result (length c.put_receiver.new.receivers.entries ≡ length c.self.inside.receivers.entries + 1)
+    (sym c.is_err.ensures.value ∙ c.if-is_err.false) c.put_receiver.ensures.more in
     let is = stepped-receiver (kept_of c.self.inside) c.self.invariant.0
     (Step.UpgradeReceiver c.args.of c.args.new)
-    (Reply.Upgraded true) c.args.new c.put.new.entries.entries absent change more
+    (Reply.Upgraded true) c.args.new c.put_receiver.new.receivers.entries absent change more
     (made-upgrade_receiver run c.args.of c.args.new opened) in
     let known : is_among c.args.of run.weak_receivers ≡ true = sym c.has.ensures ∙ c.if-not-has.false in
     let fresh = ap (λ (r : View g.row.T.Denot). is_among c.args.new r.receivers) c.self.view_is

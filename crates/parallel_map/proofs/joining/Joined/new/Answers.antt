@@ -6,8 +6,8 @@ use Rattle.parallel_map.specs.Joining.{AreSoFar}
 use Rattle.parallel_map.proofs.InOrder.{nothing_came}
 use Rattle.parallel_map.proofs.joining.Joined.new.Goals as goal
 
-pub returns : goal.returns
-returns g c =
+pub returns-clause-none : goal.returns-clause-none
+returns-clause-none g c =
     let early = get nat_cmp c.new.result in
     let empty : (q : ℕ) → early q ≡ None = λ q. ap (λ es. lookup (is_at (nat_cmp q)) es) c.new.ensures.empty in
     record {

@@ -4,7 +4,7 @@ use Rattle.ruled_channel.proofs.Answered.{alike_closeds}
 use Rattle.ruled_channel.proofs.Steps.{keeps}
 use Rattle.ruled_channel.proofs.channel.RuledChannel.closed_or_wait.Goals as goal
 
-pub unlock_as-requires-clause-rule : goal.unlock_as-requires-clause-rule
-unlock_as-requires-clause-rule g c = let same = c.lock-held.ensures.same in let shows = c.value_mut-core.ensures.value ∙ c.lock-held.ensures.held.1 in
+pub give_back-requires-clause-rule : goal.give_back-requires-clause-rule
+give_back-requires-clause-rule g c = let same = c.lock-held.ensures.same in let shows = c.value_mut-core.ensures.value ∙ c.lock-held.ensures.held.1 in
     keeps c.value_mut-core.result.now c.poll_closed-polled.new.core g.P.Protocol.fits g.P.Protocol.holds (found c.lock-held.result) (λ _ _ _. Unit {0}) _ _ _ _ same.0.1 same.1 shows
     (alike_closeds _ _ _ c.poll_closed-polled.ensures.kept) (λ _ _ _ _ _. tt)

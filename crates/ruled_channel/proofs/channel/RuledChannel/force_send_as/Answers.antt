@@ -2,6 +2,8 @@ use Rattle.std.proofs.Common.{Ok, refl, sym, ap, ◌∙◌}
 use Rattle.ruled_mutex.specs.Passes.{found}
 use Rattle.ruled_channel.proofs.Answered.{alike, fits_none, forced_err, forced_some}
 use Rattle.ruled_channel.proofs.Steps.{keeps, displaces}
+use Rattle.ruled_channel.proofs.Made.{has_made}
+use Rattle.channel_core.specs.Channel.{force_sent}
 use Rattle.ruled_channel.proofs.channel.RuledChannel.force_send_as.Goals as goal
 
 pub give_back-requires-in-Ok-Ok-Some-clause-rule : goal.give_back-requires-in-Ok-Ok-Some-clause-rule
@@ -22,3 +24,11 @@ give_back-requires-in-Err-clause-rule g c = let same = c.lock-held.ensures.same 
 pub returns-in-Err-clause-memory : goal.returns-in-Err-clause-memory
 returns-in-Err-clause-memory g c = let shows = c.value_mut-core.ensures.value ∙ c.lock-held.ensures.held.1 in let told = c.give_back-in-Err.ensures.rule in
     (c.in-Err.ensures.handed_back, told.0 ∙ c.lock-held.ensures.same.1, fits_none c.value_mut-core.result.now (found c.lock-held.result) g.P.Protocol.fits shows c.in-Err.ensures.wanted.1 told.1)
+
+pub returns-in-Ok-Ok-None-clause-step : goal.returns-in-Ok-Ok-None-clause-step
+returns-in-Ok-Ok-None-clause-step g c = let shows = c.value_mut-core.ensures.value ∙ c.lock-held.ensures.held.1 in let here = c.in-Ok-Ok-None.ensures in let told = c.give_back.ensures in
+    has_made c.give_back.new.pass c.value_mut-core.result.now c.force_send.new.self _ _ _ shows c.new-bell.ensures told.found told.made told.woken (force_sent c.args.message) here.after here.rung
+
+pub returns-in-Ok-Ok-Some-clause-step : goal.returns-in-Ok-Ok-Some-clause-step
+returns-in-Ok-Ok-Some-clause-step g c = let shows = c.value_mut-core.ensures.value ∙ c.lock-held.ensures.held.1 in let here = c.in-Ok-Ok-Some.ensures in let told = c.give_back-in-Ok-Ok-Some.ensures in
+    has_made c.give_back-in-Ok-Ok-Some.new.pass c.value_mut-core.result.now c.force_send.new.self _ _ _ shows c.new-bell.ensures told.found told.made told.woken (force_sent c.args.message) here.after here.rung

@@ -2,8 +2,14 @@ use Rattle.std.proofs.Common.{◌∙◌}
 use Rattle.ruled_mutex.specs.Passes.{found}
 use Rattle.ruled_channel.proofs.Answered.{alike_receives}
 use Rattle.ruled_channel.proofs.Steps.{keeps}
+use Rattle.ruled_channel.proofs.Made.{has_made}
+use Rattle.ruled_channel.specs.Steps.{receive_given_up}
 use Rattle.ruled_channel.proofs.channel.RuledChannel.give_up_recv.Goals as goal
 
 pub give_back-requires-clause-rule : goal.give_back-requires-clause-rule
-give_back-requires-clause-rule g c = let same = c.lock-held.ensures.same in let shows = c.value_mut.ensures.value ∙ c.lock-held.ensures.held.1 in
-    keeps c.value_mut.result.now c.cancel_recv.new.self g.P.Protocol.fits g.P.Protocol.holds (found c.lock-held.result) (λ _ _ _. Unit {0}) _ _ _ _ same.0.1 same.1 shows (alike_receives _ _ _ c.cancel_recv.ensures.after) (λ _ _ _ _ _. tt)
+give_back-requires-clause-rule g c = let same = c.lock-held.ensures.same in let shows = c.value_mut-core.ensures.value ∙ c.lock-held.ensures.held.1 in
+    keeps c.value_mut-core.result.now c.cancel_recv.new.self g.P.Protocol.fits g.P.Protocol.holds (found c.lock-held.result) (λ _ _ _. Unit {0}) _ _ _ _ same.0.1 same.1 shows (alike_receives _ _ _ c.cancel_recv.ensures.after) (λ _ _ _ _ _. tt)
+
+pub returns-clause-step : goal.returns-clause-step
+returns-clause-step g c = let shows = c.value_mut-core.ensures.value ∙ c.lock-held.ensures.held.1 in let here = c.cancel_recv.ensures in let told = c.give_back.ensures in
+    has_made c.give_back.new.pass c.value_mut-core.result.now c.cancel_recv.new.self _ _ _ shows c.new-bell.ensures told.found told.made told.woken (receive_given_up c.args.ticket.now) here.after here.rung

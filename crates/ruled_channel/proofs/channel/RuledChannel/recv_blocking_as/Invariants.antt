@@ -1,7 +1,9 @@
-use Rattle.std.proofs.Common.{◌≡◌, []}
-use Rattle.ruled_mutex.specs.declared.pass.Stage.TheVariants.{Outside}
+use Rattle.std.proofs.Common.{◌≡◌}
+use Rattle.ruled_channel.specs.Passes.{IsPassOf, IsSamePass, view}
 use Rattle.ruled_channel.proofs.channel.RuledChannel.recv_blocking_as.Given as goal
 
-abbrev pub invariant-loop : goal.invariant-loop
-invariant-loop g l = (l.pass.seat.table_id ≡ l.fn.pass.seat.table_id) × (l.pass.seat.id ≡ l.fn.pass.seat.id) × (l.pass.seat.me.0.stage ≡ Outside)
-    × (l.pass.seat.me.1 ≡ []) × (l.pass.seat.me.0.client ≡ l.fn.pass.seat.me.0.client)
+abbrev pub invariant-loop-look : goal.invariant-loop-look
+invariant-loop-look g l = IsPassOf l.self l.pass × IsSamePass l.fn.pass l.pass × (view l.pass ≡ view l.fn.pass)
+
+abbrev pub invariant-loop-turn : goal.invariant-loop-turn
+invariant-loop-turn g l = IsPassOf l.self l.pass × IsSamePass l.fn.pass l.pass × (view l.pass ≡ view l.fn.pass)

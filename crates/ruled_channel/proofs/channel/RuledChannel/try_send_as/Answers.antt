@@ -1,7 +1,10 @@
 use Rattle.std.proofs.Common.{sym, ◌∙◌}
-use Rattle.ruled_mutex.specs.Passes.{found, view}
+use Rattle.ruled_mutex.specs.Passes.{found}
+use Rattle.ruled_channel.specs.Passes.{view}
 use Rattle.ruled_channel.proofs.Answered.{alike, fits_none, sent_err, refuses}
 use Rattle.ruled_channel.proofs.Steps.{keeps}
+use Rattle.ruled_channel.proofs.Made.{has_made}
+use Rattle.channel_core.specs.Channel.{sent}
 use Rattle.ruled_channel.proofs.channel.RuledChannel.try_send_as.Goals as goal
 
 pub give_back-requires-in-Ok-Err-clause-rule : goal.give_back-requires-in-Ok-Err-clause-rule
@@ -22,3 +25,7 @@ returns-in-Ok-Err-clause-refused g c = let same = c.lock-held.ensures.same in le
 pub returns-in-Err-clause-memory : goal.returns-in-Err-clause-memory
 returns-in-Err-clause-memory g c = let shows = c.value_mut-core.ensures.value ∙ c.lock-held.ensures.held.1 in let told = c.give_back-in-Err.ensures.rule in
     (c.in-Err.ensures.handed_back, told.0 ∙ c.lock-held.ensures.same.1, fits_none c.value_mut-core.result.now (found c.lock-held.result) g.P.Protocol.fits shows c.in-Err.ensures.wanted.1 told.1)
+
+pub returns-in-Ok-Ok-clause-step : goal.returns-in-Ok-Ok-clause-step
+returns-in-Ok-Ok-clause-step g c = let shows = c.value_mut-core.ensures.value ∙ c.lock-held.ensures.held.1 in let here = c.in-Ok-Ok.ensures in let told = c.give_back.ensures in
+    has_made c.give_back.new.pass c.value_mut-core.result.now c.try_send.new.self _ _ _ shows c.new-bell.ensures told.found told.made told.woken (sent c.args.message) here.after here.rung

@@ -1,6 +1,7 @@
-use Rattle.std.proofs.Common.{◌≡◌, ◌++◌}
-use Rattle.ruled_channel_rules.specs.Handles.{IsReceiverOf, got_by}
+use Rattle.std.proofs.Common.{◌≡◌}
+use Rattle.ruled_channel_rules.specs.Handles.{IsReceiverOf, receiver_closed}
+use Rattle.ruled_channel_rules.specs.Receiving.{HasAdded}
 use Rattle.ruled_channel_rules.proofs.handles.Receiver.recv_all.Given as goal
 
 abbrev pub invariant-loop : goal.invariant-loop
-invariant-loop g l = IsReceiverOf l.channel l.self × (got_by l.self ≡ got_by l.initial.self ++ l.all.items)
+invariant-loop g l = IsReceiverOf l.channel l.self × HasAdded l.initial.self l.initial.all.items l.self l.all.items × (receiver_closed l.self ≡ receiver_closed l.initial.self)

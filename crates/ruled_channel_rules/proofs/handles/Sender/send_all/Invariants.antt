@@ -1,6 +1,10 @@
-use Rattle.std.proofs.Common.{◌≡◌, ◌++◌, take}
-use Rattle.ruled_channel_rules.specs.Handles.{IsSenderOf, sent_by}
+use Rattle.std.proofs.Common.{◌≡◌, ◌++◌}
+use Rattle.std.specs.VecDeque.{deque_len}
+use Rattle.ruled_channel_rules.specs.Handles.{IsSenderOf, sent_by, sender_closed}
 use Rattle.ruled_channel_rules.proofs.handles.Sender.send_all.Given as goal
 
-abbrev pub invariant-loop-next : goal.invariant-loop-next
-invariant-loop-next g l = IsSenderOf l.channel l.self × (sent_by l.self ≡ sent_by l.initial.self ++ take l.next l.messages)
+abbrev pub invariant-loop-message : goal.invariant-loop-message
+invariant-loop-message g l = IsSenderOf l.channel l.self × (sent_by l.self ++ l.messages.items ≡ sent_by l.initial.self ++ l.initial.messages.items) × (sender_closed l.self ≡ sender_closed l.initial.self)
+
+abbrev pub decreases-loop-message : goal.decreases-loop-message
+decreases-loop-message g l = deque_len l.messages

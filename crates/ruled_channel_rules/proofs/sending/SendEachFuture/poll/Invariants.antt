@@ -5,6 +5,6 @@ use Rattle.ruled_channel_rules.proofs.sending.SendEachFuture.poll.Given as goal
 
 abbrev pub invariant-loop : goal.invariant-loop
 invariant-loop g l =
-    MaySendEach l.self.channel.now l.self.sender.value l.self.messages.now l.self.sent l.self.turn × Keeps l.initial.cx l.cx
+    MaySendEach l.self.channel.now l.self.sender.value l.self.messages.value.items l.self.turn × Keeps l.initial.cx l.cx
     × (l.self.channel.now ≡ l.initial.self.channel.now) × (l.self.sender.value ≡ l.initial.self.sender.value)
-    × (l.self.messages.now ≡ l.initial.self.messages.now) × (l.self.closes ≡ l.initial.self.closes)
+    × (l.self.messages.value ≡ l.initial.self.messages.value) × (l.self.closes ≡ l.initial.self.closes)

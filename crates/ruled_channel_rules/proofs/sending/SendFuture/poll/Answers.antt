@@ -5,7 +5,7 @@ use Rattle.ruled_channel_rules.proofs.sending.SendFuture.poll.Goals as goal
 pub answer-requires : goal.answer-requires
 answer-requires g c =
     let may : MaySend c.args.self.now.channel.now c.args.self.now.sender.value c.args.self.now.message.value c.in-Some.inner.channel.now c.in-Some.inner.parts = search rules in
-    may.1 _ c.in-Ready.ensures.value
+    may.1 (c.in-Ready.pass, c.in-Ready.sent) c.in-Ready.ensures.value
 
 pub returns-in-Pending-clause-again : goal.returns-in-Pending-clause-again
 returns-in-Pending-clause-again g c =

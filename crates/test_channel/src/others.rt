@@ -1,0 +1,67 @@
+//! Rows that no script has. A call that is refused memory is made again, and the row goes on as if
+//! nothing had been.
+use crate::{many, maps, records};
+use anyhow::Result;
+use std::alloc::AllocGlobal;
+use std::random::RandomSource;
+use std::sync::Wait;
+use std::thread::Threads;
+
+#[derive(Clone, Copy)]
+enum Row {
+    /// At a capacity, so many messages are sent by one future, in so many polls.
+    SendMany(usize, usize, usize),
+    /// So many messages are received by one future.
+    ReceiveMany(usize),
+    Recorder,
+    /// By so many workers.
+    Map(usize),
+    MapInChunks(usize),
+}
+
+/// All rows, by their names.
+const ROWS: [(&str, Row); 9] = [
+    ("a send of many that waits", Row::SendMany(2, 5, 3)),
+    (
+        "a send of many without a capacity",
+        Row::SendMany(0, 300, 1),
+    ),
+    ("a receive of many", Row::ReceiveMany(2)),
+    ("a receive of many in rounds", Row::ReceiveMany(300)),
+    ("the recorder's calls", Row::Recorder),
+    ("a map by one thread", Row::Map(1)),
+    ("a map by three threads", Row::Map(3)),
+    ("a map in chunks by one thread", Row::MapInChunks(1)),
+    ("a map in chunks by three threads", Row::MapInChunks(3)),
+];
+
+impl Row {
+    /// Makes the row, and answers how many calls were refused memory and made again.
+    fn make<R>(self, rt: &R) -> Result<usize>
+    where
+        R: Wait + Threads + Clone + Drop + Send + Sync + RandomSource + AllocGlobal,
+    {
+        match self {
+            Row::SendMany(capacity, count, polls) => many::send(rt, capacity, count, polls),
+            Row::ReceiveMany(count) => many::receive(rt, count),
+            Row::Recorder => records::calls(rt),
+            Row::Map(workers) => maps::map(rt, false, workers),
+            Row::MapInChunks(workers) => maps::map(rt, true, workers),
+        }
+    }
+}
+
+/// Makes the rows of this name, or all, and answers whether a call was made again.
+pub fn make<R>(rt: &R, asked: Option<&str>) -> Result<bool>
+where
+    R: Wait + Threads + Clone + Drop + Send + Sync + RandomSource + AllocGlobal + Print,
+{
+    let mut was_refused = false;
+    for (name, row) in ROWS {
+        if asked.is_none() || asked == Some(name) {
+            was_refused |= row.make(rt)? > 0;
+            println!(rt; "{name}")?;
+        }
+    }
+    Ok(was_refused)
+}

@@ -1,0 +1,147 @@
+//! Whole lists, sent and received by handles under the rule by name.
+ghost use Rattle.ruled_channel_rules.specs.Handles.{IsHubOf, IsSenderOf, IsReceiverOf};
+
+use futures::executor::block_on;
+use futures::future;
+use futures::task::Poll;
+use futures::test::MockTask;
+use ruled_channel_rules::{Channel, Hub, OutOfMemory, bounded, unbounded};
+use std::alloc::{AllocError, AllocGlobal, Global};
+use std::collections::VecDeque;
+use std::random::RandomSource;
+use std::sync::Wait;
+use std::test::*;
+use std::thread::{Threads, join};
+
+/// More than 16 bits can count.
+const MANY: u32 = 100_000;
+
+/// Whether one sends all its messages, and what the other receives.
+type Relayed = (bool, Result<Vec<u32>, OutOfMemory>);
+
+/// The numbers from 0 on.
+fn numbers(alloc: Global, count: u32) -> Result<VecDeque<u32>, AllocError> {
+    Ok(VecDeque::from((0..count).collect::<Vec<_>>(alloc)?))
+}
+
+/// One thread sends the list and closes, another receives all.
+fn relay<R: Threads + Wait + Sync>(
+    rt: &R,
+    alloc: Global,
+    channel: &Channel<u32>,
+    hub: &mut Hub<u32>,
+    mut list: VecDeque<u32>,
+) -> Relayed
+    requires { IsHubOf channel.now hub.old }
+{
+    let mut sender = hub.sender(channel);
+    let mut receiver = hub.receiver(channel);
+    join(
+        rt,
+        move || -> bool
+            requires { IsSenderOf channel.now sender }
+        {
+            let sent = sender.send_all(rt, channel, &mut list);
+            sender.close(rt, channel);
+            matches!(&sent, Ok(Ok(())))
+        },
+        move || -> Result<Vec<u32>, OutOfMemory>
+            requires { IsReceiverOf channel.now receiver }
+        {
+            let mut all = Vec::new(alloc);
+            receiver.recv_all(rt, channel, &mut all)?;
+            Ok(all)
+        },
+    )
+}
+
+/// One task sends the list and closes, and receives all.
+fn relay_in_one_task<'r, 'c, R: Wait + RandomSource + AllocGlobal>(
+    rt: &'r R,
+    alloc: Global,
+    channel: &'c Channel<u32>,
+    hub: &mut Hub<u32>,
+    list: VecDeque<u32>,
+) -> Result<Relayed, Fail>
+    requires { IsHubOf channel.now hub.old }
+{
+    let (sender, receiver) = (hub.sender(channel), hub.receiver(channel));
+    let send = sender.send_each_and_close(rt, channel, list);
+    let collect = receiver.collect(rt, channel, Vec::new(alloc));
+    let (sent, got) = block_on(rt, future::join(send, collect))?;
+    let (_, rest, sent) = sent;
+    let (_, all, got) = got;
+    let all_sent = matches!(&sent, Ok(Ok(()))) && rest.is_empty();
+    Ok((all_sent, got.map(|()| all)))
+}
+
+#[test]
+fn two_threads_relay_a_list(rt: HostRuntime) -> Result<(), Fail> {
+    for (capacity, count) in [(1, 0), (1, 1000), (MANY, MANY)] {
+        let list = (0..count).collect::<Vec<_>>(rt.alloc())?;
+        let (channel, mut hub) = bounded(rt.alloc(), capacity as usize).expect(&rt, "a channel");
+        let messages = numbers(rt.alloc(), count)?;
+        let (all_sent, all) = relay(&rt, rt.alloc(), &channel, &mut hub, messages);
+        assert!(rt; all_sent);
+        assert!(rt; all.is_ok_and(|all| all.as_slice() == list.as_slice()));
+    }
+    Ok(())
+}
+
+#[test]
+fn one_task_relays_a_list(rt: HostRuntime) -> Result<(), Fail> {
+    for (capacity, count) in [(1, 0), (1, 1000), (1024, MANY)] {
+        let list = (0..count).collect::<Vec<_>>(rt.alloc())?;
+        let (channel, mut hub) = bounded(rt.alloc(), capacity).expect(&rt, "a channel");
+        let messages = numbers(rt.alloc(), count)?;
+        let (all_sent, all) = relay_in_one_task(&rt, rt.alloc(), &channel, &mut hub, messages)?;
+        assert!(rt; all_sent);
+        assert!(rt; all.is_ok_and(|all| all.as_slice() == list.as_slice()));
+    }
+    Ok(())
+}
+
+#[test]
+fn lists_that_wait_keep_their_place(rt: HostRuntime) -> Result<(), Fail> {
+    let (channel, mut hub) = bounded(rt.alloc(), 1).expect(&rt, "a channel");
+    let (task, other) = (MockTask::new(&rt)?, MockTask::new(&rt)?);
+    let (sender, next) = (hub.sender(&channel), hub.sender(&channel));
+    let mut send = sender.send_each(&rt, &channel, numbers(rt.alloc(), 2)?);
+    let mut later = next.send_each(&rt, &channel, numbers(rt.alloc(), 1)?);
+    assert!(rt; task.poll(&mut send).is_pending() && other.poll(&mut later).is_pending());
+    assert!(rt; task.poll(&mut send).is_pending());
+    let mut receiver = hub.receiver(&channel);
+    assert_eq!(rt; receiver.try_recv(&rt, &channel), Ok(0));
+    assert!(rt; task.is_woken() && !other.is_woken());
+    let (channel, mut hub) = bounded(rt.alloc(), 1).expect(&rt, "a channel");
+    let (task, other) = (MockTask::new(&rt)?, MockTask::new(&rt)?);
+    let (receiver, next) = (hub.receiver(&channel), hub.receiver(&channel));
+    let mut collect = receiver.collect(&rt, &channel, Vec::new(rt.alloc()));
+    let mut later = next.collect(&rt, &channel, Vec::new(rt.alloc()));
+    assert!(rt; task.poll(&mut collect).is_pending() && other.poll(&mut later).is_pending());
+    assert!(rt; task.poll(&mut collect).is_pending());
+    assert_eq!(rt; hub.sender(&channel).try_send(&rt, &channel, 1), Ok(Ok(())));
+    assert!(rt; task.is_woken() && !other.is_woken());
+    Ok(())
+}
+
+#[test]
+fn lists_leave_others_a_turn(rt: HostRuntime) -> Result<(), Fail> {
+    let (channel, mut hub) = unbounded(rt.alloc()).expect(&rt, "a channel");
+    let (task, other) = (MockTask::new(&rt)?, MockTask::new(&rt)?);
+    let list = numbers(rt.alloc(), 1000)?;
+    let mut send = hub.sender(&channel).send_each(&rt, &channel, list);
+    assert!(rt; task.poll(&mut send).is_pending());
+    assert!(rt; task.is_woken());
+    // 128 steps: a send is begun, and then polled
+    let (mut sender, waits, mut rest) = send.give_up();
+    assert_eq!(rt; (waits, rest.len()), (None, 936));
+    assert_eq!(rt; sender.send_all(&rt, &channel, &mut rest), Ok(Ok(())));
+    let list = Vec::new(rt.alloc());
+    let mut collect = hub.receiver(&channel).collect(&rt, &channel, list);
+    assert!(rt; other.poll(&mut collect).is_pending());
+    assert!(rt; other.is_woken());
+    let (_receiver, all) = collect.give_up();
+    assert_eq!(rt; all.len(), 128);
+    Ok(())
+}

@@ -1,0 +1,97 @@
+//! One of those who share a channel under the rule that asks nothing.
+ghost use Rattle.std.specs.Prelude.{IfOk};
+ghost use Rattle.ruled_channel.specs.Passes.{IsPassOf};
+
+use ruled_channel::{RuledChannel, Split, Unruled};
+use std::sync::Wait;
+
+pub type Channel = RuledChannel<u32, (), Unruled>;
+
+pub type Pass = ruled_channel::Pass<u32, ()>;
+
+/// A view that knows nothing is cut in two that know nothing.
+pub struct Halves;
+
+impl Split<()> for Halves {
+    ghost left = { λ v. v };
+
+    ghost right = { λ v. v };
+}
+
+/// A channel, and a pass of it.
+#[derive(Drop)]
+pub struct Party<'c> {
+    channel: &'c Channel,
+    pass: Pass,
+    ghost owns: { IsPassOf channel.now pass },
+}
+
+impl<'c> Party<'c> {
+    pub fn new(channel: &'c Channel, pass: Pass) -> Party<'c>
+        requires { IsPassOf channel.now pass }
+    {
+        Party { channel, pass }
+    }
+
+    /// One more.
+    pub fn another(&mut self) -> Party<'c> {
+        let channel = self.channel;
+        let pass = channel.another::<Halves>(&mut self.pass);
+        Party { channel, pass }
+    }
+
+    /// Whether a message went in.
+    pub fn send<R: Wait>(&mut self, rt: &R, message: u32) -> bool {
+        let channel = self.channel;
+        let sent = channel.send_blocking_as::<Unruled, Unruled, R>(rt, &mut self.pass, message);
+        sent == Ok(Ok(()))
+    }
+
+    /// Whether a message went in at once.
+    pub fn try_send<R: Wait>(&mut self, rt: &R, message: u32) -> bool {
+        let channel = self.channel;
+        let sent = channel.try_send_as::<Unruled, Unruled, R>(rt, &mut self.pass, message);
+        sent == Ok(Ok(()))
+    }
+
+    /// Whether a message went in beside all others.
+    pub fn force<R: Wait>(&mut self, rt: &R, message: u32) -> bool {
+        let channel = self.channel;
+        let forced = channel.force_send_as::<Unruled, Unruled, R>(rt, &mut self.pass, message);
+        forced == Ok(Ok(None))
+    }
+
+    /// The next message, or none if the channel is closed and empty.
+    pub fn receive<R: Wait>(&mut self, rt: &R) -> Option<u32> {
+        let channel = self.channel;
+        match channel.recv_blocking_as::<Unruled, Unruled, R>(rt, &mut self.pass) {
+            Ok(Ok(message)) => Some(message),
+            _ => None,
+        }
+    }
+
+    /// The message that is there.
+    pub fn try_receive<R: Wait>(&mut self, rt: &R) -> Option<u32> {
+        let channel = self.channel;
+        let received = channel.try_recv_as::<Unruled, Unruled, Unruled, R>(rt, &mut self.pass);
+        received.ok()
+    }
+
+    /// Whether it was open.
+    pub fn close<R: Wait>(&mut self, rt: &R) -> bool {
+        self.channel.close_as::<Unruled, R>(rt, &mut self.pass)
+    }
+
+    /// Whether one more sender and one more receiver are counted.
+    pub fn add<R: Wait>(&mut self, rt: &R) -> bool {
+        let (channel, pass) = (self.channel, &mut self.pass);
+        channel.add_sender(rt, pass) && channel.add_receiver(rt, pass)
+    }
+
+    /// Gives up a sender and a receiver. Whether one of them was the last one.
+    pub fn give_up<R: Wait>(&mut self, rt: &R) -> bool {
+        let (channel, pass) = (self.channel, &mut self.pass);
+        channel.drop_sender_as::<Unruled, R>(rt, pass)
+            || channel.drop_receiver_as::<Unruled, R>(rt, pass)
+    }
+}
