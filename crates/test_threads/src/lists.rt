@@ -134,8 +134,9 @@ fn lists_leave_others_a_turn(rt: HostRuntime) -> Result<(), Fail> {
     assert!(rt; task.poll(&mut send).is_pending());
     assert!(rt; task.is_woken());
     // 128 steps: a send is begun, and then polled
-    let (mut sender, waits, mut rest) = send.give_up();
+    let (_sender, waits, mut rest) = send.give_up();
     assert_eq!(rt; (waits, rest.len()), (None, 936));
+    let mut sender = hub.sender(&channel);
     assert_eq!(rt; sender.send_all(&rt, &channel, &mut rest), Ok(Ok(())));
     let list = Vec::new(rt.alloc());
     let mut collect = hub.receiver(&channel).collect(&rt, &channel, list);
