@@ -1,3 +1,11 @@
+pub use Rattle.channel_model.specs.Answers
+pub use Rattle.channel_model.specs.Capacity
+pub use Rattle.channel_model.specs.Legal
+pub use Rattle.channel_model.specs.Notices
+pub use Rattle.channel_model.specs.Past
+pub use Rattle.channel_model.specs.Polling
+pub use Rattle.channel_model.specs.Replies
+pub use Rattle.channel_run.specs.StandsFor
 pub mod Device
 pub mod Grammar
 pub mod Digits

@@ -1,3 +1,9 @@
+pub use Rattle.channel_core.specs.Channel
+pub use Rattle.channel_core.specs.Counts
+pub use Rattle.channel_core.specs.Tickets
+pub use Rattle.channel_model.specs.Errors
+pub use Rattle.channel_model.specs.Tables
+pub use Rattle.event_list.specs.Waiting
 pub mod Marks
 pub mod Rung
 pub mod Rule
