@@ -10,7 +10,7 @@ use crate::error::MapError;
 use crate::job::{Gate, Job};
 use crate::lines::{bounded_line, unbounded_line};
 use crate::workers::{self, Hubs, Task};
-use identity::{Exact, StampMaker};
+use identity::StampMaker;
 use std::alloc::Global;
 use std::sync::Wait;
 use std::thread;
@@ -109,11 +109,11 @@ pub fn map_all<A, B, J, G, R>(
     maker: &mut StampMaker,
 ) -> Result<Vec<B>, MapError>
 where
-    A: Exact + Sync,
+    A: Sync,
     B: Drop + Send,
     J: Job<A, B> + Sync,
     G: Gate + Sync,
-    R: Wait + Threads + Clone + Drop + Send + Sync,
+    R: Wait + Threads + Sync,
     requires workers { 0 < workers }
     requires cap { 0 < cap }
     ensures mapped { IfOk result (λ answers. answers.items ≡ map J.answer inputs.now) }
@@ -162,11 +162,11 @@ pub fn map_in_chunks<A, B, J, G, R>(
     maker: &mut StampMaker,
 ) -> Result<Vec<B>, MapError>
 where
-    A: Exact + Sync,
+    A: Sync,
     B: Drop + Send,
     J: Job<A, B> + Sync,
     G: Gate + Sync,
-    R: Wait + Threads + Clone + Drop + Send + Sync,
+    R: Wait + Threads + Sync,
     requires largest { 0 < largest }
     requires workers { 0 < workers }
     requires cap { 0 < cap }
