@@ -5,7 +5,7 @@ A case is a folder: args (one a line), stdin, stdout, stderr and status. The fil
 there is one, names a device that standard output goes to. Status and both streams are compared.
 Of one case each of the three is then changed, and the difference has to be named. The gate leaves
 the program built; if it isn't, `rt run` builds it. The last line counts the cases, and the status
-is 0 if all passed.
+is 0 if all passed and there are as many as are stored here.
 """
 
 import pathlib
@@ -16,6 +16,8 @@ TOOLS = pathlib.Path(__file__).resolve().parent
 CRATE = TOOLS.parent / "crates" / "program_chanrun"
 PROGRAM = CRATE / "out" / "program_chanrun"
 SECONDS = 60
+# How many cases there are, so that none is lost.
+CASES = 8
 
 
 def built():
@@ -78,8 +80,8 @@ def main():
     missed = overlooked(program, TOOLS / "chanrun_runs" / "good_script")
     for it in missed:
         print(f"chanrun: another {it} isn't seen")
-    print(f"chanrun: {len(cases) - failed} passed, {failed + len(missed)} failed")
-    return 0 if cases and not failed and not missed else 1
+    print(f"chanrun: {len(cases) - failed} passed, {failed + len(missed)} failed; stored: {CASES}")
+    return 0 if len(cases) == CASES and not failed and not missed else 1
 
 
 if __name__ == "__main__":

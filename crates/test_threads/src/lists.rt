@@ -126,6 +126,36 @@ fn lists_that_wait_keep_their_place(rt: HostRuntime) -> Result<(), Fail> {
 }
 
 #[test]
+fn a_collect_that_waits_takes_room_for_one_message(rt: HostRuntime) -> Result<(), Fail> {
+    let (channel, mut hub) = bounded(rt.alloc(), MANY as usize).expect(&rt, "a channel");
+    let (receiver, task) = (hub.receiver(&channel), MockTask::new(&rt)?);
+    let mut list: Vec<u32> = Vec::new(rt.alloc());
+    list.try_reserve(1)?;
+    let room = list.capacity();
+    let mut collect = receiver.collect(&rt, &channel, list);
+    assert!(rt; task.poll(&mut collect).is_pending());
+    assert!(rt; task.poll(&mut collect).is_pending());
+    let (_receiver, list) = collect.give_up();
+    assert_eq!(rt; list.capacity(), room);
+    Ok(())
+}
+
+#[test]
+fn a_receive_of_all_takes_room_for_what_comes(rt: HostRuntime) -> Result<(), Fail> {
+    let (channel, mut hub) = bounded(rt.alloc(), MANY as usize).expect(&rt, "a channel");
+    let (mut sender, mut receiver) = (hub.sender(&channel), hub.receiver(&channel));
+    assert_eq!(rt; sender.send_blocking(&rt, &channel, 1), Ok(Ok(())));
+    sender.close(&rt, &channel);
+    let mut list = Vec::new(rt.alloc());
+    // one message, and one that might come
+    list.try_reserve(2)?;
+    let room = list.capacity();
+    assert_eq!(rt; receiver.recv_all(&rt, &channel, &mut list), Ok(()));
+    assert!(rt; list.as_slice() == [1].as_slice() && list.capacity() == room);
+    Ok(())
+}
+
+#[test]
 fn lists_leave_others_a_turn(rt: HostRuntime) -> Result<(), Fail> {
     let (channel, mut hub) = unbounded(rt.alloc()).expect(&rt, "a channel");
     let (task, other) = (MockTask::new(&rt)?, MockTask::new(&rt)?);
