@@ -291,7 +291,7 @@ fn a_blocked_send_sleeps_until_it_is_told(rt: HostRuntime) -> Result<(), Fail> {
     Ok(())
 }
 
-/// How often a thread is blocked in a batch. In some of these rounds it takes the messages before
+/// How often a thread is blocked in a batch. In some of these rounds it takes messages before both
 /// others wait.
 const BATCHES: u32 = 20;
 
@@ -311,14 +311,25 @@ where
     assert_eq!(rt; s.try_send_many(&mut from), Ok(Ok(2)));
     let both_wait = matches!(&task.poll(&mut first), Poll::Pending)
         && matches!(&other.poll(&mut second), Poll::Pending);
-    assert_eq!(rt; thread.join(rt), Batch(2));
-    Ok(both_wait.then_some(task.is_woken() && other.is_woken()))
+    let ended = thread.join(rt);
+    if both_wait {
+        assert_eq!(rt; ended, Batch(2));
+        return Ok(Some(task.is_woken() && other.is_woken()));
+    }
+    // One that didn't wait may have sent before the batch was done.
+    assert!(rt; matches!(ended, Batch(2..=4)), "{ended:?}");
+    Ok(None)
 }
 
 #[test]
 fn a_blocked_batch_tells_as_many_sends(rt: HostRuntime) -> Result<(), Fail> {
+    let mut both_waited = false;
     for _ in 0..BATCHES {
-        assert!(rt; batch_wakes_both(&rt)? != Some(false));
+        if let Some(are_woken) = batch_wakes_both(&rt)? {
+            assert!(rt; are_woken);
+            both_waited = true;
+        }
     }
+    assert!(rt; both_waited);
     Ok(())
 }
