@@ -9,10 +9,12 @@ use futures::test::MockTask;
 use std::alloc::{AllocGlobal, Global};
 use std::process::Abort;
 use std::random::RandomSource;
+use std::rt::Clock;
 use std::sync::Wait;
 use std::test::Fail;
 use std::thread;
 use std::thread::{JoinHandle, Threads};
+use std::time::Duration;
 
 /// A call that blocks.
 #[derive(Clone, Copy, Debug)]
@@ -235,18 +237,16 @@ fn who_is_told_in_vain_is_told_again(rt: HostRuntime) -> Result<(), Fail> {
 /// What a receive gives.
 type Received = Result<Result<u64, RecvError>, OutOfMemory>;
 
-/// Lets others run for a while.
-fn give_turns() {
-    for _ in 0..10_000u32 {
-        thread::yield_now();
-    }
+/// Lets others run for a while. A turn that is given away may take any time on a busy machine.
+fn give_time(rt: &impl Clock) {
+    thread::sleep(rt, Duration::from_millis(10));
 }
 
 /// Blocks a thread in a receive behind a task's, which a message tells. It answers what the task
 /// receives, before what the thread does or behind the close.
 fn sleeps<R>(rt: &R, closes: bool) -> Result<(Poll<Received>, Said), Fail>
 where
-    R: Threads + Wait + Clone + Drop + RandomSource + AllocGlobal + Abort,
+    R: Threads + Wait + Clone + Drop + RandomSource + AllocGlobal + Abort + Clock,
     R: std::marker::Send + Sync + 'static,
 {
     let (s, r) = channel(rt, None)?;
@@ -254,7 +254,7 @@ where
     assert!(rt; matches!(&task.poll(&mut recv), Poll::Pending));
     let thread = blocked(rt, Call::Recv, &s, &r, &weak, 2)?;
     assert_eq!(rt; TrySend(7).make(&s, &r), Done);
-    give_turns();
+    give_time(rt);
     if closes {
         assert_eq!(rt; Close.make(&s, &r), Done);
         let ended = thread.join(rt);
@@ -284,7 +284,7 @@ fn a_blocked_send_sleeps_until_it_is_told(rt: HostRuntime) -> Result<(), Fail> {
     assert!(rt; matches!(&task.poll(&mut send), Poll::Pending));
     let thread = blocked(&rt, Call::Send(3), &s, &r, &weak, 2)?;
     assert_eq!(rt; r.try_recv(), Ok(1));
-    give_turns();
+    give_time(&rt);
     assert!(rt; matches!(&task.poll(&mut send), Poll::Ready(Ok(Ok(())))));
     assert_eq!(rt; r.try_recv(), Ok(2));
     assert_eq!(rt; thread.join(&rt), Done);
