@@ -83,13 +83,12 @@ pub fn block_on<F: Future + Unpin>(mut future: F) -> F::Output {
     parker.state.store(AWAKE, ORDER);
     let waker = Waker::from(parker.clone());
     let mut context = Context::from_waker(&waker);
-    loop {
+    let output = loop {
         match Pin::new(&mut future).poll(&mut context) {
             Poll::Pending => parker.wait(),
-            Poll::Ready(output) => {
-                let _ = PARKER.try_with(|own| own.set(Some(parker.clone())));
-                return output;
-            }
+            Poll::Ready(output) => break output,
         }
-    }
+    };
+    let _ = PARKER.try_with(|own| own.set(Some(parker)));
+    output
 }

@@ -55,10 +55,15 @@ pub(crate) struct Channel<T> {
     capacity: Option<NonZeroUsize>,
     /// Twice the number of messages, and one more if the channel is closed.
     seen: AtomicUsize,
-    /// How many senders there are.
-    senders: AtomicUsize,
-    /// How many receivers there are.
-    receivers: AtomicUsize,
+    /// How many handles each side has.
+    handles: [AtomicUsize; 2],
+}
+
+/// The senders of a channel, or its receivers.
+#[derive(Clone, Copy)]
+pub(crate) enum Side {
+    Senders,
+    Receivers,
 }
 
 impl<T> Channel<T> {
@@ -72,8 +77,7 @@ impl<T> Channel<T> {
             locked: Lock::new((core, None)),
             capacity: capacity.and_then(NonZeroUsize::new),
             seen: AtomicUsize::new(0),
-            senders: AtomicUsize::new(1),
-            receivers: AtomicUsize::new(1),
+            handles: [AtomicUsize::new(1), AtomicUsize::new(1)],
         }
     }
 
@@ -217,96 +221,59 @@ impl<T> Channel<T> {
         self.capacity.map(NonZeroUsize::get)
     }
 
-    /// How many senders there are. Whoever sees none sees a closed channel from then on.
-    pub(crate) fn sender_count(&self) -> usize {
-        let count = self.senders.load(Ordering::SeqCst);
+    /// How many handles a side has. Whoever sees none sees a closed channel from then on.
+    pub(crate) fn handle_count(&self, side: Side) -> usize {
+        let count = self.handles[side as usize].load(Ordering::SeqCst);
         if count == 0 {
-            self.end_senders();
+            self.end(side);
         }
         count
     }
 
-    /// How many receivers there are. Whoever sees none sees a closed channel from then on.
-    pub(crate) fn receiver_count(&self) -> usize {
-        let count = self.receivers.load(Ordering::SeqCst);
-        if count == 0 {
-            self.end_receivers();
+    /// Counts one more handle, a copy of one that there is. The program ends if they are too many.
+    #[inline]
+    pub(crate) fn add_handle(&self, side: Side) {
+        if self.handles[side as usize].fetch_add(1, Ordering::SeqCst) > HANDLE_LIMIT {
+            abort();
         }
-        count
     }
 
-    /// Counts one more sender, a copy of one that there is.
-    #[inline]
-    pub(crate) fn add_sender(&self) {
-        add(&self.senders);
-    }
-
-    /// Counts one more receiver, a copy of one that there is.
-    #[inline]
-    pub(crate) fn add_receiver(&self) {
-        add(&self.receivers);
-    }
-
-    /// Counts one more sender if the channel is open, and answers whether it is.
-    pub(crate) fn upgrade_sender(&self) -> bool {
-        self.upgrade(&self.senders, |core, told| core.drop_sender(told))
-    }
-
-    /// Counts one more receiver if the channel is open, and answers whether it is.
-    pub(crate) fn upgrade_receiver(&self) -> bool {
-        self.upgrade(&self.receivers, |core, told| core.drop_receiver(&mut None, told))
-    }
-
-    /// Counts one more handle if the channel is open. The core isn't told: it knows of one.
-    fn upgrade(&self, count: &AtomicUsize, end: fn(&mut Core<T>, &mut Told) -> bool) -> bool {
+    /// Counts one more handle if the channel is open, and answers whether it is. The core isn't told:
+    /// it knows of one.
+    pub(crate) fn upgrade(&self, side: Side) -> bool {
         self.step(|core, told| {
             if core.is_closed() {
                 return false;
             }
-            let raised = add_to_some(count);
+            let raised = add_to_some(&self.handles[side as usize]);
             if !raised {
                 // The last one is on its way out, and hasn't said so under the lock yet.
-                end(core, told);
+                end(core, side, told);
             }
             raised
         })
     }
 
-    /// Gives a sender up. The core is told of the last one.
+    /// Gives a handle up. The core is told of the last one.
     #[inline]
-    pub(crate) fn drop_sender(&self) {
-        if self.senders.fetch_sub(1, Ordering::SeqCst) == 1 {
-            self.end_senders();
+    pub(crate) fn drop_handle(&self, side: Side) {
+        if self.handles[side as usize].fetch_sub(1, Ordering::SeqCst) == 1 {
+            self.end(side);
         }
     }
 
-    /// Gives a receiver up, and its stream's wait before it. The core is told of the last one.
-    #[inline]
-    pub(crate) fn drop_receiver(self: &Arc<Self>, stream: &mut Option<Ticket>) {
-        let _left = self.withdraw(Group::Streams, stream, None);
-        if self.receivers.fetch_sub(1, Ordering::SeqCst) == 1 {
-            self.end_receivers();
-        }
-    }
-
-    /// Tells the core that no sender is left.
+    /// Tells the core that a side has no handle left.
     #[cold]
-    fn end_senders(&self) {
-        self.step(|core, told| core.drop_sender(told));
-    }
-
-    /// Tells the core that no receiver is left.
-    #[cold]
-    fn end_receivers(&self) {
-        self.step(|core, told| core.drop_receiver(&mut None, told));
+    fn end(&self, side: Side) {
+        self.step(|core, told| end(core, side, told));
     }
 }
 
-/// Counts one more handle, a copy of one that there is. The program ends if they are too many.
-#[inline]
-fn add(count: &AtomicUsize) {
-    if count.fetch_add(1, Ordering::SeqCst) > HANDLE_LIMIT {
-        abort();
+/// The core's step that takes the last handle of a side.
+fn end<T>(core: &mut Core<T>, side: Side, told: &mut Told) -> bool {
+    match side {
+        Side::Senders => core.drop_sender(told),
+        Side::Receivers => core.drop_receiver(&mut None, told),
     }
 }
 

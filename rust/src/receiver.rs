@@ -1,6 +1,6 @@
 //! The receiving side: receivers, which are streams too, and weak ones.
 
-use crate::channel::Channel;
+use crate::channel::{Channel, Side};
 use crate::marks::Marks;
 use crate::operations::{Recv, Wait};
 use crate::proved::channel_core::Group;
@@ -216,7 +216,7 @@ impl<T> Receiver<T> {
     /// # drop((s, other));
     /// ```
     pub fn receiver_count(&self) -> usize {
-        self.channel.receiver_count()
+        self.channel.handle_count(Side::Receivers)
     }
 
     /// How many senders there are.
@@ -229,7 +229,7 @@ impl<T> Receiver<T> {
     /// # drop((r, other));
     /// ```
     pub fn sender_count(&self) -> usize {
-        self.channel.sender_count()
+        self.channel.handle_count(Side::Senders)
     }
 
     /// A weak receiver of this channel.
@@ -265,16 +265,17 @@ impl<T> Clone for Receiver<T> {
     /// One more receiver. The program ends if there are more than half of what a `usize` counts.
     #[inline]
     fn clone(&self) -> Receiver<T> {
-        self.channel.add_receiver();
+        self.channel.add_handle(Side::Receivers);
         Receiver { channel: self.channel.clone(), stream: None }
     }
 }
 
 impl<T> Drop for Receiver<T> {
-    /// The last receiver closes the channel.
+    /// The last receiver closes the channel. The stream's wait ends before that.
     #[inline]
     fn drop(&mut self) {
-        self.channel.drop_receiver(&mut self.stream);
+        let _left = self.channel.withdraw(Group::Streams, &mut self.stream, None);
+        self.channel.drop_handle(Side::Receivers);
     }
 }
 
@@ -330,7 +331,7 @@ impl<T> WeakReceiver<T> {
     /// assert!(weak.upgrade().is_none());
     /// ```
     pub fn upgrade(&self) -> Option<Receiver<T>> {
-        let is_open = self.channel.upgrade_receiver();
+        let is_open = self.channel.upgrade(Side::Receivers);
         is_open.then(|| Receiver { channel: self.channel.clone(), stream: None })
     }
 }

@@ -1,6 +1,6 @@
 //! The sending side: senders, and weak ones.
 
-use crate::channel::{with_memory, Channel};
+use crate::channel::{with_memory, Channel, Side};
 use crate::operations::{Closed, Send, Wait};
 use crate::proved::channel_core::Group;
 use crate::{SendError, TrySendError};
@@ -240,7 +240,7 @@ impl<T> Sender<T> {
     /// # drop((s, other));
     /// ```
     pub fn receiver_count(&self) -> usize {
-        self.channel.receiver_count()
+        self.channel.handle_count(Side::Receivers)
     }
 
     /// How many senders there are.
@@ -253,7 +253,7 @@ impl<T> Sender<T> {
     /// # drop((r, other));
     /// ```
     pub fn sender_count(&self) -> usize {
-        self.channel.sender_count()
+        self.channel.handle_count(Side::Senders)
     }
 
     /// A weak sender of this channel.
@@ -289,7 +289,7 @@ impl<T> Clone for Sender<T> {
     /// One more sender. The program ends if there are more than half of what a `usize` counts.
     #[inline]
     fn clone(&self) -> Sender<T> {
-        self.channel.add_sender();
+        self.channel.add_handle(Side::Senders);
         Sender { channel: self.channel.clone() }
     }
 }
@@ -298,7 +298,7 @@ impl<T> Drop for Sender<T> {
     /// The last sender closes the channel.
     #[inline]
     fn drop(&mut self) {
-        self.channel.drop_sender();
+        self.channel.drop_handle(Side::Senders);
     }
 }
 
@@ -330,7 +330,7 @@ impl<T> WeakSender<T> {
     /// assert!(weak.upgrade().is_none());
     /// ```
     pub fn upgrade(&self) -> Option<Sender<T>> {
-        let is_open = self.channel.upgrade_sender();
+        let is_open = self.channel.upgrade(Side::Senders);
         is_open.then(|| Sender { channel: self.channel.clone() })
     }
 }

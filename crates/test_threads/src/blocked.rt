@@ -9,10 +9,12 @@ use futures::test::MockTask;
 use std::alloc::{AllocGlobal, Global};
 use std::process::Abort;
 use std::random::RandomSource;
+use std::rt::Clock;
 use std::sync::Wait;
 use std::test::Fail;
 use std::thread;
 use std::thread::{JoinHandle, Threads};
+use std::time::Duration;
 
 /// A call that blocks.
 #[derive(Clone, Copy, Debug)]
@@ -235,18 +237,16 @@ fn who_is_told_in_vain_is_told_again(rt: HostRuntime) -> Result<(), Fail> {
 /// What a receive gives.
 type Received = Result<Result<u64, RecvError>, OutOfMemory>;
 
-/// Lets others run for a while.
-fn give_turns() {
-    for _ in 0..10_000u32 {
-        thread::yield_now();
-    }
+/// Lets others run for a while. A turn that is given away may take any time on a busy machine.
+fn give_time(rt: &impl Clock) {
+    thread::sleep(rt, Duration::from_millis(10));
 }
 
 /// Blocks a thread in a receive behind a task's, which a message tells. It answers what the task
 /// receives, before what the thread does or behind the close.
 fn sleeps<R>(rt: &R, closes: bool) -> Result<(Poll<Received>, Said), Fail>
 where
-    R: Threads + Wait + Clone + Drop + RandomSource + AllocGlobal + Abort,
+    R: Threads + Wait + Clone + Drop + RandomSource + AllocGlobal + Abort + Clock,
     R: std::marker::Send + Sync + 'static,
 {
     let (s, r) = channel(rt, None)?;
@@ -254,7 +254,7 @@ where
     assert!(rt; matches!(&task.poll(&mut recv), Poll::Pending));
     let thread = blocked(rt, Call::Recv, &s, &r, &weak, 2)?;
     assert_eq!(rt; TrySend(7).make(&s, &r), Done);
-    give_turns();
+    give_time(rt);
     if closes {
         assert_eq!(rt; Close.make(&s, &r), Done);
         let ended = thread.join(rt);
@@ -284,14 +284,14 @@ fn a_blocked_send_sleeps_until_it_is_told(rt: HostRuntime) -> Result<(), Fail> {
     assert!(rt; matches!(&task.poll(&mut send), Poll::Pending));
     let thread = blocked(&rt, Call::Send(3), &s, &r, &weak, 2)?;
     assert_eq!(rt; r.try_recv(), Ok(1));
-    give_turns();
+    give_time(&rt);
     assert!(rt; matches!(&task.poll(&mut send), Poll::Ready(Ok(Ok(())))));
     assert_eq!(rt; r.try_recv(), Ok(2));
     assert_eq!(rt; thread.join(&rt), Done);
     Ok(())
 }
 
-/// How often a thread is blocked in a batch. In some of these rounds it takes the messages before
+/// How often a thread is blocked in a batch. In some of these rounds it takes messages before both
 /// others wait.
 const BATCHES: u32 = 20;
 
@@ -311,14 +311,25 @@ where
     assert_eq!(rt; s.try_send_many(&mut from), Ok(Ok(2)));
     let both_wait = matches!(&task.poll(&mut first), Poll::Pending)
         && matches!(&other.poll(&mut second), Poll::Pending);
-    assert_eq!(rt; thread.join(rt), Batch(2));
-    Ok(both_wait.then_some(task.is_woken() && other.is_woken()))
+    let ended = thread.join(rt);
+    if both_wait {
+        assert_eq!(rt; ended, Batch(2));
+        return Ok(Some(task.is_woken() && other.is_woken()));
+    }
+    // One that didn't wait may have sent before the batch was done.
+    assert!(rt; matches!(ended, Batch(2..=4)), "{ended:?}");
+    Ok(None)
 }
 
 #[test]
 fn a_blocked_batch_tells_as_many_sends(rt: HostRuntime) -> Result<(), Fail> {
+    let mut both_waited = false;
     for _ in 0..BATCHES {
-        assert!(rt; batch_wakes_both(&rt)? != Some(false));
+        if let Some(are_woken) = batch_wakes_both(&rt)? {
+            assert!(rt; are_woken);
+            both_waited = true;
+        }
     }
+    assert!(rt; both_waited);
     Ok(())
 }

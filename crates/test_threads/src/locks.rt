@@ -50,9 +50,9 @@ fn a_held_lock_is_refused(rt: HostRuntime) -> Result<(), Fail> {
 
 const ROUNDS: u64 = 200;
 
-// How often a thread lets others run before it gives the lock back, so that those who wait for it
+// How many milliseconds a thread waits before it gives the lock back, so that those who wait for it
 // mostly sleep by then.
-const PAUSES: u32 = 50;
+const PAUSE: u64 = 1;
 
 // Takes the lock while the first thread holds it, says before each time that it will, and adds one.
 fn follow<R: Wait>(rt: &R, mutex: &Mutex, coming: &AtomicU64) {
@@ -76,15 +76,13 @@ fn follow_in_pair<R: Threads + Wait + Sync>(rt: &R, mutex: &Mutex, coming: &Atom
 }
 
 // Holds the lock until both other threads have come to it.
-fn lead<R: Wait>(rt: &R, mutex: &Mutex, coming: &AtomicU64) {
+fn lead<R: Wait + Clock>(rt: &R, mutex: &Mutex, coming: &AtomicU64) {
     for round in 0..ROUNDS {
         let mut pass = mutex.pass();
         let held = mutex.lock(rt, &mut pass);
         coming.fetch_add(1, Ordering::SeqCst);
         while_below(rt, coming, 5 * round + 3);
-        for _ in 0..PAUSES {
-            thread::yield_now();
-        }
+        thread::sleep(rt, Duration::from_millis(PAUSE));
         mutex.unlock_as::<Unruled>(&mut pass, held);
         while_below(rt, coming, 5 * round + 5);
     }

@@ -7,11 +7,13 @@ use async_channel::StampMaker;
 use parallel_map::{Gate, Job, MapError, Open, Piece, gather, map_all, map_in_chunks};
 use std::alloc::{AllocError, Global};
 use std::process::Abort;
+use std::rt::Clock;
 use std::sync::Wait;
 use std::sync::atomic::{AtomicBool, AtomicU64, Ordering};
 use std::test::Fail;
 use std::thread;
 use std::thread::Threads;
+use std::time::Duration;
 
 /// The square of a number, without what is above 64 bits.
 struct Square;
@@ -264,26 +266,27 @@ fn workers_run_at_once(rt: HostRuntime) -> Result<(), Fail> {
     Ok(())
 }
 
-/// How often a worker looks for one that can't come.
-const LONELY_TURNS: u32 = 2_000;
+/// How often a worker looks for one that can't come, and sleeps for a millisecond.
+const LONELY_LOOKS: u32 = 20;
 
 /// How many workers are between the gate's calls, which wait for one more than there are to be.
 #[derive(Drop)]
-struct Inside {
+struct Inside<'a, R: Clock> {
+    rt: &'a R,
     workers: u64,
     now: AtomicU64,
     too_many: AtomicBool,
 }
 
-impl Gate for Inside {
+impl<R: Clock> Gate for Inside<'_, R> {
     fn before(&self, _place: usize) {
         self.now.fetch_add(1, Ordering::SeqCst);
-        for _ in 0..LONELY_TURNS {
+        for _ in 0..LONELY_LOOKS {
             if self.now.load(Ordering::SeqCst) > self.workers {
                 self.too_many.store(true, Ordering::SeqCst);
                 return;
             }
-            thread::yield_now();
+            thread::sleep(self.rt, Duration::from_millis(1));
         }
     }
 
@@ -296,6 +299,7 @@ impl Gate for Inside {
 fn no_more_workers_than_the_caller_says(rt: HostRuntime) -> Result<(), Fail> {
     for workers in 1..4u8 {
         let gate = Inside {
+            rt: &rt,
             workers: u64::from(workers),
             now: AtomicU64::new(0),
             too_many: AtomicBool::new(false),

@@ -174,12 +174,22 @@ fn a_batch_of_one_round_comes_and_goes_at_once(rt: HostRuntime) -> Result<(), Fa
     Ok(())
 }
 
+// On a busy machine the other thread seldom comes in. So each way has the time of a test for itself.
 #[test]
 fn others_come_in_between_the_rounds_of_a_batch(rt: HostRuntime) -> Result<(), Fail> {
-    for way in [Way::Plain, Way::Blocking, Way::Polled] {
-        let are_moved = are_moved(&rt, way, MANY_ROUNDS)?;
-        assert!(rt; are_moved, "{way:?}");
-    }
+    assert!(rt; are_moved(&rt, Way::Plain, MANY_ROUNDS)?);
+    Ok(())
+}
+
+#[test]
+fn others_come_in_between_the_rounds_of_a_batch_that_blocks(rt: HostRuntime) -> Result<(), Fail> {
+    assert!(rt; are_moved(&rt, Way::Blocking, MANY_ROUNDS)?);
+    Ok(())
+}
+
+#[test]
+fn others_come_in_between_the_rounds_of_a_polled_batch(rt: HostRuntime) -> Result<(), Fail> {
+    assert!(rt; are_moved(&rt, Way::Polled, MANY_ROUNDS)?);
     Ok(())
 }
 

@@ -10,8 +10,7 @@ fn too_many_handles_end_the_program() {
     let (s, r) = unbounded::<u64>();
     let (weak_sender, weak_receiver) = (s.downgrade(), r.downgrade());
     let set_counts = |count| {
-        s.channel.senders.store(count, Ordering::SeqCst);
-        s.channel.receivers.store(count, Ordering::SeqCst);
+        s.channel.handles.iter().for_each(|handles| handles.store(count, Ordering::SeqCst));
     };
     let ends = |call: &dyn Fn()| catch_unwind(AssertUnwindSafe(call)).is_err();
     let calls: [&dyn Fn(); 4] = [

@@ -16,9 +16,9 @@ const ALL: u64 = 102_400;
 macro_rules! rows {
     ($channel:literal, $capacity:expr, of $($batch:literal)+) => {
         [
-            $(work!(concat!("one to one, batches of ", $batch, ", ", $channel), None,
+            $(work!(concat!("one to one, batches of ", $batch, ", ", $channel),
                 single($capacity, $batch): AsyncChannel Here Flume Crossbeam),)+
-            $(work!(concat!("four to four, batches of ", $batch, ", ", $channel), None,
+            $(work!(concat!("four to four, batches of ", $batch, ", ", $channel),
                 many($capacity, $batch): AsyncChannel Here Flume Crossbeam),)+
         ]
     };

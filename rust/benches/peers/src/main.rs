@@ -22,8 +22,6 @@ type Run = (&'static str, fn() -> f64);
 /// One piece of work, and each peer that can do it.
 pub struct Work {
     pub name: &'static str,
-    /// The greatest ratio to `async-channel` that the crate aims at.
-    pub goal: Option<f64>,
     pub runs: Vec<Run>,
 }
 
@@ -69,14 +67,13 @@ fn measure(works: &[Work], rounds: usize) -> Measured {
 }
 
 fn print_table(works: &[Work], measured: &Measured) {
-    println!("| Work | {BASE} {} | {HERE} | ratio | of the least | goal |", version(BASE));
-    println!("|---|---|---|---|---|---|");
+    println!("| Work | {BASE} {} | {HERE} | ratio | of the least |", version(BASE));
+    println!("|---|---|---|---|---|");
     for work in works {
         let (base, here) = (measured[&(work.name, BASE)], measured[&(work.name, HERE)]);
-        let goal = work.goal.map_or("".to_owned(), |goal| format!("{goal:.2}"));
         let (ratio, least) = (here.median / base.median, here.least / base.least);
         let times = format!("{:.0} ns | {:.0} ns", base.median, here.median);
-        println!("| {} | {times} | {ratio:.2} | {least:.2} | {goal} |", work.name);
+        println!("| {} | {times} | {ratio:.2} | {least:.2} |", work.name);
     }
     let others = ["flume", "crossbeam-channel", "tokio"];
     println!("\n| Work | {} |", others.map(|peer| format!("{peer} {}", version(peer))).join(" | "));

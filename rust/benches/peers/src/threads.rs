@@ -13,21 +13,21 @@ pub const SIDE: u64 = 4;
 
 pub fn all() -> Vec<Work> {
     vec![
-        work!("one thread to one, bounded(1)", Some(0.3), single(Some(1), 20_000):
+        work!("one thread to one, bounded(1)", single(Some(1), 20_000):
             AsyncChannel Here Flume Crossbeam Tokio),
-        work!("one thread to one, bounded(128)", Some(0.7), single(Some(128), 200_000):
+        work!("one thread to one, bounded(128)", single(Some(128), 200_000):
             AsyncChannel Here Flume Crossbeam Tokio),
-        work!("one thread to one, unbounded", Some(0.8), single(None, 200_000):
+        work!("one thread to one, unbounded", single(None, 200_000):
             AsyncChannel Here Flume Crossbeam Tokio),
-        work!("four threads to four, bounded(1)", None, many(Some(1), SIDE, 20_000):
+        work!("four threads to four, bounded(1)", many(Some(1), SIDE, 20_000):
             AsyncChannel Here Flume Crossbeam),
-        work!("four threads to four, bounded(128)", Some(0.8), many(Some(128), SIDE, 100_000):
+        work!("four threads to four, bounded(128)", many(Some(128), SIDE, 100_000):
             AsyncChannel Here Flume Crossbeam),
-        work!("four threads to four, unbounded", Some(0.8), many(None, SIDE, 100_000):
+        work!("four threads to four, unbounded", many(None, SIDE, 100_000):
             AsyncChannel Here Flume Crossbeam),
-        work!("one task to one on tokio, bounded(128)", Some(0.9), single_task(Some(128)):
+        work!("one task to one on tokio, bounded(128)", single_task(Some(128)):
             AsyncChannel Here Flume Tokio),
-        work!("four tasks to four on tokio, bounded(128)", Some(0.9), many_tasks(Some(128)):
+        work!("four tasks to four on tokio, bounded(128)", many_tasks(Some(128)):
             AsyncChannel Here Flume),
     ]
 }
@@ -35,15 +35,15 @@ pub fn all() -> Vec<Work> {
 /// Works for one processor.
 pub fn crowds() -> Vec<Work> {
     vec![
-        work!("1 to 1, bounded(128)", None, single(Some(128), 200_000):
+        work!("1 to 1, bounded(128)", single(Some(128), 200_000):
             AsyncChannel Here Flume Crossbeam Tokio),
-        work!("1 to 1, unbounded", None, single(None, 200_000):
+        work!("1 to 1, unbounded", single(None, 200_000):
             AsyncChannel Here Flume Crossbeam Tokio),
-        work!("4 to 4, bounded(128)", None, many(Some(128), SIDE, 100_000):
+        work!("4 to 4, bounded(128)", many(Some(128), SIDE, 100_000):
             AsyncChannel Here Flume Crossbeam),
-        work!("32 to 32, bounded(128)", None, many(Some(128), 32, 102_400):
+        work!("32 to 32, bounded(128)", many(Some(128), 32, 102_400):
             AsyncChannel Here Flume Crossbeam),
-        work!("32 to 32, unbounded", None, many(None, 32, 102_400):
+        work!("32 to 32, unbounded", many(None, 32, 102_400):
             AsyncChannel Here Flume Crossbeam),
     ]
 }

@@ -14,10 +14,9 @@ use crate::Work;
 
 /// A work and its run on each of the peers named.
 macro_rules! work {
-    ($name:expr, $goal:expr, $run:ident $arguments:tt: $($peer:ident)+) => {
+    ($name:expr, $run:ident $arguments:tt: $($peer:ident)+) => {
         Work {
             name: $name,
-            goal: $goal,
             runs: vec![$(($peer::NAME, || $run::<$peer> $arguments)),+],
         }
     };
@@ -26,32 +25,32 @@ pub(crate) use work;
 
 pub fn all() -> Vec<Work> {
     vec![
-        work!("pair, bounded(1)", Some(0.43), pair(Some(1)):
+        work!("pair, bounded(1)", pair(Some(1)):
             AsyncChannel Here Flume Crossbeam Tokio),
-        work!("pair, bounded(1024)", Some(0.43), pair(Some(1024)):
+        work!("pair, bounded(1024)", pair(Some(1024)):
             AsyncChannel Here Flume Crossbeam Tokio),
-        work!("pair, unbounded", Some(0.32), pair(None):
+        work!("pair, unbounded", pair(None):
             AsyncChannel Here Flume Crossbeam Tokio),
-        work!("fill and drain, bounded(100000)", None, fill_and_drain(Some(100_000)):
+        work!("fill and drain, bounded(100000)", fill_and_drain(Some(100_000)):
             AsyncChannel Here Flume Crossbeam Tokio),
-        work!("fill and drain 100000, unbounded", None, fill_and_drain(None):
+        work!("fill and drain 100000, unbounded", fill_and_drain(None):
             AsyncChannel Here Flume Crossbeam Tokio),
-        work!("ready futures, bounded(16)", Some(0.5), ready_futures():
+        work!("ready futures, bounded(16)", ready_futures():
             AsyncChannel Here Flume Tokio),
-        work!("a receive that waits", Some(0.7), waiting_receive():
+        work!("a receive that waits", waiting_receive():
             AsyncChannel Here Flume Tokio),
-        work!("a receive that waits and is given up", None, given_up_receive():
+        work!("a receive that waits and is given up", given_up_receive():
             AsyncChannel Here Flume Tokio),
-        work!("a poll again with the same waker", Some(1.2), polls_again():
+        work!("a poll again with the same waker", polls_again():
             AsyncChannel Here Flume Tokio),
-        work!("clone and drop a sender", Some(1.1), clone_and_drop():
+        work!("clone and drop a sender", clone_and_drop():
             AsyncChannel Here Flume Crossbeam Tokio),
-        work!("len", Some(1.5), len(): AsyncChannel Here Flume Crossbeam),
-        work!("is_full", Some(1.5), is_full(): AsyncChannel Here Flume Crossbeam),
-        work!("is_closed", Some(1.5), is_closed(): AsyncChannel Here),
-        work!("a million through two tasks, bounded(128)", Some(1.0), two_tasks(Some(128)):
+        work!("len", len(): AsyncChannel Here Flume Crossbeam),
+        work!("is_full", is_full(): AsyncChannel Here Flume Crossbeam),
+        work!("is_closed", is_closed(): AsyncChannel Here),
+        work!("a million through two tasks, bounded(128)", two_tasks(Some(128)):
             AsyncChannel Here Flume Tokio),
-        work!("a million through two tasks, unbounded", Some(1.0), two_tasks(None):
+        work!("a million through two tasks, unbounded", two_tasks(None):
             AsyncChannel Here Flume Tokio),
     ]
 }
