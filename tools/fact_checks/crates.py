@@ -55,11 +55,12 @@ def table():
 
 
 def tools():
-    """What each tool is, by the sentence with which it begins. Tests of tools have no line."""
+    """What each tool is, by the sentence with which it begins. Tests of tools have no line, nor has
+    what others source."""
     lines = []
     top = ROOT / 'tools'
     for path in sorted([*top.iterdir(), *top.glob('*/check.py')]):
-        is_tool = path.is_file() and path.suffix != '.txt' and not path.name.endswith('_tests')
+        is_tool = path.is_file() and not path.name.endswith(('.txt', '.sh', '_tests'))
         text = path.read_text('utf-8') if is_tool else ''
         if found := SENTENCE.search(text):
             said = ' '.join(found[1].replace('\n# ', ' ').split())
