@@ -1,4 +1,4 @@
-"""The tables of crates and of tools: from crates.txt, and the first line of each."""
+"""The table of crates and the list of tools: from crates.txt, and the first line of each."""
 import re
 
 from .sources import ROOT, listed_crates
@@ -64,5 +64,5 @@ def tools():
         text = path.read_text('utf-8') if is_tool else ''
         if found := SENTENCE.search(text):
             said = ' '.join(found[1].replace('\n# ', ' ').split())
-            lines.append(f'    {str(path.relative_to(top)):24} {said}')
+            lines.append(f'{str(path.relative_to(top)):24} {said}')
     return lines
