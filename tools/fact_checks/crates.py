@@ -49,9 +49,9 @@ def is_library(name):
 
 
 def table():
-    """The libraries, and what each is."""
+    """The libraries, and what each is, without what its first line says behind a colon."""
     names = filter(is_library, listed_crates())
-    return [f'- `{name}`: {first_line(name)[0]}' for name in names]
+    return [f"- `{name}`: {first_line(name)[0].rstrip('.').split(': ')[0]}." for name in names]
 
 
 def tools():
