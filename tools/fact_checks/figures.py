@@ -63,7 +63,7 @@ class Section:
             yield f'{place}: there is no key {", ".join(sorted(wrong))}'
         if 'machine' not in self.keys:
             yield f'{place}: say on which machine it was measured, and what else ran there'
-        if 'measured' not in self.keys:
+        if self.rows and 'measured' not in self.keys:
             yield f'{place}: say when it was measured, and of which state of the code'
         for row in self.rows:
             if len(row) != len(self.head):
@@ -71,7 +71,8 @@ class Section:
 
     def lines(self):
         """The table as a page has it."""
-        said = f"{self.keys.get('said', '')} Measured {self.keys.get('measured', '')}.".strip()
+        measured = f"Measured {self.keys['measured']}." if 'measured' in self.keys else ''
+        said = f"{self.keys.get('said', '')} {measured}".strip()
         if not self.rows:
             return [said]
         rule = '|---' * len(self.head) + '|'
