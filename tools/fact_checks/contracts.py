@@ -1,10 +1,10 @@
-"""The contracts that the tables of docs/PROOFS.md and of each CALLING.md cite.
+"""The contracts that docs/PROOFS.md and the table of each CALLING.md cite.
 
 A citation is a call, as `Core::len` or `run_all`; a call with names of its clauses, as
 `Core::try_send: reply, after`; the same of the calls of a type, as `Core::*: rung`, where each
 clause stands at one or more; a law of a type or a trait, as `Core: invariant`; or an
-implementation, as `Visitor for Outcomes`. It stands in the last column of a table, or before the
-colon of a point, below a heading that names its crate, or begins with its crate, as
+implementation, as `Visitor for Outcomes`. It stands in the last column of a table, or in brackets
+at the end of a point, below a heading that names its crate, or begins with its crate, as
 `identity::Exact: same`. A text with other signs after a citation has to stand in the contract of
 that call; `..` leaves something out of it. Who claims 'exactly if' cites a call of whose clauses
 one is an equivalence.
@@ -31,9 +31,9 @@ def cited_rows(text):
         if line.startswith('| '):
             claim, _, cell = line.rstrip(' |').rpartition(' | ')
             rows.append((number, crates, claim, cell))
-        elif line.startswith('- `'):
-            cell, _, claim = line.partition(': ')
-            rows.append((number, crates, claim, cell))
+        elif line.startswith('- ') and line.endswith(']'):
+            claim, _, cell = line.rpartition(' [`')
+            rows.append((number, crates, claim, '`' + cell))
     return rows
 
 

@@ -1,4 +1,4 @@
-"""The tables of crates and of tools: from crates.txt, and the first line of each."""
+"""The table of crates and the list of tools: from crates.txt, and the first line of each."""
 import re
 
 from .sources import ROOT, listed_crates
@@ -49,19 +49,20 @@ def is_library(name):
 
 
 def table():
-    """The libraries, and what each is."""
+    """The libraries, and what each is, without what its first line says behind a colon."""
     names = filter(is_library, listed_crates())
-    return [f'- `{name}`: {first_line(name)[0]}' for name in names]
+    return [f"- `{name}`: {first_line(name)[0].rstrip('.').split(': ')[0]}." for name in names]
 
 
 def tools():
-    """What each tool is, by the sentence with which it begins. Tests of tools have no line."""
+    """What each tool is, by the sentence with which it begins. Tests of tools have no line, nor has
+    what others source."""
     lines = []
     top = ROOT / 'tools'
     for path in sorted([*top.iterdir(), *top.glob('*/check.py')]):
-        is_tool = path.is_file() and path.suffix != '.txt' and not path.name.endswith('_tests')
+        is_tool = path.is_file() and not path.name.endswith(('.txt', '.sh', '_tests'))
         text = path.read_text('utf-8') if is_tool else ''
         if found := SENTENCE.search(text):
             said = ' '.join(found[1].replace('\n# ', ' ').split())
-            lines.append(f'    {str(path.relative_to(top)):24} {said}')
+            lines.append(f'{str(path.relative_to(top)):24} {said}')
     return lines

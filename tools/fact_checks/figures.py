@@ -5,6 +5,7 @@ fields between tabs, the names of the columns first; or no row, but what is said
 
     page      the page that has the table
     said      what stands above the table there
+    measured  when, and of which state of the code, which stands there too
     machine   what it was measured on, and what else ran there
     versions  of what was compared
     plot      the rows of the picture, between semicolons
@@ -17,7 +18,7 @@ from .sources import ROOT
 
 FIGURES = ROOT / 'docs' / 'figures.txt'
 PICTURE = ROOT / 'docs' / 'figures.svg'
-KEYS = {'page', 'said', 'machine', 'versions', 'plot'}
+KEYS = {'page', 'said', 'measured', 'machine', 'versions', 'plot'}
 
 TABLE = re.compile(r'<!-- tools/facts: .*?<!-- end -->', re.DOTALL)
 RATIO = re.compile(r'(?<![\d.])\d\.\d\d(?![\d.])')
@@ -62,19 +63,22 @@ class Section:
             yield f'{place}: there is no key {", ".join(sorted(wrong))}'
         if 'machine' not in self.keys:
             yield f'{place}: say on which machine it was measured, and what else ran there'
+        if self.rows and 'measured' not in self.keys:
+            yield f'{place}: say when it was measured, and of which state of the code'
         for row in self.rows:
             if len(row) != len(self.head):
                 yield f'{place}: {row[0]}: write {len(self.head)} fields with tabs between them'
 
     def lines(self):
         """The table as a page has it."""
-        said = [self.keys['said'], ''] if 'said' in self.keys else []
+        measured = f"Measured {self.keys['measured']}." if 'measured' in self.keys else ''
+        said = f"{self.keys.get('said', '')} {measured}".strip()
         if not self.rows:
-            return said[:1]
+            return [said]
         rule = '|---' * len(self.head) + '|'
         lines = ['| ' + ' | '.join(row) + ' |' for row in [self.head, *self.rows]]
         first, *others = [line.replace('|  ', '| ').replace('|  ', '| ') for line in lines]
-        return [*said, first, rule, *others]
+        return [said, '', first, rule, *others]
 
 
 def parts():

@@ -14,10 +14,9 @@ UNPACKED = [RUST / 'proved' / 'channel_run', RUST / 'proved' / 'channel_model' /
 PARTS = {
     'proved': '`src/proved`: waiting lists, queue, state | {} '
     '| the proved source, erased; the gate compares the bytes',
-    'hand': 'the rest of `src`: handles and their counts, futures, batches, the lock, wakers, '
-    'blocking calls | {} | by hand, and tested',
-    'shim': '`src/shim`: slab, box, queue and list over std and slab | {} '
-    '| by hand, and tested; the proofs assume it',
+    'hand': 'the rest of `src`: handles, futures, batches, lock, wakers, blocking calls | {} '
+    '| by hand, tested',
+    'shim': '`src/shim`: slab, box, queue, list | {} | by hand, tested; the proofs assume it',
 }
 
 
