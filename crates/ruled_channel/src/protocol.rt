@@ -7,9 +7,8 @@ use channel_core::Core;
 use ruled_mutex::Unruled;
 use std::marker::PhantomData;
 
-/// The caller's rule: over what the channel is, and what each pass knows. A rule names what it needs
-/// of the messages, of whether it is closed, of how many senders and receivers there are, and of the
-/// capacity.
+/// The caller's rule: over what the channel is, and what each pass knows. It names what it needs of
+/// the messages, the closed flag, the counts of senders and receivers, and the capacity.
 ///
 /// ```
 /// struct InTwos;
