@@ -1,7 +1,11 @@
 -- What is shown at a pass and its view is shown at the same pass and view.
-use Rattle.std.proofs.Common.{◌≡◌, ℕ, List, sym, subst}
+use Rattle.std.proofs.Common.{◌≡◌, ℕ, List, Option, Some, refl, sym, subst}
 use Rattle.ruled_channel.specs.State.{State}
 use Rattle.ruled_channel.specs.Rule.{Sends, Receives, Ends, Learns}
+use Rattle.ruled_channel.specs.declared.channel.RuledChannel.{RuledChannel}
+use Rattle.ruled_channel.specs.declared.pass.Pass.{Pass}
+use Rattle.ruled_channel.specs.Passes.{IsPassOf, IsSamePass, view}
+use Rattle.ruled_channel.specs.Receiving.{MayPoll}
 
 module _ {T V : Type 0} (holds : State T → List V → Type 0) (pass pass' : ℕ) (v v' : V) (p : pass' ≡ pass) (q : v' ≡ v) where
   pub sends_same : (then : V → T → V → Type 0) (m m' : T) → m' ≡ m → Sends holds pass v m then → Sends holds pass' v' m' then
@@ -15,3 +19,10 @@ module _ {T V : Type 0} (holds : State T → List V → Type 0) (pass pass' : �
 
   pub learns_same : (fact : V → State T → Type 0) → Learns holds pass v (fact v) → Learns holds pass' v' (fact v')
   learns_same fact t = subst (λ (z : ℕ × V). Learns holds z.0 z.1 (fact z.1)) (λ i. (sym p i, sym q i)) t
+
+-- a receive that waits may be polled again
+pub may_poll_again : {T V P : Type 0} (holds : State T → List V → Type 0) (then : V → T → V → Type 0) (at_end : V → V → Type 0) (channel : RuledChannel T V P)
+    (held : Option (Pass T V)) (p q : Pass T V) → held ≡ Some p → IsPassOf channel q → IsSamePass p q → view q ≡ view p
+    → MayPoll holds then at_end channel held → MayPoll holds then at_end channel (Some q)
+may_poll_again holds then at_end channel held p q is own same seen may = let old = subst (MayPoll holds then at_end channel) is may in
+    (refl, own, receives_same holds _ _ _ _ same.1 seen then old.1.1, ends_same holds _ _ _ _ same.1 seen at_end old.1.2)
