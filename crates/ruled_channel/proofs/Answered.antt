@@ -14,7 +14,6 @@ use Rattle.channel_model.specs.Errors.{message_of, was_closed, was_ended}
 use Rattle.channel_model.specs.Tables.{OnReady, OnWait, send_error, try_send_answer, force_send_answer, try_recv_answer, send_poll, recv_poll, next_poll}
 use Rattle.channel_core.specs.Channel.{Channel, is_channel_full, sending, forcing, taking, polled_send, polled_receive, polled_stream, SendWaits, RecvWaits, NextWaits, GrowsWithMessages, oldest}
 use Rattle.channel_core.specs.Tickets.{left}
-use Rattle.event_list.specs.Waiting.{Waiting}
 use Rattle.channel_model.specs.declared.errors.RecvError.{RecvError}
 use Rattle.ruled_channel.specs.State.{State, state_of, IsClosed, HasPlace, IsFull, IsUnbounded, IsEmpty, holding, joined}
 use Rattle.ruled_channel.specs.Passes.{LearnedOf, Refuses, WantsToSend}
@@ -54,11 +53,11 @@ module _ {T W : Type 0} (core now : Channel T W) where
       let is : poll ≡ Ready (Err error) = ready ∙ ap Ready fails in
       go core.closed (is_channel_full core) (sym is ∙ reply)
       (subst (λ p. OnReady {E = OutOfMemory} (Ok p) (now ≡ (polled_send (Some m) ticket core).channel)) is after) where
-    go : (closed full : Bool) → Ready (Err error) ≡ send_poll (Some m) closed full
-        → now ≡ (sending closed full m (record core { sends = left ticket core.sends })).channel → state_of now ≡ state_of core
-    go true full e is = ap state_of is
-    go false true e is = absurd (true≢false (sym (ap went e)))
-    go false false e is = absurd (true≢false (sym (ap went e)))
+        go : (closed full : Bool) → Ready (Err error) ≡ send_poll (Some m) closed full
+            → now ≡ (sending closed full m (record core { sends = left ticket core.sends })).channel → state_of now ≡ state_of core
+        go true full e is = ap state_of is
+        go false true e is = absurd (true≢false (sym (ap went e)))
+        go false false e is = absurd (true≢false (sym (ap went e)))
 
   -- one that goes on puts its message last
   pub polled_sent : (m : T) (ticket : Option ℕ) (poll : Poll (Result (Unit {0}) (SendError T))) (answer : Result (Unit {0}) (SendError T))
@@ -70,12 +69,12 @@ module _ {T W : Type 0} (core now : Channel T W) where
       let is : poll ≡ Ready (Ok tt) = ready ∙ ap Ready goes in
       go core.closed (is_channel_full core) refl refl (sym is ∙ reply)
       (subst (λ p. OnReady {E = OutOfMemory} (Ok p) (now ≡ (polled_send (Some m) ticket core).channel)) is after) where
-    go : (closed full : Bool) → core.closed ≡ closed → is_channel_full core ≡ full → Ready (Ok tt) ≡ send_poll (Some m) closed full
-        → now ≡ (sending closed full m (record core { sends = left ticket core.sends })).channel
-        → HasPlace (state_of core) × (state_of now ≡ joined m (state_of core))
-    go true full was filled e is = absurd (true≢false (ap went e))
-    go false true was filled e is = absurd (true≢false (ap is_ready e))
-    go false false was filled e is = ((was, filled), ap state_of is)
+        go : (closed full : Bool) → core.closed ≡ closed → is_channel_full core ≡ full → Ready (Ok tt) ≡ send_poll (Some m) closed full
+            → now ≡ (sending closed full m (record core { sends = left ticket core.sends })).channel
+            → HasPlace (state_of core) × (state_of now ≡ joined m (state_of core))
+        go true full was filled e is = absurd (true≢false (ap went e))
+        go false true was filled e is = absurd (true≢false (ap is_ready e))
+        go false false was filled e is = ((was, filled), ap state_of is)
 
   -- a poll of a receive that gives a message takes the oldest one
   pub polled_taken : (m : T) (ticket : Option ℕ) (poll : Poll (Result T RecvError)) (answer : Result T RecvError)
@@ -86,15 +85,15 @@ module _ {T W : Type 0} (core now : Channel T W) where
       let is : poll ≡ Ready (Ok m) = ready ∙ ap Ready gives in
       go core.messages core.closed refl (sym is ∙ reply)
       (subst (λ p. OnReady {E = OutOfMemory} (Ok p) (now ≡ (polled_receive ticket core).channel)) is after) where
-    go : (messages : List T) (closed : Bool) → core.messages ≡ messages → Ready (Ok m) ≡ recv_poll (slice_get messages 0) closed
-        → now ≡ (taking messages (record core { receives = left ticket core.receives })).channel
-        → (core.messages ≡ m ∷ drop 1 core.messages) × (state_of now ≡ holding (drop 1 core.messages) (state_of core))
-    go [] true held e is = absurd (true≢false (ap went e))
-    go [] false held e is = absurd (true≢false (ap is_ready e))
-    go (x ∷ xs) closed held e is = (
-      held ∙ ap (λ z. z ∷ xs) (sym (ap (λ (p : Poll (Result T RecvError)). ok_of m (ready_of (Ok m) p)) e)) ∙ ap (λ l. m ∷ drop 1 l) (sym held),
-      ap state_of is,
-    )
+        go : (messages : List T) (closed : Bool) → core.messages ≡ messages → Ready (Ok m) ≡ recv_poll (slice_get messages 0) closed
+            → now ≡ (taking messages (record core { receives = left ticket core.receives })).channel
+            → (core.messages ≡ m ∷ drop 1 core.messages) × (state_of now ≡ holding (drop 1 core.messages) (state_of core))
+        go [] true held e is = absurd (true≢false (ap went e))
+        go [] false held e is = absurd (true≢false (ap is_ready e))
+        go (x ∷ xs) closed held e is = (
+          held ∙ ap (λ z. z ∷ xs) (sym (ap (λ (p : Poll (Result T RecvError)). ok_of m (ready_of (Ok m) p)) e)) ∙ ap (λ l. m ∷ drop 1 l) (sym held),
+          ap state_of is,
+        )
 
   -- of a stream, likewise
   pub polled_next : (m : T) (ticket : Option ℕ) (poll : Poll (Option T)) (next : Option T)
@@ -105,15 +104,15 @@ module _ {T W : Type 0} (core now : Channel T W) where
       let is : poll ≡ Ready (Some m) = ready ∙ ap Ready gives in
       go core.messages core.closed refl (sym is ∙ reply)
       (subst (λ p. OnReady {E = OutOfMemory} (Ok p) (now ≡ (polled_stream ticket core).channel)) is after) where
-    go : (messages : List T) (closed : Bool) → core.messages ≡ messages → Ready (Some m) ≡ next_poll (slice_get messages 0) closed
-        → now ≡ (taking messages (record core { streams = left ticket core.streams })).channel
-        → (core.messages ≡ m ∷ drop 1 core.messages) × (state_of now ≡ holding (drop 1 core.messages) (state_of core))
-    go [] true held e is = absurd (true≢false (ap (λ (p : Poll (Option T)). is_some (ready_of None p)) e))
-    go [] false held e is = absurd (true≢false (ap is_ready e))
-    go (x ∷ xs) closed held e is = (
-      held ∙ ap (λ z. z ∷ xs) (sym (ap (λ (p : Poll (Option T)). some_of m (ready_of None p)) e)) ∙ ap (λ l. m ∷ drop 1 l) (sym held),
-      ap state_of is,
-    )
+        go : (messages : List T) (closed : Bool) → core.messages ≡ messages → Ready (Some m) ≡ next_poll (slice_get messages 0) closed
+            → now ≡ (taking messages (record core { streams = left ticket core.streams })).channel
+            → (core.messages ≡ m ∷ drop 1 core.messages) × (state_of now ≡ holding (drop 1 core.messages) (state_of core))
+        go [] true held e is = absurd (true≢false (ap (λ (p : Poll (Option T)). is_some (ready_of None p)) e))
+        go [] false held e is = absurd (true≢false (ap is_ready e))
+        go (x ∷ xs) closed held e is = (
+          held ∙ ap (λ z. z ∷ xs) (sym (ap (λ (p : Poll (Option T)). some_of m (ready_of None p)) e)) ∙ ap (λ l. m ∷ drop 1 l) (sym held),
+          ap state_of is,
+        )
 
   -- one that waits changes its list alone
   pub send_waits : (m : T) (ticket ticket' : Option ℕ) (Fact : W → Type 0) (poll : Poll (Result (Unit {0}) (SendError T))) → poll ≡ Pending

@@ -1,5 +1,5 @@
 -- What closing a channel makes of its state, and giving up a sender or a receiver.
-use Rattle.std.proofs.Common.{◌≡◌, ℕ, Bool, true, false, Option, List, sym, refl, ap, ◌∙◌, subst}
+use Rattle.std.proofs.Common.{◌≡◌, ℕ, Bool, true, false, Option, sym, refl, ap, ◌∙◌, subst}
 use Rattle.std.proofs.lemmas.Bool.{eqb-true}
 use Rattle.std.specs.Prelude.{◌&&◌, ◌||◌, ◌==◌, ◌-◌, not, if◌then◌else◌}
 use Rattle.channel_core.specs.Channel.{Channel, Change, closing, ending, unchanged, sender_dropped, receiver_dropped_by}

@@ -1,5 +1,5 @@
 -- What a call leaves under the lock, as a step of the mutex's rule.
-use Rattle.std.proofs.Common.{◌≡◌, ◌≢◌, ℕ, Bool, true, false, List, [], ◌∷◌, ◌++◌, drop, get_or, Option, Some, sym, refl, ap, ◌∙◌, subst}
+use Rattle.std.proofs.Common.{◌≡◌, ◌≢◌, ℕ, Bool, List, [], ◌∷◌, ◌++◌, drop, get_or, Option, Some, sym, refl, ap, ◌∙◌, subst}
 use Rattle.std.proofs.lemmas.List.{append_cancel_left}
 use Rattle.std.specs.Prelude.{◌&&◌, not, slice_set}
 use Rattle.atomic_table.proofs.Lists.{set_again}

@@ -1,6 +1,6 @@
-use Rattle.std.proofs.Common.{true, false, sym, refl, ap, subst, ◌≡◌, ◌∙◌}
+use Rattle.std.proofs.Common.{true, sym, refl, ap, ◌≡◌, ◌∙◌}
 use Rattle.ruled_mutex.specs.Passes.{found}
-use Rattle.channel_core.specs.Counts.{count_added, may_add}
+use Rattle.channel_core.specs.Counts.{may_add}
 use Rattle.ruled_channel.specs.State.{state_of, sender_more}
 use Rattle.ruled_channel.specs.Passes.{view}
 use Rattle.ruled_channel.specs.Guarded.{turned}
