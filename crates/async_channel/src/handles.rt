@@ -373,7 +373,7 @@ impl<T: Drop, R: Wait + Clone + Drop> Sender<T, R> {
             return Err(CloneError::OutOfMemory);
         };
         let (channel, mut pass) = self.link.channel();
-        if !channel.add_sender(&self.link.rt, &mut pass) {
+        if !channel.add_sender_as::<Unruled, R>(&self.link.rt, &mut pass) {
             return Err(CloneError::TooMany);
         }
         Ok(Sender {
@@ -585,7 +585,7 @@ impl<T: Drop, R: Wait + Clone + Drop> Receiver<T, R> {
             return Err(CloneError::OutOfMemory);
         };
         let (channel, mut pass) = self.link.channel();
-        if !channel.add_receiver(&self.link.rt, &mut pass) {
+        if !channel.add_receiver_as::<Unruled, R>(&self.link.rt, &mut pass) {
             return Err(CloneError::TooMany);
         }
         Ok(Receiver::new(self.tag, link))

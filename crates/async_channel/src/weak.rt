@@ -97,7 +97,7 @@ impl<T: Drop, R: Wait + Clone + Drop> WeakSender<T, R> {
             return Err(CloneError::OutOfMemory);
         };
         let (channel, mut pass) = self.link.channel();
-        match channel.upgrade_sender(&self.link.rt, &mut pass) {
+        match channel.upgrade_sender_as::<Unruled, R>(&self.link.rt, &mut pass) {
             Upgrade::Closed => Ok(None),
             Upgrade::TooMany => Err(CloneError::TooMany),
             Upgrade::Raised => Ok(Some(Sender {
@@ -162,7 +162,7 @@ impl<T: Drop, R: Wait + Clone + Drop> WeakReceiver<T, R> {
             return Err(CloneError::OutOfMemory);
         };
         let (channel, mut pass) = self.link.channel();
-        match channel.upgrade_receiver(&self.link.rt, &mut pass) {
+        match channel.upgrade_receiver_as::<Unruled, R>(&self.link.rt, &mut pass) {
             Upgrade::Closed => Ok(None),
             Upgrade::TooMany => Err(CloneError::TooMany),
             Upgrade::Raised => Ok(Some(Receiver::new(self.tag, link))),

@@ -4,6 +4,7 @@
 use Rattle.std.specs.Prelude.{◌≡◌, ℕ, ◌<◌, Bool, true, false, List, [], ◌∷◌, ◌++◌, All}
 use mathlib.Core.Option.{some}
 use lib.ListN.{get_elem?}
+use Rattle.ruled_channel.specs.State.{State}
 use Rattle.example_histogram.specs.declared.rule.Tally.{Tally}
 
 abbrev pub tally : Bool → List ℕ → Bool → List ℕ → Bool → Tally
@@ -17,12 +18,12 @@ Knows messages closed from to sent counted pass v =
     × (v.counts ≡ true → (pass ≡ to) × (v.counted ≡ counted))
     × (v.ended ≡ true → (closed ≡ true) × (messages ≡ []))
 
-abbrev pub IsTallied : List ℕ → Bool → List Tally → Type 0
-IsTallied messages closed views =
+abbrev pub IsTallied : State ℕ → List Tally → Type 0
+IsTallied state views =
     (from : ℕ) × (to : ℕ) × (sent : List ℕ) × (counted : List ℕ)
-    × (sent ≡ counted ++ messages) × All (λ class. class < 6) messages
+    × (sent ≡ counted ++ state.messages) × All (λ class. class < 6) state.messages
     × ((pass : ℕ) (v : Tally) → get_elem? views pass ≡ some v
-    → Knows messages closed from to sent counted pass v)
+    → Knows state.messages state.closed from to sent counted pass v)
 
 -- what a step makes of a view
 

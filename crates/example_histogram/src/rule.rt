@@ -39,12 +39,12 @@ impl AtEnd<Tally> for Tallied {
 }
 
 impl Closed<Tally> for Tallied {
-    ghost then = { λ v was_open w. w ≡ v };
+    ghost then = { λ v has_closed w. w ≡ v };
 }
 
 /// Who sent and counted, and found the end, has counted all.
 impl Lesson<usize, Tally> for Tallied {
-    ghost fact = { λ v messages closed. v.counted ≡ v.sent };
+    ghost fact = { λ v state. v.counted ≡ v.sent };
 }
 
 /// One part sends, the other counts.

@@ -8,6 +8,7 @@ use Rattle.channel_core.specs.Channel.{Channel, sending, sent, taking, received,
 use Rattle.channel_core.specs.Batches.{sent_many, received_many}
 use Rattle.channel_core.specs.Tickets.{left}
 use Rattle.ruled_channel.specs.Batches.{polled_sends, polled_receives}
+use Rattle.ruled_channel.specs.State.{State}
 use Rattle.ruled_channel.specs.Guarded.{within}
 
 module _ {T W : Type 0} where
@@ -52,5 +53,5 @@ module _ {T W : Type 0} where
 
   -- the rule that asks nothing allows what leaves the capacity as it is
   pub allows : (core found now : Channel T W) (pass : ℕ) (v : Unit {0}) → core ≡ found → now.capacity ≡ core.capacity
-      → TurnsAt (within (λ _. Unit {0}) (λ (_ : List T) (_ : Bool) (_ : List (Unit {0})). Unit {0})) pass v found now (λ _ _ _ _. Unit {0})
-  allows core found now pass v shows same = λ views h at. (tt, (tt, subst (λ c. c ≢ Some 0) (ap (λ (c : Channel T W). c.capacity) (sym shows) ∙ sym same) h.1, tt), tt)
+      → TurnsAt (within (λ (_ : State T) (_ : List (Unit {0})). Unit {0})) pass v found now (λ _ _ _ _. Unit {0})
+  allows core found now pass v shows same = λ views h at. (tt, (subst (λ c. c ≢ Some 0) (ap (λ (c : Channel T W). c.capacity) (sym shows) ∙ sym same) h.0, tt), tt)

@@ -1,14 +1,13 @@
 -- What a call leaves under the lock, as a step of the mutex's rule.
-use Rattle.std.proofs.Common.{◌≡◌, ◌≢◌, ℕ, Bool, true, false, List, [], ◌∷◌, ◌++◌, drop, get_or, Option, Some, sym, refl, ap, ◌∙◌, subst}
+use Rattle.std.proofs.Common.{◌≡◌, ◌≢◌, ℕ, Bool, List, [], ◌∷◌, ◌++◌, drop, get_or, Option, Some, sym, refl, ap, ◌∙◌, subst}
 use Rattle.std.proofs.lemmas.List.{append_cancel_left}
-use Rattle.std.specs.Prelude.{slice_set}
+use Rattle.std.specs.Prelude.{◌&&◌, not, slice_set}
 use Rattle.atomic_table.proofs.Lists.{set_again}
 use Rattle.crossbeam_utils.specs.Register.{TurnsAt}
-use Rattle.channel_core.specs.Queue.{is_full}
-use Rattle.channel_core.specs.Channel.{Channel, accepting, is_channel_full}
-use Rattle.ruled_channel.specs.Rule.{Displaces, Learns}
-use Rattle.ruled_channel.specs.Guarded.{within, displaced, kept}
-use Rattle.ruled_channel.proofs.Answered.{IsAlike}
+use Rattle.channel_core.specs.Channel.{Channel}
+use Rattle.ruled_channel.specs.State.{State, state_of, HasPlace, IsFull, IsOver, holding, joined}
+use Rattle.ruled_channel.specs.Rule.{Allows, Sends, Displaces, Receives, Ends, Shuts, Learns}
+use Rattle.ruled_channel.specs.Guarded.{within, pushed, displaced, popped, turned, shut, kept}
 
 -- a step of a pass is one of the same pass, at the same view and value
 pub moved : {X V : Type 0} (holds : X → List V → Type 0) (then : V → X → X → V → Type 0) (pass pass' : ℕ) (v v' : V) (x x' y : X)
@@ -18,39 +17,73 @@ moved {X} {V} holds then pass pass' v v' x x' y p q r t = subst (λ (z : ℕ × 
 last_same : {T : Type 0} (l : List T) (m m' : T) → l ++ m ∷ [] ≡ l ++ m' ∷ [] → m ≡ m'
 last_same l m m' e = ap (λ r. get_or r 0 m) (append_cancel_left l (m ∷ []) (m' ∷ []) e)
 
-module _ {T V W : Type 0} (core now : Channel T W) (fits : Option ℕ → Type 0) (holds : List T → Bool → List V → Type 0) where
+first_same : {T : Type 0} (m m' : T) (l l' : List T) → m ∷ l ≡ m' ∷ l' → m ≡ m'
+first_same m m' l l' e = ap (λ r. get_or r 0 m) e
+
+module _ {T V W : Type 0} (core now found : Channel T W) (holds : State T → List V → Type 0) (pass pass' : ℕ) (v v' : V)
+    (p : pass' ≡ pass) (q : v' ≡ v) (shows : core ≡ found) where
   -- what goes back as it was found keeps the rule, and tells what is learned
-  pub keeps : (found : Channel T W) (fact : V → List T → Bool → Type 0) (pass pass' : ℕ) (v v' : V)
-      → pass' ≡ pass → v' ≡ v → core ≡ found → IsAlike core now → Learns holds pass v (fact v)
-      → TurnsAt (within fits holds) pass' v' found now (kept fits fact)
-  keeps found fact pass pass' v v' p q shows is asked = moved (within fits holds) (kept fits fact) pass pass' v v' core found now p q shows
+  pub keeps : (fact : V → State T → Type 0) → state_of now ≡ state_of core → Learns holds pass v (fact v)
+      → TurnsAt (within holds) pass' v' found now (kept fact)
+  keeps fact is asked = moved (within holds) (kept fact) pass pass' v v' core found now p q shows
       λ views h at. (
         v,
         (
-          subst fits (sym is.capacity) h.0,
-          subst (λ c. c ≢ Some 0) (sym is.capacity) h.1,
-          subst (λ (z : List T × Bool). holds z.0 z.1 (slice_set views pass v)) (λ i. (sym is.messages i, sym is.closed i))
-              (subst (holds core.messages core.closed) (sym (set_again views pass v at)) h.2),
+          subst (λ c. c ≢ Some 0) (sym (ap (λ (s : State T). s.capacity) is)) h.0,
+          subst (λ s. holds s (slice_set views pass v)) (sym is) (subst (holds (state_of core)) (sym (set_again views pass v at)) h.1),
         ),
-        (refl, h.0, asked core.messages core.closed views h.2 at),
+        (refl, asked (state_of core) views h.1 at),
       )
 
-  -- the oldest message leaves a full channel, and m joins
-  pub displaces : (found : Channel T W) (pass pass' : ℕ) (v v' : V) (d m : T) (then : V → Option T → T → V → Type 0)
-      → pass' ≡ pass → v' ≡ v → core ≡ found
-      → core.closed ≡ false → is_channel_full core ≡ true → core.messages ≡ d ∷ drop 1 core.messages
-      → now ≡ (accepting m (record core { messages = drop 1 core.messages })).channel
-      → Displaces fits holds pass v m then → TurnsAt (within fits holds) pass' v' found now (displaced then)
-  displaces found pass pass' v v' d m then p q shows opened full oldest is asked = moved (within fits holds) (displaced then) pass pass' v v' core found now p q shows
-      λ views h at. let rest = drop 1 core.messages in
-      let t = asked d rest views (core.capacity, h.0, subst (λ l. is_full core.capacity l ≡ true) oldest full)
-      (subst (λ (z : List T × Bool). holds z.0 z.1 views) (λ i. (oldest i, opened i)) h.2) at in (
+  -- what is shown of a channel that has a place
+  pub placed : (tells : V → Channel T W → Channel T W → V → Type 0) → (core.capacity ≢ Some 0 → TurnsAt (within holds) pass' v' found now tells)
+      → TurnsAt (within holds) pass' v' found now tells
+  placed tells shown = λ views h at. shown (subst (λ (c : Channel T W). c.capacity ≢ Some 0) (sym shows) h.0) views h at
+
+  -- a step that the rule allows
+  pub turns : (May : State T → Type 0) (step : State T → State T) (then : State T → V → Type 0) (tells : V → Channel T W → Channel T W → V → Type 0)
+      → May (state_of core) → state_of now ≡ step (state_of core) → (step (state_of core)).capacity ≡ core.capacity
+      → ((w : V) → then (state_of core) w → tells v core now w)
+      → Allows holds May step pass v then → TurnsAt (within holds) pass' v' found now tells
+  turns May step then tells may is same says asked = moved (within holds) tells pass pass' v v' core found now p q shows
+      λ views h at. let t = asked (state_of core) views may h.1 at in (
         t.0,
-        subst (λ n. within fits holds n (slice_set views pass t.0)) (sym is)
-            (h.0, h.1, subst (λ b. holds (rest ++ m ∷ []) b (slice_set views pass t.0)) (sym opened) t.1),
-        λ d' m' rest' was now_is. subst (λ (z : T × T). then v (Some z.0) z.1 t.0)
-            (λ i. (
-              ap (λ l. get_or l 0 d) (sym oldest ∙ was) i,
-              last_same rest m m' (sym (ap (λ (n : Channel T W). n.messages) is) ∙ now_is ∙ ap (λ l. l ++ m' ∷ []) (sym (ap (drop 1) was))) i,
-            )) t.2,
+        (
+          subst (λ c. c ≢ Some 0) (sym (ap (λ (s : State T). s.capacity) is ∙ same)) h.0,
+          subst (λ s. holds s (slice_set views pass t.0)) (sym is) t.1,
+        ),
+        says t.0 t.2,
       )
+
+  pub pushes : (m : T) (then : V → T → V → Type 0) → HasPlace (state_of core) × (state_of now ≡ joined m (state_of core))
+      → Sends holds pass v m then → TurnsAt (within holds) pass' v' found now (pushed then)
+  pushes m then goes asked = turns HasPlace (joined m) (λ _ w. then v m w) (pushed then) goes.0 goes.1 refl
+      (λ w told m' e. subst (λ x. then v x w) (last_same core.messages m m' (sym (ap (λ (s : State T). s.messages) goes.1) ∙ e)) told) asked
+
+  -- the oldest message leaves a full channel, and m joins
+  pub displaces : (d m : T) (rest : List T) (then : V → Option T → T → V → Type 0)
+      → IsFull (state_of core) × (core.messages ≡ d ∷ rest) × (state_of now ≡ holding (rest ++ m ∷ []) (state_of core))
+      → Displaces holds pass v m then → TurnsAt (within holds) pass' v' found now (displaced then)
+  displaces d m rest then goes asked =
+      turns (λ s. IsFull s × (s.messages ≡ d ∷ rest)) (holding (rest ++ m ∷ [])) (λ _ w. then v (Some d) m w) (displaced then) (goes.0, goes.1) goes.2 refl
+      (λ w told d' m' rest' was now_is. let both = sym goes.1 ∙ was in subst (λ (z : T × T). then v (Some z.0) z.1 w)
+      (λ i. (
+        first_same d d' rest rest' both i,
+        last_same rest m m' (sym (ap (λ (s : State T). s.messages) goes.2) ∙ now_is ∙ ap (λ l. l ++ m' ∷ []) (sym (ap (λ l. drop 1 l) both))) i,
+      )) told) (asked d rest)
+
+  pub pops : (m : T) (rest : List T) (then : V → T → V → Type 0) → core.messages ≡ m ∷ rest → state_of now ≡ holding rest (state_of core)
+      → Receives holds pass v then → TurnsAt (within holds) pass' v' found now (popped then)
+  pops m rest then was is asked = turns (λ s. s.messages ≡ m ∷ rest) (holding rest) (λ _ w. then v m w) (popped then) was is refl
+      (λ w told m' e. subst (λ x. then v x w) (first_same m m' rest now.messages (sym was ∙ e)) told) (asked m rest)
+
+  pub finishes : (then : V → V → Type 0) → IsOver (state_of core) → state_of now ≡ state_of core
+      → Ends holds pass v then → TurnsAt (within holds) pass' v' found now (turned then)
+  finishes then over is asked = turns IsOver (λ s. s) (λ _ w. then v w) (turned then) over is refl (λ w told. told) asked
+
+  -- one that may close the channel
+  pub shuts : (step : State T → State T) (then : V → Bool → V → Type 0) → state_of now ≡ step (state_of core)
+      → (step (state_of core)).capacity ≡ core.capacity
+      → Shuts holds step pass v then → TurnsAt (within holds) pass' v' found now (shut then)
+  shuts step then is same asked = turns (λ _. Unit {0}) step (λ s w. then v ((step s).closed && not s.closed) w) (shut then) tt is same
+      (λ w told. subst (λ b. then v (b && not core.closed) w) (sym (ap (λ (s : State T). s.closed) is)) told) asked

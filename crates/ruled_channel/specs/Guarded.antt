@@ -1,14 +1,13 @@
 -- The rule over what the lock guards, and what each step tells of that. No public clause cites this
 -- module.
-use Rattle.std.specs.Prelude.{◌≡◌, ◌≢◌, ℕ, Bool, not, List, [], ◌∷◌, ◌++◌, Option, Some}
+use Rattle.std.specs.Prelude.{◌≡◌, ◌≢◌, Bool, not, ◌&&◌, List, [], ◌∷◌, ◌++◌, Option, Some}
 use Rattle.channel_core.specs.Channel.{Channel}
+use Rattle.ruled_channel.specs.State.{State, state_of}
 
 module _ {T V W : Type 0} where
-  -- the caller's rule holds of the messages and the closed flag, and there is a place for one
-  abbrev pub within : (Option ℕ → Type 0) → (List T → Bool → List V → Type 0) → Channel T W
-      → List V → Type 0
-  within fits holds channel views =
-      fits channel.capacity × (channel.capacity ≢ Some 0) × holds channel.messages channel.closed views
+  -- the caller's rule holds of what the channel is, and there is a place for one message
+  abbrev pub within : (State T → List V → Type 0) → Channel T W → List V → Type 0
+  within holds channel views = (channel.capacity ≢ Some 0) × holds (state_of channel) views
 
   -- of the view, of the channel that was found, of what was made of it, and of the view after
 
@@ -25,13 +24,11 @@ module _ {T V W : Type 0} where
   abbrev pub popped : (V → T → V → Type 0) → V → Channel T W → Channel T W → V → Type 0
   popped then v found now w = (m : T) → found.messages ≡ m ∷ now.messages → then v m w
 
-  abbrev pub ended : (V → V → Type 0) → V → Channel T W → Channel T W → V → Type 0
-  ended then v found now w = then v w
+  abbrev pub turned : (V → V → Type 0) → V → Channel T W → Channel T W → V → Type 0
+  turned then v found now w = then v w
 
   abbrev pub shut : (V → Bool → V → Type 0) → V → Channel T W → Channel T W → V → Type 0
-  shut then v found now w = then v (not found.closed) w
+  shut then v found now w = then v (now.closed && not found.closed) w
 
-  abbrev pub kept : (Option ℕ → Type 0) → (V → List T → Bool → Type 0) → V → Channel T W
-      → Channel T W → V → Type 0
-  kept fits fact v found now w =
-      (w ≡ v) × fits found.capacity × fact v found.messages found.closed
+  abbrev pub kept : (V → State T → Type 0) → V → Channel T W → Channel T W → V → Type 0
+  kept fact v found now w = (w ≡ v) × fact v (state_of found)

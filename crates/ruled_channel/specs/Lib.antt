@@ -6,6 +6,7 @@ pub use Rattle.channel_model.specs.Tables
 pub use Rattle.event_list.specs.Waiting
 pub mod Marks
 pub mod Rung
+pub mod State
 pub mod Rule
 pub mod Guarded
 pub mod Passes

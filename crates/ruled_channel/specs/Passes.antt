@@ -1,5 +1,5 @@
 -- What a clause says of a channel's passes and of its answers.
-use Rattle.std.specs.Prelude.{◌≡◌, ◌⊎◌, ⊤, ℕ, Bool, true, false, List, [], Option, None, Result, Ok, Err}
+use Rattle.std.specs.Prelude.{◌≡◌, ◌⊎◌, ⊤, ℕ, Result, Ok, Err}
 use Rattle.channel_model.specs.declared.errors.TrySendError.{TrySendError}
 use Rattle.channel_model.specs.declared.errors.TrySendError.TheVariants.{Full, Closed}
 use Rattle.channel_model.specs.declared.errors.TryRecvError.{TryRecvError}
@@ -7,7 +7,7 @@ use Rattle.channel_model.specs.declared.errors.TryRecvError.TheVariants.{Empty, 
 use Rattle.ruled_mutex.specs.Passes.{IsPassOf as IsMutexPass, IsSamePass as IsSameMutexPass, number as number_in_mutex, view as view_in_mutex}
 use Rattle.ruled_channel.specs.declared.channel.RuledChannel.{RuledChannel}
 use Rattle.ruled_channel.specs.declared.pass.Pass.{Pass}
-use Rattle.ruled_channel.specs.Rule.{IsFilled}
+use Rattle.ruled_channel.specs.State.{State, IsClosed, IsEmpty, IsFull, IsUnbounded}
 
 -- it is a pass of this channel
 abbrev pub IsPassOf : {T V P : Type 0} → RuledChannel T V P → Pass T V → Type 0
@@ -26,32 +26,27 @@ module _ {T V : Type 0} where
   abbrev pub IsSamePass : Pass T V → Pass T V → Type 0
   IsSamePass old new = IsSameMutexPass old.lock new.lock
 
--- something was learned at one moment, of what there was then
-abbrev pub LearnedOf : {X : Type 0} → (X → Type 0) → Type 0
-LearnedOf {X} fact = (x : X) × fact x
-
--- the channel was full and open at one moment, and something was learned of it
-abbrev pub IsFullAt : {T : Type 0} → (Option ℕ → Type 0) → (List T → Bool → Type 0) → Type 0
-IsFullAt {T} fits fact = (messages : List T) × IsFilled fits messages × fact messages false
+-- at one moment the channel was such, and something was learned of it
+abbrev pub LearnedOf : {T : Type 0} → (State T → Type 0) → (State T → Type 0) → Type 0
+LearnedOf {T} WasSuch fact = (state : State T) × WasSuch state × fact state
 
 -- Why a send was refused, and what was learned at that moment: the channel was full and open, or it
 -- was closed.
-abbrev pub Refuses : {T : Type 0} → (Option ℕ → Type 0) → (List T → Bool → Type 0) → TrySendError T
-    → Type 0
-Refuses {T} fits fact (Full m) = IsFullAt fits fact
-Refuses {T} fits fact (Closed m) = LearnedOf (λ messages. fact messages true)
+abbrev pub Refuses : {T : Type 0} → (State T → Type 0) → TrySendError T → Type 0
+Refuses fact (Full m) = LearnedOf IsFull fact
+Refuses fact (Closed m) = LearnedOf IsClosed fact
 
 -- Why a receive got no message. Of a channel that is empty and open something is learned; one that
 -- is empty and closed may turn the view.
-abbrev pub FindsNone : {T V : Type 0} → (V → V → Type 0) → (List T → Bool → Type 0) → V → V
+abbrev pub FindsNone : {T V : Type 0} → (V → V → Type 0) → (State T → Type 0) → V → V
     → TryRecvError → Type 0
-FindsNone then fact v w Empty = (w ≡ v) × fact [] false
+FindsNone then fact v w Empty = (w ≡ v) × LearnedOf IsEmpty fact
 FindsNone then fact v w Closed = then v w
 
--- Why a send wanted memory: for its message, in a channel without a capacity, or to wait, at a full
--- and open one.
-abbrev pub WantsToSend : {T : Type 0} → (Option ℕ → Type 0) → (List T → Bool → Type 0) → Type 0
-WantsToSend fits fact = fits None ⊎ IsFullAt fits fact
+-- Why a send wanted memory: for its message, in an open channel without a capacity, or to wait, at a
+-- full and open one.
+abbrev pub WantsToSend : {T : Type 0} → (State T → Type 0) → Type 0
+WantsToSend fact = LearnedOf IsUnbounded fact ⊎ LearnedOf IsFull fact
 
 -- a fact, if the channel was full
 abbrev pub IfFull : {T : Type 0} → TrySendError T → Type 0 → Type 0

@@ -2,7 +2,8 @@
 //!
 //! A blocking call looks a few times, and pauses in between. Who can't go on then leaves its mark in
 //! the core's list, under the lock, and sleeps until just this mark is rung.
-ghost use Rattle.std.specs.Prelude.{◌≡◌, [], false, true, IfOk, IfErr, OnErr};
+ghost use Rattle.std.specs.Prelude.{◌≡◌, IfOk, IfErr, OnErr};
+ghost use Rattle.ruled_channel.specs.State.{IsClosed, IsEmpty};
 ghost use Rattle.ruled_channel.specs.Rule.{Sends, Receives, Ends, Learns, Fitted};
 ghost use Rattle.ruled_channel.specs.Passes.{IsPassOf, IsSamePass, LearnedOf, WantsToSend, number, view};
 ghost use Rattle.ruled_channel.specs.Steps.{HasMadeWith, HasReceived, HasSent, receive_given_up, send_given_up};
@@ -57,7 +58,7 @@ impl<T: Drop, V, P: Protocol<T, V>> RuledChannel<T, V, P> {
         message: T,
     ) -> Result<Result<(), SendError<T>>, NoMemory<T>>
         requires own { IsPassOf self.now pass.old }
-        requires rule { Sends P.fits P.holds (number pass.old) (view pass.old) message M.then }
+        requires rule { Sends P.holds (number pass.old) (view pass.old) message M.then }
         requires lesson { Learns P.holds (number pass.old) (view pass.old)
             (L.fact (view pass.old)) }
         ensures own { IsPassOf self.now pass.new × IsSamePass pass.old pass.new }
@@ -65,10 +66,10 @@ impl<T: Drop, V, P: Protocol<T, V>> RuledChannel<T, V, P> {
             (λ _. M.then (view pass.old) message (view pass.new))) }
         ensures refused { IfOk result (λ answer. IfErr answer
             (λ error. (error.0 ≡ message) × (view pass.new ≡ view pass.old)
-            × LearnedOf (λ messages. L.fact (view pass.old) messages true))) }
+            × LearnedOf IsClosed (L.fact (view pass.old)))) }
         ensures memory { IfErr result
             (λ error. (error.0 ≡ message) × (view pass.new ≡ view pass.old)
-            × WantsToSend P.fits (L.fact (view pass.old))) }
+            × WantsToSend (L.fact (view pass.old))) }
         ensures step { IfOk result (λ answer. HasSent message answer pass.new) }
         ensures given_up { OnErr result (HasMadeWith send_given_up pass.new) }
     {
@@ -129,7 +130,7 @@ impl<T: Drop, V, P: Protocol<T, V>> RuledChannel<T, V, P> {
         ensures end { IfOk result (λ answer. IfErr answer
             (λ _. E.then (view pass.old) (view pass.new))) }
         ensures memory { OnErr result ((view pass.new ≡ view pass.old)
-            × Fitted P.holds (view pass.old) [] false) }
+            × LearnedOf IsEmpty (Fitted P.holds (view pass.old))) }
         ensures step { IfOk result (λ answer. HasReceived answer pass.new) }
         ensures given_up { OnErr result (HasMadeWith receive_given_up pass.new) }
     {

@@ -1,6 +1,7 @@
 //! The channel and its calls that don't wait for others' messages.
-ghost use Rattle.std.specs.Prelude.{◌≡◌, [], ◌∷◌, not, false, true, Some, None, IfOk, IfErr, OnOk, OnErr};
+ghost use Rattle.std.specs.Prelude.{◌≡◌, [], ◌∷◌, not, Some, IfOk, IfErr, OnOk, OnErr};
 ghost use Rattle.channel_model.specs.Errors.{message_of};
+ghost use Rattle.ruled_channel.specs.State.{IsClosed, IsUnbounded, new_state};
 ghost use Rattle.ruled_channel.specs.Rule.{Sends, Forces, Receives, Ends, Closes, Forks, Merges, Learns};
 
 use crate::mark::Mark;
@@ -76,8 +77,8 @@ impl<T: Drop, V, P: Protocol<T, V>> RuledChannel<T, V, P> {
         core: Core<T, Mark>,
     ) -> Result<(RuledChannel<T, V, P>, Pass<T, V>), OutOfMemory>
         requires new { core ≡ new_channel core.capacity }
-        requires fits { P.fits core.capacity × (core.capacity ≢ Some 0) }
-        requires rule { P.holds [] false (P.first ∷ []) }
+        requires place { core.capacity ≢ Some 0 }
+        requires rule { P.holds (new_state core.capacity) (P.first ∷ []) }
         ensures own { IfOk result (λ r. IsPassOf r.0 r.1 × (view r.1 ≡ P.first)) }
         ensures capacity { IfOk result (λ r. r.0.capacity ≡ core.capacity) }
     {
@@ -193,7 +194,7 @@ impl<T: Drop, V, P: Protocol<T, V>> RuledChannel<T, V, P> {
         message: T,
     ) -> Result<Result<(), TrySendError<T>>, NoMemory<T>>
         requires own { IsPassOf self.now pass.old }
-        requires rule { Sends P.fits P.holds (number pass.old) (view pass.old) message M.then }
+        requires rule { Sends P.holds (number pass.old) (view pass.old) message M.then }
         requires lesson { Learns P.holds (number pass.old) (view pass.old)
             (L.fact (view pass.old)) }
         ensures own { IsPassOf self.now pass.new × IsSamePass pass.old pass.new }
@@ -201,9 +202,10 @@ impl<T: Drop, V, P: Protocol<T, V>> RuledChannel<T, V, P> {
             (λ _. M.then (view pass.old) message (view pass.new))) }
         ensures refused { IfOk result (λ answer. IfErr answer
             (λ error. (message_of error ≡ message) × (view pass.new ≡ view pass.old)
-            × Refuses P.fits (L.fact (view pass.old)) error)) }
+            × Refuses (L.fact (view pass.old)) error)) }
         ensures memory { IfErr result
-            (λ error. (error.0 ≡ message) × (view pass.new ≡ view pass.old) × P.fits None) }
+            (λ error. (error.0 ≡ message) × (view pass.new ≡ view pass.old)
+            × LearnedOf IsUnbounded (L.fact (view pass.old))) }
         ensures reply { IfOk result (λ answer. answer ≡ try_send_answer (found pass.new).closed
             (is_channel_full (found pass.new)) message) }
         ensures step { OnOk result (HasMade (sent message) pass.new) }
@@ -218,11 +220,11 @@ impl<T: Drop, V, P: Protocol<T, V>> RuledChannel<T, V, P> {
                 Ok(Ok(()))
             }
             Ok(Err(refused)) => {
-                self.give_back::<Kept<P, L>, R>(pass, held, bell);
+                self.give_back::<Kept<L>, R>(pass, held, bell);
                 Ok(Err(refused))
             }
             Err(error) => {
-                self.give_back::<Kept<P, L>, R>(pass, held, bell);
+                self.give_back::<Kept<L>, R>(pass, held, bell);
                 Err(error)
             }
         }
@@ -246,7 +248,7 @@ impl<T: Drop, V, P: Protocol<T, V>> RuledChannel<T, V, P> {
         message: T,
     ) -> Result<Result<Option<T>, SendError<T>>, NoMemory<T>>
         requires own { IsPassOf self.now pass.old }
-        requires rule { Forces P.fits P.holds (number pass.old) (view pass.old) message M.then }
+        requires rule { Forces P.holds (number pass.old) (view pass.old) message M.then }
         requires lesson { Learns P.holds (number pass.old) (view pass.old)
             (L.fact (view pass.old)) }
         ensures own { IsPassOf self.now pass.new × IsSamePass pass.old pass.new }
@@ -254,9 +256,10 @@ impl<T: Drop, V, P: Protocol<T, V>> RuledChannel<T, V, P> {
             (λ displaced. M.then (view pass.old) displaced message (view pass.new))) }
         ensures refused { IfOk result (λ answer. IfErr answer
             (λ error. (error.0 ≡ message) × (view pass.new ≡ view pass.old)
-            × LearnedOf (λ messages. L.fact (view pass.old) messages true))) }
+            × LearnedOf IsClosed (L.fact (view pass.old)))) }
         ensures memory { IfErr result
-            (λ error. (error.0 ≡ message) × (view pass.new ≡ view pass.old) × P.fits None) }
+            (λ error. (error.0 ≡ message) × (view pass.new ≡ view pass.old)
+            × LearnedOf IsUnbounded (L.fact (view pass.old))) }
         ensures reply { IfOk result (λ answer. answer
             ≡ force_send_answer (found pass.new).closed (is_channel_full (found pass.new))
             (oldest (found pass.new)) message) }
@@ -276,11 +279,11 @@ impl<T: Drop, V, P: Protocol<T, V>> RuledChannel<T, V, P> {
                 Ok(Ok(Some(displaced)))
             }
             Ok(Err(error)) => {
-                self.give_back::<Kept<P, L>, R>(pass, held, bell);
+                self.give_back::<Kept<L>, R>(pass, held, bell);
                 Ok(Err(error))
             }
             Err(error) => {
-                self.give_back::<Kept<P, L>, R>(pass, held, bell);
+                self.give_back::<Kept<L>, R>(pass, held, bell);
                 Err(error)
             }
         }
@@ -321,7 +324,7 @@ impl<T: Drop, V, P: Protocol<T, V>> RuledChannel<T, V, P> {
                 Ok(message)
             }
             Err(TryRecvError::Empty) => {
-                self.give_back::<Kept<P, L>, R>(pass, held, bell);
+                self.give_back::<Kept<L>, R>(pass, held, bell);
                 Err(TryRecvError::Empty)
             }
             Err(TryRecvError::Closed) => {

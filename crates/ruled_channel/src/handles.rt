@@ -3,16 +3,17 @@
 //! A new channel counts one sender and one receiver, and the last of either that is given up closes
 //! it. They are counted by calls: a pass that is dropped closes nothing, since a drop can't ask for
 //! a proof that the rule allows the closing.
-ghost use Rattle.std.specs.Prelude.{◌≡◌, ◌==◌, ◌&&◌, not, true, None};
+ghost use Rattle.std.specs.Prelude.{◌≡◌, ◌≢◌, ◌==◌, ◌&&◌, not, None};
 ghost use Rattle.std.specs.Bool.{OnTrue, OnFalse};
 ghost use Rattle.channel_core.specs.Channel.{receiver_dropped_by, sender_dropped, unchanged};
+ghost use Rattle.channel_core.specs.declared.state.Upgrade.TheVariants.{Raised};
 ghost use Rattle.channel_core.specs.Counts.{count_added, count_upgraded, may_add, upgrade_answer};
-ghost use Rattle.ruled_channel.specs.Rule.{Closes};
+ghost use Rattle.ruled_channel.specs.Rule.{AddsSender, RaisesSender, AddsReceiver, RaisesReceiver, DropsSender, DropsReceiver};
 ghost use Rattle.ruled_channel.specs.Passes.{IsPassOf, IsSamePass, number, view};
 ghost use Rattle.ruled_channel.specs.Steps.{HasMade, found};
 
 use crate::channel::RuledChannel;
-use crate::outcomes::{Closed, Kept, Shut};
+use crate::outcomes::{Closed, Counted, Kept, Shut, Turned};
 use crate::pass::Pass;
 use crate::protocol::Protocol;
 use crate::ringer::Ringer;
@@ -26,14 +27,16 @@ impl<T: Drop, V, P: Protocol<T, V>> RuledChannel<T, V, P> {
     ///
     /// ```
     /// let (channel, mut pass) = bounded_with::<u64, (), Unruled>(rt.alloc(), 1)?;
-    /// assert!(rt; channel.add_sender(&rt, &mut pass));
+    /// assert!(rt; channel.add_sender_as::<Unruled, _>(&rt, &mut pass));
     /// assert!(rt; !channel.drop_sender_as::<Unruled, _>(&rt, &mut pass));
     /// assert!(rt; channel.drop_sender_as::<Unruled, _>(&rt, &mut pass));
     /// ```
-    pub fn add_sender<R: Wait>(&self, rt: &R, pass: &mut Pass<T, V>) -> bool
-        requires { IsPassOf self.now pass.old }
+    pub fn add_sender_as<M: Counted<V>, R: Wait>(&self, rt: &R, pass: &mut Pass<T, V>) -> bool
+        requires own { IsPassOf self.now pass.old }
+        requires rule { AddsSender P.holds (number pass.old) (view pass.old) M.then }
         ensures own { IsPassOf self.now pass.new × IsSamePass pass.old pass.new }
-        ensures same { view pass.new ≡ view pass.old }
+        ensures counted { OnTrue result (M.then (view pass.old) (view pass.new)) }
+        ensures same { OnFalse result (view pass.new ≡ view pass.old) }
         ensures reply { result ≡ may_add (found pass.new).senders }
         ensures step { HasMade (λ channel. unchanged (record channel {
           senders = count_added result channel.senders;
@@ -42,7 +45,11 @@ impl<T: Drop, V, P: Protocol<T, V>> RuledChannel<T, V, P> {
         let held = self.mutex.lock(rt, &mut pass.lock);
         let core = pass.lock.value_mut(&self.mutex, &held);
         let is_counted = core.add_sender();
-        self.give_back::<Kept<P, Unruled>, R>(pass, held, Ringer::new(rt));
+        if is_counted {
+            self.give_back::<Turned<M>, R>(pass, held, Ringer::new(rt));
+        } else {
+            self.give_back::<Kept<Unruled>, R>(pass, held, Ringer::new(rt));
+        }
         is_counted
     }
 
@@ -51,14 +58,16 @@ impl<T: Drop, V, P: Protocol<T, V>> RuledChannel<T, V, P> {
     ///
     /// ```
     /// let (channel, mut pass) = bounded_with::<u64, (), Unruled>(rt.alloc(), 1)?;
-    /// assert!(rt; channel.add_receiver(&rt, &mut pass));
+    /// assert!(rt; channel.add_receiver_as::<Unruled, _>(&rt, &mut pass));
     /// assert!(rt; !channel.drop_receiver_as::<Unruled, _>(&rt, &mut pass));
     /// assert!(rt; channel.drop_receiver_as::<Unruled, _>(&rt, &mut pass));
     /// ```
-    pub fn add_receiver<R: Wait>(&self, rt: &R, pass: &mut Pass<T, V>) -> bool
-        requires { IsPassOf self.now pass.old }
+    pub fn add_receiver_as<M: Counted<V>, R: Wait>(&self, rt: &R, pass: &mut Pass<T, V>) -> bool
+        requires own { IsPassOf self.now pass.old }
+        requires rule { AddsReceiver P.holds (number pass.old) (view pass.old) M.then }
         ensures own { IsPassOf self.now pass.new × IsSamePass pass.old pass.new }
-        ensures same { view pass.new ≡ view pass.old }
+        ensures counted { OnTrue result (M.then (view pass.old) (view pass.new)) }
+        ensures same { OnFalse result (view pass.new ≡ view pass.old) }
         ensures reply { result ≡ may_add (found pass.new).receivers }
         ensures step { HasMade (λ channel. unchanged (record channel {
           receivers = count_added result channel.receivers;
@@ -67,7 +76,11 @@ impl<T: Drop, V, P: Protocol<T, V>> RuledChannel<T, V, P> {
         let held = self.mutex.lock(rt, &mut pass.lock);
         let core = pass.lock.value_mut(&self.mutex, &held);
         let is_counted = core.add_receiver();
-        self.give_back::<Kept<P, Unruled>, R>(pass, held, Ringer::new(rt));
+        if is_counted {
+            self.give_back::<Turned<M>, R>(pass, held, Ringer::new(rt));
+        } else {
+            self.give_back::<Kept<Unruled>, R>(pass, held, Ringer::new(rt));
+        }
         is_counted
     }
 
@@ -76,12 +89,18 @@ impl<T: Drop, V, P: Protocol<T, V>> RuledChannel<T, V, P> {
     ///
     /// ```
     /// let (channel, mut pass) = bounded_with::<u64, (), Unruled>(rt.alloc(), 1)?;
-    /// assert_eq!(rt; channel.upgrade_sender(&rt, &mut pass), Upgrade::Raised);
+    /// assert_eq!(rt; channel.upgrade_sender_as::<Unruled, _>(&rt, &mut pass), Upgrade::Raised);
     /// ```
-    pub fn upgrade_sender<R: Wait>(&self, rt: &R, pass: &mut Pass<T, V>) -> Upgrade
-        requires { IsPassOf self.now pass.old }
+    pub fn upgrade_sender_as<M: Counted<V>, R: Wait>(
+        &self,
+        rt: &R,
+        pass: &mut Pass<T, V>,
+    ) -> Upgrade
+        requires own { IsPassOf self.now pass.old }
+        requires rule { RaisesSender P.holds (number pass.old) (view pass.old) M.then }
         ensures own { IsPassOf self.now pass.new × IsSamePass pass.old pass.new }
-        ensures same { view pass.new ≡ view pass.old }
+        ensures counted { result ≡ Raised → M.then (view pass.old) (view pass.new) }
+        ensures same { result ≢ Raised → view pass.new ≡ view pass.old }
         ensures reply { result
             ≡ upgrade_answer (found pass.new).closed (found pass.new).senders }
         ensures step { HasMade (λ channel. unchanged (record channel {
@@ -91,7 +110,11 @@ impl<T: Drop, V, P: Protocol<T, V>> RuledChannel<T, V, P> {
         let held = self.mutex.lock(rt, &mut pass.lock);
         let core = pass.lock.value_mut(&self.mutex, &held);
         let upgrade = core.upgrade_sender();
-        self.give_back::<Kept<P, Unruled>, R>(pass, held, Ringer::new(rt));
+        match upgrade {
+            Upgrade::Raised => self.give_back::<Turned<M>, R>(pass, held, Ringer::new(rt)),
+            Upgrade::Closed => self.give_back::<Kept<Unruled>, R>(pass, held, Ringer::new(rt)),
+            Upgrade::TooMany => self.give_back::<Kept<Unruled>, R>(pass, held, Ringer::new(rt)),
+        }
         upgrade
     }
 
@@ -102,12 +125,18 @@ impl<T: Drop, V, P: Protocol<T, V>> RuledChannel<T, V, P> {
     /// ```
     /// let (channel, mut pass) = bounded_with::<u64, (), Unruled>(rt.alloc(), 1)?;
     /// assert!(rt; channel.close_as::<Unruled, _>(&rt, &mut pass));
-    /// assert_eq!(rt; channel.upgrade_receiver(&rt, &mut pass), Upgrade::Closed);
+    /// assert_eq!(rt; channel.upgrade_receiver_as::<Unruled, _>(&rt, &mut pass), Upgrade::Closed);
     /// ```
-    pub fn upgrade_receiver<R: Wait>(&self, rt: &R, pass: &mut Pass<T, V>) -> Upgrade
-        requires { IsPassOf self.now pass.old }
+    pub fn upgrade_receiver_as<M: Counted<V>, R: Wait>(
+        &self,
+        rt: &R,
+        pass: &mut Pass<T, V>,
+    ) -> Upgrade
+        requires own { IsPassOf self.now pass.old }
+        requires rule { RaisesReceiver P.holds (number pass.old) (view pass.old) M.then }
         ensures own { IsPassOf self.now pass.new × IsSamePass pass.old pass.new }
-        ensures same { view pass.new ≡ view pass.old }
+        ensures counted { result ≡ Raised → M.then (view pass.old) (view pass.new) }
+        ensures same { result ≢ Raised → view pass.new ≡ view pass.old }
         ensures reply { result
             ≡ upgrade_answer (found pass.new).closed (found pass.new).receivers }
         ensures step { HasMade (λ channel. unchanged (record channel {
@@ -117,7 +146,11 @@ impl<T: Drop, V, P: Protocol<T, V>> RuledChannel<T, V, P> {
         let held = self.mutex.lock(rt, &mut pass.lock);
         let core = pass.lock.value_mut(&self.mutex, &held);
         let upgrade = core.upgrade_receiver();
-        self.give_back::<Kept<P, Unruled>, R>(pass, held, Ringer::new(rt));
+        match upgrade {
+            Upgrade::Raised => self.give_back::<Turned<M>, R>(pass, held, Ringer::new(rt)),
+            Upgrade::Closed => self.give_back::<Kept<Unruled>, R>(pass, held, Ringer::new(rt)),
+            Upgrade::TooMany => self.give_back::<Kept<Unruled>, R>(pass, held, Ringer::new(rt)),
+        }
         upgrade
     }
 
@@ -131,10 +164,9 @@ impl<T: Drop, V, P: Protocol<T, V>> RuledChannel<T, V, P> {
     /// ```
     pub fn drop_sender_as<M: Closed<V>, R: Wait>(&self, rt: &R, pass: &mut Pass<T, V>) -> bool
         requires own { IsPassOf self.now pass.old }
-        requires rule { Closes P.holds (number pass.old) (view pass.old) M.then }
+        requires rule { DropsSender P.holds (number pass.old) (view pass.old) M.then }
         ensures own { IsPassOf self.now pass.new × IsSamePass pass.old pass.new }
-        ensures closed { OnTrue result (M.then (view pass.old) true (view pass.new)) }
-        ensures same { OnFalse result (view pass.new ≡ view pass.old) }
+        ensures closed { M.then (view pass.old) result (view pass.new) }
         ensures reply { result ≡ (((found pass.new).senders == 1) && not (found pass.new).closed) }
         ensures step { HasMade sender_dropped pass.new }
     {
@@ -142,11 +174,7 @@ impl<T: Drop, V, P: Protocol<T, V>> RuledChannel<T, V, P> {
         let mut bell = Ringer::new(rt);
         let core = pass.lock.value_mut(&self.mutex, &held);
         let has_closed = core.drop_sender(&mut bell);
-        if has_closed {
-            self.give_back::<Shut<M>, R>(pass, held, bell);
-        } else {
-            self.give_back::<Kept<P, Unruled>, R>(pass, held, bell);
-        }
+        self.give_back::<Shut<M>, R>(pass, held, bell);
         has_closed
     }
 
@@ -160,10 +188,9 @@ impl<T: Drop, V, P: Protocol<T, V>> RuledChannel<T, V, P> {
     /// ```
     pub fn drop_receiver_as<M: Closed<V>, R: Wait>(&self, rt: &R, pass: &mut Pass<T, V>) -> bool
         requires own { IsPassOf self.now pass.old }
-        requires rule { Closes P.holds (number pass.old) (view pass.old) M.then }
+        requires rule { DropsReceiver P.holds (number pass.old) (view pass.old) M.then }
         ensures own { IsPassOf self.now pass.new × IsSamePass pass.old pass.new }
-        ensures closed { OnTrue result (M.then (view pass.old) true (view pass.new)) }
-        ensures same { OnFalse result (view pass.new ≡ view pass.old) }
+        ensures closed { M.then (view pass.old) result (view pass.new) }
         ensures reply { result ≡ (((found pass.new).receivers == 1) && not (found pass.new).closed) }
         ensures step { HasMade (receiver_dropped_by None) pass.new }
     {
@@ -188,10 +215,9 @@ impl<T: Drop, V, P: Protocol<T, V>> RuledChannel<T, V, P> {
         stream: &mut Option<Ticket>,
     ) -> bool
         requires own { IsPassOf self.now pass.old }
-        requires rule { Closes P.holds (number pass.old) (view pass.old) M.then }
+        requires rule { DropsReceiver P.holds (number pass.old) (view pass.old) M.then }
         ensures own { IsPassOf self.now pass.new × IsSamePass pass.old pass.new }
-        ensures closed { OnTrue result (M.then (view pass.old) true (view pass.new)) }
-        ensures same { OnFalse result (view pass.new ≡ view pass.old) }
+        ensures closed { M.then (view pass.old) result (view pass.new) }
         ensures ticket { stream.new ≡ None }
         ensures reply { result ≡ (((found pass.new).receivers == 1) && not (found pass.new).closed) }
         ensures step { HasMade (receiver_dropped_by stream.old) pass.new }
@@ -200,11 +226,7 @@ impl<T: Drop, V, P: Protocol<T, V>> RuledChannel<T, V, P> {
         let mut bell = Ringer::new(rt);
         let core = pass.lock.value_mut(&self.mutex, &held);
         let has_closed = core.drop_receiver(stream, &mut bell);
-        if has_closed {
-            self.give_back::<Shut<M>, R>(pass, held, bell);
-        } else {
-            self.give_back::<Kept<P, Unruled>, R>(pass, held, bell);
-        }
+        self.give_back::<Shut<M>, R>(pass, held, bell);
         has_closed
     }
 }

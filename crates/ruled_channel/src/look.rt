@@ -2,6 +2,7 @@
 ghost use Rattle.std.specs.Prelude.{◌≡◌, ◌≤◌, length};
 ghost use Rattle.event_list.specs.Waiting.{keys, told_count};
 ghost use Rattle.channel_core.specs.Channel.{list_of, unchanged};
+ghost use Rattle.ruled_channel.specs.State.{state_of};
 ghost use Rattle.ruled_channel.specs.Rule.{Learns};
 ghost use Rattle.ruled_channel.specs.Passes.{IsPassOf, IsSamePass, number, view};
 ghost use Rattle.ruled_channel.specs.Steps.{HasMade, found, status_of};
@@ -67,7 +68,7 @@ impl<T: Drop, V, P: Protocol<T, V>> RuledChannel<T, V, P> {
         requires rule { Learns P.holds (number pass.old) (view pass.old) (L.fact (view pass.old)) }
         ensures own { IsPassOf self.now pass.new × IsSamePass pass.old pass.new }
         ensures same { view pass.new ≡ view pass.old }
-        ensures learned { L.fact (view pass.old) (found pass.new).messages (found pass.new).closed }
+        ensures learned { L.fact (view pass.old) (state_of (found pass.new)) }
         ensures reply { result ≡ status_of (found pass.new) }
         ensures step { HasMade unchanged pass.new }
     {
@@ -80,7 +81,7 @@ impl<T: Drop, V, P: Protocol<T, V>> RuledChannel<T, V, P> {
             sender_count: core.sender_count(),
             receiver_count: core.receiver_count(),
         };
-        self.give_back::<Kept<P, L>, R>(pass, held, Ringer::new(rt));
+        self.give_back::<Kept<L>, R>(pass, held, Ringer::new(rt));
         status
     }
 
@@ -105,7 +106,7 @@ impl<T: Drop, V, P: Protocol<T, V>> RuledChannel<T, V, P> {
             waiting: core.waiting(group),
             told: core.told(group),
         };
-        self.give_back::<Kept<P, Unruled>, R>(pass, held, Ringer::new(rt));
+        self.give_back::<Kept<Unruled>, R>(pass, held, Ringer::new(rt));
         waiters
     }
 }

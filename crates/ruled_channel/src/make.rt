@@ -1,5 +1,6 @@
 //! How a channel is made.
-ghost use Rattle.std.specs.Prelude.{◌≡◌, ◌<◌, [], ◌∷◌, false, Some, None, IfOk};
+ghost use Rattle.std.specs.Prelude.{◌≡◌, ◌<◌, [], ◌∷◌, Some, None, IfOk};
+ghost use Rattle.ruled_channel.specs.State.{new_state};
 ghost use Rattle.ruled_channel.specs.Passes.{IsPassOf, view};
 
 use crate::channel::RuledChannel;
@@ -23,8 +24,7 @@ pub fn bounded_with<T: Drop, V, P: Protocol<T, V>>(
     cap: usize,
 ) -> Result<(RuledChannel<T, V, P>, Pass<T, V>), OutOfMemory>
     requires cap { 0 < cap }
-    requires fits { P.fits (Some cap) }
-    requires rule { P.holds [] false (P.first ∷ []) }
+    requires rule { P.holds (new_state (Some cap)) (P.first ∷ []) }
     ensures own { IfOk result (λ r. IsPassOf r.0 r.1 × (view r.1 ≡ P.first)) }
     ensures capacity { IfOk result (λ r. r.0.capacity ≡ Some cap) }
 {
@@ -41,8 +41,7 @@ pub fn bounded_with<T: Drop, V, P: Protocol<T, V>>(
 pub fn unbounded_with<T: Drop, V, P: Protocol<T, V>>(
     alloc: Global,
 ) -> Result<(RuledChannel<T, V, P>, Pass<T, V>), OutOfMemory>
-    requires fits { P.fits None }
-    requires rule { P.holds [] false (P.first ∷ []) }
+    requires rule { P.holds (new_state None) (P.first ∷ []) }
     ensures own { IfOk result (λ r. IsPassOf r.0 r.1 × (view r.1 ≡ P.first)) }
     ensures capacity { IfOk result (λ r. r.0.capacity ≡ None) }
 {

@@ -1,6 +1,7 @@
 //! What each answer tells.
-ghost use Rattle.std.specs.Prelude.{◌≡◌, List, Bool, Option, None};
-ghost use Rattle.ruled_channel.specs.Guarded.{pushed, displaced, popped, ended, shut, kept};
+ghost use Rattle.std.specs.Prelude.{◌≡◌, Bool, Option, None};
+ghost use Rattle.ruled_channel.specs.State.{State};
+ghost use Rattle.ruled_channel.specs.Guarded.{pushed, displaced, popped, turned, shut, kept};
 
 use crate::mark::Mark;
 use crate::protocol::Protocol;
@@ -55,27 +56,38 @@ pub trait AtEnd<V> {
     ghost then: { V → V → Type 0 };
 }
 
-/// What closing tells: of the view before, whether the channel was open, and the view after.
+/// What a step tells that may close the channel: of the view before, whether it did, and the view
+/// after.
 ///
 /// ```
 /// impl<V> Closed<V> for Same {
-///     ghost then = { λ v was_open w. w ≡ v };
+///     ghost then = { λ v has_closed w. w ≡ v };
 /// }
 /// ```
 pub trait Closed<V> {
     ghost then: { V → Bool → V → Type 0 };
 }
 
-/// What a pass learns from the rule at one moment: of its view, the messages held and whether the
-/// channel is closed.
+/// What it tells that one more sender or receiver is counted: of the view before and after.
+///
+/// ```
+/// impl<V> Counted<V> for Same {
+///     ghost then = { λ v w. w ≡ v };
+/// }
+/// ```
+pub trait Counted<V> {
+    ghost then: { V → V → Type 0 };
+}
+
+/// What a pass learns from the rule at one moment: of its view, and of what the channel is.
 ///
 /// ```
 /// impl<T, V> Lesson<T, V> for Same {
-///     ghost fact = { λ v messages closed. Unit {0} };
+///     ghost fact = { λ v state. Unit {0} };
 /// }
 /// ```
 pub trait Lesson<T, V> {
-    ghost fact: { V → List T → Bool → Type 0 };
+    ghost fact: { V → State T → Type 0 };
 }
 
 impl<T, V> Sent<T, V> for Unruled {
@@ -98,8 +110,12 @@ impl<V> Closed<V> for Unruled {
     ghost then = { λ _ _ _. Unit {0} };
 }
 
+impl<V> Counted<V> for Unruled {
+    ghost then = { λ _ _. Unit {0} };
+}
+
 impl<T, V> Lesson<T, V> for Unruled {
-    ghost fact = { λ _ _ _. Unit {0} };
+    ghost fact = { λ _ _. Unit {0} };
 }
 
 /// That the rule held of what there was.
@@ -153,7 +169,15 @@ pub(crate) struct Ended<E> {
 }
 
 impl<T, V, E: AtEnd<V>> Outcome<Core<T, Mark>, V> for Ended<E> {
-    ghost then = { ended E.then };
+    ghost then = { turned E.then };
+}
+
+pub(crate) struct Turned<M> {
+    counted: PhantomData<M>,
+}
+
+impl<T, V, M: Counted<V>> Outcome<Core<T, Mark>, V> for Turned<M> {
+    ghost then = { turned M.then };
 }
 
 pub(crate) struct Shut<M> {
@@ -164,10 +188,10 @@ impl<T, V, M: Closed<V>> Outcome<Core<T, Mark>, V> for Shut<M> {
     ghost then = { shut M.then };
 }
 
-pub(crate) struct Kept<P, L> {
-    learned: PhantomData<(P, L)>,
+pub(crate) struct Kept<L> {
+    learned: PhantomData<L>,
 }
 
-impl<T, V, P: Protocol<T, V>, L: Lesson<T, V>> Outcome<Core<T, Mark>, V> for Kept<P, L> {
-    ghost then = { kept P.fits L.fact };
+impl<T, V, L: Lesson<T, V>> Outcome<Core<T, Mark>, V> for Kept<L> {
+    ghost then = { kept L.fact };
 }

@@ -78,7 +78,7 @@ impl<T: Drop, V, P: Protocol<T, V>> RuledChannel<T, V, P> {
         bell: Ringer<'_, R>,
     )
         requires own { Holds self.now.mutex held pass.old.lock }
-        requires rule { TurnsAt (within P.fits P.holds) (number pass.old) (view pass.old)
+        requires rule { TurnsAt (within P.holds) (number pass.old) (view pass.old)
             (found_by held) (made_of held pass.old.lock) O.then }
         ensures own { IsPassOf self.now pass.new × IsSamePass pass.old pass.new }
         ensures rule { O.then (view pass.old) (found_by held) (made_of held pass.old.lock)

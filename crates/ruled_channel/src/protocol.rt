@@ -1,33 +1,29 @@
 //! The caller's rule.
-ghost use Rattle.std.specs.Prelude.{ℕ, List, Bool, Option};
+ghost use Rattle.std.specs.Prelude.{List};
+ghost use Rattle.ruled_channel.specs.State.{State};
 
 use crate::mark::Mark;
 use channel_core::Core;
 use ruled_mutex::Unruled;
 use std::marker::PhantomData;
 
-/// The caller's rule: over the messages that the channel holds, the oldest first, whether it is
-/// closed, and what each pass knows.
+/// The caller's rule: over what the channel is, and what each pass knows. It names what it needs of
+/// the messages, the closed flag, the counts of senders and receivers, and the capacity.
 ///
 /// ```
 /// struct InTwos;
 ///
 /// impl<T> Protocol<T, ()> for InTwos {
-///     ghost holds = { λ messages closed views. Unit {0} };
+///     ghost holds = { λ state views. state.capacity ≡ Some 2 };
 ///
 ///     ghost first = { tt };
-///
-///     ghost fits = { λ capacity. capacity ≡ Some 2 };
 /// }
 /// ```
 pub trait Protocol<T, V> {
-    ghost holds: { List T → Bool → List V → Type 0 };
+    ghost holds: { State T → List V → Type 0 };
 
     /// The view of the first pass.
     ghost first: { V };
-
-    /// What is known of the capacity: nothing, if it isn't said.
-    ghost fits: { Option ℕ → Type 0 } = { λ _. Unit {0} };
 }
 
 // The same, as a rule over what the lock guards.
@@ -38,13 +34,13 @@ pub struct Ruled<P> {
 impl<T, V, P: Protocol<T, V>> ruled_mutex::Protocol<Core<T, Mark>, V> for Ruled<P> {
     ghost use Rattle.ruled_channel.specs.Guarded.{within};
 
-    ghost holds = { within P.fits P.holds };
+    ghost holds = { within P.holds };
 
     ghost first = { P.first };
 }
 
 impl<T> Protocol<T, ()> for Unruled {
-    ghost holds = { λ _ _ _. Unit {0} };
+    ghost holds = { λ _ _. Unit {0} };
 
     ghost first = { tt };
 }

@@ -1,10 +1,11 @@
 //! A receive as a future.
-ghost use Rattle.std.specs.Prelude.{◌≡◌, [], false, IfSome, IsSome, OnErr, Some, None};
+ghost use Rattle.std.specs.Prelude.{◌≡◌, IfSome, IsSome, OnErr, Some, None};
 ghost use Rattle.std.specs.Option.{ForSome};
 ghost use Rattle.futures.specs.Task.{Covers, Keeps};
 ghost use Rattle.futures.specs.Poll.{IfReady, OnPending};
+ghost use Rattle.ruled_channel.specs.State.{IsEmpty};
 ghost use Rattle.ruled_channel.specs.Rule.{Receives, Ends, Fitted};
-ghost use Rattle.ruled_channel.specs.Passes.{IsPassOf, number, view};
+ghost use Rattle.ruled_channel.specs.Passes.{IsPassOf, LearnedOf, number, view};
 ghost use Rattle.ruled_channel.specs.Steps.{HasMade, HasMadeWith, receive_given_up};
 ghost use Rattle.ruled_channel.specs.Receiving.{MayPoll, Gives, IsBack};
 
@@ -93,7 +94,7 @@ impl<T: Drop, V, P: Protocol<T, V>, M: Received<T, V>, E: AtEnd<V>, R: Wait> Fut
     fn poll(&mut self, cx: &mut Context<'_>) -> Poll<Self::Output>
         requires { MayPoll P.holds M.then E.then self.old.channel.now self.old.pass }
         ensures empty { OnPending result (IfSome self.old.pass
-            (λ p. Fitted P.holds (view p) [] false)) }
+            (λ p. LearnedOf IsEmpty (Fitted P.holds (view p)))) }
         ensures value { IfReady result
             (Gives P.holds M.then E.then self.old.channel.now self.old.pass) }
         ensures given_up { IfReady result (λ out. OnErr out.1 (HasMadeWith receive_given_up out.0)) }

@@ -1,10 +1,11 @@
 //! A send as a future.
-ghost use Rattle.std.specs.Prelude.{◌≡◌, false, IfSome, IsSome, OnErr, Some, None};
+ghost use Rattle.std.specs.Prelude.{◌≡◌, IfSome, IsSome, OnErr, Some, None};
 ghost use Rattle.std.specs.Option.{ForSome};
 ghost use Rattle.futures.specs.Task.{Covers, Keeps};
 ghost use Rattle.futures.specs.Poll.{IfReady, OnPending};
+ghost use Rattle.ruled_channel.specs.State.{IsFull};
 ghost use Rattle.ruled_channel.specs.Rule.{Sends, Learns};
-ghost use Rattle.ruled_channel.specs.Passes.{IsPassOf, IsFullAt, number, view};
+ghost use Rattle.ruled_channel.specs.Passes.{IsPassOf, LearnedOf, number, view};
 ghost use Rattle.ruled_channel.specs.Steps.{HasMade, HasMadeWith, send_given_up};
 ghost use Rattle.ruled_channel.specs.Sending.{MaySend, GivesSent, AreBack};
 
@@ -65,9 +66,9 @@ impl<T: Drop, V, P: Protocol<T, V>> RuledChannel<T, V, P> {
         message: T,
     ) -> Send<'r, 'c, T, V, P, M, L, R>
         requires own { IsPassOf self.now pass }
-        requires rule { Sends P.fits P.holds (number pass) (view pass) message M.then }
+        requires rule { Sends P.holds (number pass) (view pass) message M.then }
         requires lesson { Learns P.holds (number pass) (view pass) (L.fact (view pass)) }
-        ensures { MaySend P.fits P.holds M.then L.fact result.channel.now result.parts
+        ensures { MaySend P.holds M.then L.fact result.channel.now result.parts
             × (result.parts ≡ Some (pass, message)) × (result.channel.now ≡ self.now) }
     {
         Send {
@@ -85,25 +86,25 @@ impl<T: Drop, V, P: Protocol<T, V>, M: Sent<T, V>, L: Lesson<T, V>, R: Wait> Fut
     for Send<'_, '_, T, V, P, M, L, R> {
     type Output = (Pass<T, V>, Result<Result<(), SendError<T>>, NoMemory<T>>);
 
-    ghost can_poll = { λ f. MaySend P.fits P.holds M.then L.fact f.channel.now f.parts };
+    ghost can_poll = { λ f. MaySend P.holds M.then L.fact f.channel.now f.parts };
 
     ghost needs = { λ f source. source ≡ f.channel.now.source.id };
 
-    ghost gives = { λ f. GivesSent P.fits M.then L.fact f.channel.now f.parts };
+    ghost gives = { λ f. GivesSent M.then L.fact f.channel.now f.parts };
 
     #[tactic(auto, using(crate::proofs::Made::has_sent, crate::proofs::Made::is_turned_back))]
     fn poll(&mut self, cx: &mut Context<'_>) -> Poll<Self::Output>
-        requires { MaySend P.fits P.holds M.then L.fact self.old.channel.now self.old.parts }
+        requires { MaySend P.holds M.then L.fact self.old.channel.now self.old.parts }
         ensures full { OnPending result (IfSome self.old.parts
-            (λ h. IsFullAt P.fits (L.fact (view h.0)))) }
+            (λ h. LearnedOf IsFull (L.fact (view h.0)))) }
         ensures value { IfReady result
-            (GivesSent P.fits M.then L.fact self.old.channel.now self.old.parts) }
+            (GivesSent M.then L.fact self.old.channel.now self.old.parts) }
         ensures given_up { IfReady result (λ out. OnErr out.1 (HasMadeWith send_given_up out.0)) }
         ensures again { OnPending result
-            (MaySend P.fits P.holds M.then L.fact self.new.channel.now self.new.parts) }
+            (MaySend P.holds M.then L.fact self.new.channel.now self.new.parts) }
         ensures same { OnPending result ((x : _)
-            → GivesSent P.fits M.then L.fact self.new.channel.now self.new.parts x
-            → GivesSent P.fits M.then L.fact self.old.channel.now self.old.parts x) }
+            → GivesSent M.then L.fact self.new.channel.now self.new.parts x
+            → GivesSent M.then L.fact self.old.channel.now self.old.parts x) }
         ensures registered { OnPending result
             (Covers cx.new (λ source. source ≡ self.new.channel.now.source.id)) }
         ensures holds { OnPending result (IsSome self.new.ticket) }

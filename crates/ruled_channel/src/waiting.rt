@@ -3,7 +3,7 @@
 //! A poll looks without a mark first. One that is ready needs none, nor memory for it; one that
 //! isn't has changed nothing. Then its mark is made, and left in the core's list under the same
 //! lock, so that whoever tells it finds it.
-ghost use Rattle.std.specs.Prelude.{◌≡◌, ◌==◌, ◌⊎◌, [], ◌++◌, false, Some, None, IfOk, IfErr, IfSome, IfNone, IsSome, OnOk, OnErr};
+ghost use Rattle.std.specs.Prelude.{◌≡◌, ◌==◌, ◌⊎◌, [], ◌++◌, Some, None, IfOk, IfErr, IfSome, IfNone, IsSome, OnOk, OnErr};
 ghost use Rattle.futures.specs.Poll.{IfReady};
 ghost use Rattle.futures.specs.declared.task.Poll.TheVariants.{Pending};
 ghost use Rattle.channel_model.specs.Errors.{message_of};
@@ -11,8 +11,9 @@ ghost use Rattle.channel_model.specs.Tables.{OnReady, OnWait, closed_poll, next_
 ghost use Rattle.channel_core.specs.Channel.{ClosedWaits, GrowsWithMessages, NextWaits, RecvWaits, SendWaits, is_channel_full, oldest, polled_receive, polled_send, polled_stream, unchanged};
 ghost use Rattle.channel_core.specs.Tickets.{left};
 ghost use Rattle.ruled_channel.specs.declared.mark.Mark.{Mark};
+ghost use Rattle.ruled_channel.specs.State.{IsEmpty};
 ghost use Rattle.ruled_channel.specs.Rule.{Sends, Receives, Ends, Learns, Fitted};
-ghost use Rattle.ruled_channel.specs.Passes.{IsPassOf, IsSamePass, Refuses, IfFull, UnlessFull, WantsToSend, number, view};
+ghost use Rattle.ruled_channel.specs.Passes.{IsPassOf, IsSamePass, LearnedOf, Refuses, IfFull, UnlessFull, WantsToSend, number, view};
 ghost use Rattle.ruled_channel.specs.Steps.{HasMade, closed_left, found, made, receive_given_up, send_given_up, woken};
 
 use crate::channel::RuledChannel;
@@ -193,7 +194,7 @@ impl<T: Drop, V, P: Protocol<T, V>> RuledChannel<T, V, P> {
         R: Wait,
         W: Waiter<C>,
         requires own { IsPassOf self.now pass.old }
-        requires rule { Sends P.fits P.holds (number pass.old) (view pass.old) message M.then }
+        requires rule { Sends P.holds (number pass.old) (view pass.old) message M.then }
         requires lesson { Learns P.holds (number pass.old) (view pass.old)
             (L.fact (view pass.old)) }
         ensures own { IsPassOf self.now pass.new × IsSamePass pass.old pass.new }
@@ -201,7 +202,7 @@ impl<T: Drop, V, P: Protocol<T, V>> RuledChannel<T, V, P> {
             (λ _. M.then (view pass.old) message (view pass.new))) }
         ensures refused { IfOk result (λ answer. IfErr answer
             (λ error. (message_of error ≡ message) × (view pass.new ≡ view pass.old)
-            × Refuses P.fits (L.fact (view pass.old)) error)) }
+            × Refuses (L.fact (view pass.old)) error)) }
         ensures reply { IfOk result (λ answer. answer ≡ try_send_answer (found pass.new).closed
             (is_channel_full (found pass.new)) message) }
         ensures step { IfOk result (λ answer. UnlessFull answer ((ticket.new ≡ None)
@@ -213,7 +214,7 @@ impl<T: Drop, V, P: Protocol<T, V>> RuledChannel<T, V, P> {
         ensures keeps { W.keeps cx.old cx.new }
         ensures memory { IfErr result
             (λ error. (error.0 ≡ message) × (view pass.new ≡ view pass.old)
-            × WantsToSend P.fits (L.fact (view pass.old))) }
+            × WantsToSend (L.fact (view pass.old))) }
         ensures unpolled { OnErr result ((ticket.new ≡ ticket.old) × HasMade unchanged pass.new) }
     {
         let held = self.mutex.lock(rt, &mut pass.lock);
@@ -226,15 +227,15 @@ impl<T: Drop, V, P: Protocol<T, V>> RuledChannel<T, V, P> {
                 Ok(Ok(()))
             }
             Ok(Poll::Ready(Err(SendError(back)))) => {
-                self.give_back::<Kept<P, L>, R>(pass, held, bell);
+                self.give_back::<Kept<L>, R>(pass, held, bell);
                 Ok(Err(TrySendError::Closed(back)))
             }
             Ok(Poll::Pending) => {
-                self.give_back::<Kept<P, L>, R>(pass, held, bell);
+                self.give_back::<Kept<L>, R>(pass, held, bell);
                 Ok(Err(TrySendError::Full(waiting.unwrap())))
             }
             Err(OutOfMemory) => {
-                self.give_back::<Kept<P, L>, R>(pass, held, bell);
+                self.give_back::<Kept<L>, R>(pass, held, bell);
                 Err(NoMemory(waiting.unwrap()))
             }
         }
@@ -288,13 +289,13 @@ impl<T: Drop, V, P: Protocol<T, V>> RuledChannel<T, V, P> {
         ensures step { OnReady result ((ticket.new ≡ None)
             × HasMade (polled_receive ticket.old) pass.new) }
         ensures empty { OnWait result ((view pass.new ≡ view pass.old)
-            × Fitted P.holds (view pass.old) [] false) }
+            × LearnedOf IsEmpty (Fitted P.holds (view pass.old))) }
         ensures waits { OnWait result ((w : Mark) × W.waits_by cx.new self.now.source.id w
             × IsSome ticket.new × RecvWaits ticket.old (found pass.new) w ticket.new (made pass.new)
             × (woken pass.new ≡ [])) }
         ensures keeps { W.keeps cx.old cx.new }
         ensures memory { OnErr result ((view pass.new ≡ view pass.old)
-            × Fitted P.holds (view pass.old) [] false) }
+            × LearnedOf IsEmpty (Fitted P.holds (view pass.old))) }
         ensures unpolled { OnErr result ((ticket.new ≡ ticket.old) × HasMade unchanged pass.new) }
     {
         let held = self.mutex.lock(rt, &mut pass.lock);
@@ -310,11 +311,11 @@ impl<T: Drop, V, P: Protocol<T, V>> RuledChannel<T, V, P> {
                 Ok(Poll::Ready(Err(RecvError)))
             }
             Ok(Poll::Pending) => {
-                self.give_back::<Kept<P, Seen<P>>, R>(pass, held, bell);
+                self.give_back::<Kept<Seen<P>>, R>(pass, held, bell);
                 Ok(Poll::Pending)
             }
             Err(OutOfMemory) => {
-                self.give_back::<Kept<P, Seen<P>>, R>(pass, held, bell);
+                self.give_back::<Kept<Seen<P>>, R>(pass, held, bell);
                 Err(OutOfMemory)
             }
         }
@@ -366,13 +367,13 @@ impl<T: Drop, V, P: Protocol<T, V>> RuledChannel<T, V, P> {
         ensures step { OnReady result ((ticket.new ≡ None)
             × HasMade (polled_stream ticket.old) pass.new) }
         ensures empty { OnWait result ((view pass.new ≡ view pass.old)
-            × Fitted P.holds (view pass.old) [] false) }
+            × LearnedOf IsEmpty (Fitted P.holds (view pass.old))) }
         ensures waits { OnWait result ((w : Mark) × W.waits_by cx.new self.now.source.id w
             × IsSome ticket.new × NextWaits ticket.old (found pass.new) w ticket.new (made pass.new)
             × (woken pass.new ≡ [])) }
         ensures keeps { W.keeps cx.old cx.new }
         ensures memory { OnErr result ((view pass.new ≡ view pass.old)
-            × Fitted P.holds (view pass.old) [] false) }
+            × LearnedOf IsEmpty (Fitted P.holds (view pass.old))) }
         ensures unpolled { OnErr result ((ticket.new ≡ ticket.old) × HasMade unchanged pass.new) }
     {
         let held = self.mutex.lock(rt, &mut pass.lock);
@@ -388,11 +389,11 @@ impl<T: Drop, V, P: Protocol<T, V>> RuledChannel<T, V, P> {
                 Ok(Poll::Ready(None))
             }
             Ok(Poll::Pending) => {
-                self.give_back::<Kept<P, Seen<P>>, R>(pass, held, bell);
+                self.give_back::<Kept<Seen<P>>, R>(pass, held, bell);
                 Ok(Poll::Pending)
             }
             Err(OutOfMemory) => {
-                self.give_back::<Kept<P, Seen<P>>, R>(pass, held, bell);
+                self.give_back::<Kept<Seen<P>>, R>(pass, held, bell);
                 Err(OutOfMemory)
             }
         }
@@ -441,7 +442,7 @@ impl<T: Drop, V, P: Protocol<T, V>> RuledChannel<T, V, P> {
         let held = self.mutex.lock(rt, &mut pass.lock);
         let core = pass.lock.value_mut(&self.mutex, &held);
         let polled = self.poll_closed(rt, core, ticket, waiter, cx);
-        self.give_back::<Kept<P, Unruled>, R>(pass, held, Ringer::new(rt));
+        self.give_back::<Kept<Unruled>, R>(pass, held, Ringer::new(rt));
         polled
     }
 
@@ -464,7 +465,7 @@ impl<T: Drop, V, P: Protocol<T, V>> RuledChannel<T, V, P> {
         let mut bell = Ringer::new(rt);
         let core = pass.lock.value_mut(&self.mutex, &held);
         core.cancel_send(ticket, &mut bell);
-        self.give_back::<Kept<P, Unruled>, R>(pass, held, bell);
+        self.give_back::<Kept<Unruled>, R>(pass, held, bell);
     }
 
     /// Who waits to receive waits no more; a notice that it had goes on to the next one.
@@ -486,7 +487,7 @@ impl<T: Drop, V, P: Protocol<T, V>> RuledChannel<T, V, P> {
         let mut bell = Ringer::new(rt);
         let core = pass.lock.value_mut(&self.mutex, &held);
         core.cancel_recv(ticket, &mut bell);
-        self.give_back::<Kept<P, Unruled>, R>(pass, held, bell);
+        self.give_back::<Kept<Unruled>, R>(pass, held, bell);
     }
 
     /// Who waits for the last receiver waits no more.
@@ -512,6 +513,6 @@ impl<T: Drop, V, P: Protocol<T, V>> RuledChannel<T, V, P> {
         let held = self.mutex.lock(rt, &mut pass.lock);
         let core = pass.lock.value_mut(&self.mutex, &held);
         core.cancel_closed(ticket);
-        self.give_back::<Kept<P, Unruled>, R>(pass, held, Ringer::new(rt));
+        self.give_back::<Kept<Unruled>, R>(pass, held, Ringer::new(rt));
     }
 }

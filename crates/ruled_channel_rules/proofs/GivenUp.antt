@@ -1,7 +1,8 @@
 -- What is left of a send that is given up.
-use Rattle.std.proofs.Common.{◌≡◌, Option, Some, None, Err, rules, inl}
+use Rattle.std.proofs.Common.{◌≡◌, Option, Some, None, Err, rules, refl, inl}
 use Rattle.ruled_channel.specs.declared.channel.RuledChannel.{RuledChannel}
 use Rattle.ruled_channel.specs.declared.pass.Pass.{Pass}
+use Rattle.ruled_channel.specs.State.{new_state}
 use Rattle.ruled_channel.specs.Sending.{AreBack}
 use Rattle.ruled_channel_rules.specs.declared.log.Log.{Log}
 use Rattle.ruled_channel_rules.specs.declared.handles.Channel.{Channel}
@@ -16,5 +17,5 @@ module _ {T P : Type 0} where
       → IsSenderOf channel (record { pass = pass }) × IsAsItWas s (record { pass = pass }) × (message ≡ m)
   send_back channel s m below None pass message may back = absurd (search rules)
   send_back channel s m below (Some h) pass message may back =
-      let came = may.1 (pass, Err (record { 0 = message })) (back.0, back.1, tt, (back.3, back.2, inl tt)) in
+      let came = may.1 (pass, Err (record { 0 = message })) (back.0, back.1, tt, (back.3, back.2, inl (new_state None, (refl, refl), tt))) in
       (came.0.0, (came.0.2.1, came.1), came.0.2.0)

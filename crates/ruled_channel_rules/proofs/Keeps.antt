@@ -8,6 +8,7 @@ use mathlib.Core.Option.{some, some-ne-none, some-injective}
 use lib.ListN.{get_elem?}
 use Rattle.atomic_table.proofs.Lists.{at_set, at_snoc}
 use Rattle.ruled_channel.proofs.Views.{Each as All, each_set as all_set}
+use Rattle.ruled_channel.specs.State.{State, new_state}
 use Rattle.ruled_channel.specs.Rule.{Sends, Receives, Closes, Ends, Forks, Merges, Learns}
 use Rattle.ruled_channel_rules.specs.declared.log.Log.{Log}
 use Rattle.ruled_channel_rules.specs.Merged.{IsMergeOf, HaveArrived, AllArrived}
@@ -131,8 +132,8 @@ module _ {T : Type 0} where
   at_first v u zero e = refl
   at_first v u (suc j) e = absurd (some-ne-none u (sym e))
 
-  pub begins : IsWhole {T = T} [] false (hub_log 0 0 ∷ [])
-  begins = (
+  pub begins : (capacity : Option ℕ) → IsWhole {T = T} (new_state capacity) (hub_log 0 0 ∷ [])
+  begins capacity = (
     0,
     [],
     refl,
@@ -143,21 +144,21 @@ module _ {T : Type 0} where
   )
 
   -- the rule after a step by which one view changes
-  pub sends : (fits : Option ℕ → Type 0) (pass : ℕ) (v : Log T) (m : T) (xs : List T) (others : List (List T)) → v.sent ≡ xs ∷ others → Sends fits IsWhole pass v m (λ u x w. w ≡ with_sent u x)
-  sends fits pass v m xs others is messages views room h at =
+  pub sends : (pass : ℕ) (v : Log T) (m : T) (xs : List T) (others : List (List T)) → v.sent ≡ xs ∷ others → Sends IsWhole pass v m (λ u x w. w ≡ with_sent u x)
+  sends pass v m xs others is state views place h at =
       let w = with_sent v m in
       let r = around sent views pass v at in
       let was : flat_map sent views ≡ r.0 ++ (xs ∷ (others ++ r.1)) = r.2 ∙ ap (λ (l : List (List T)). r.0 ++ (l ++ r.1)) is in
       let now : flat_map sent (set views pass w) ≡ r.0 ++ ((xs ++ m ∷ []) ∷ (others ++ r.1)) = r.3 w ∙ ap (λ (l : List (List T)). r.0 ++ (more l m ++ r.1)) is in
-      let grown = grows (h.1 ++ messages) r.0 xs (others ++ r.1) m (subst (IsMergeOf (h.1 ++ messages)) was h.2) in
+      let grown = grows (h.1 ++ state.messages) r.0 xs (others ++ r.1) m (subst (IsMergeOf (h.1 ++ state.messages)) was h.2) in
       let same : flat_map got (set views pass w) ≡ flat_map got views = same_flat got views pass v w at refl in
       let long : length (flat_map sent (set views pass w)) ≡ length (flat_map sent views) = ap (λ (l : List (List T)). length l) now ∙ as_long r.0 (others ++ r.1) _ xs ∙ sym (ap (λ (l : List (List T)). length l) was) in
-      let c = carry messages (messages ++ m ∷ []) false false h.0 _ (length (flat_map sent (set views pass w))) _ (length (flat_map got (set views pass w))) (λ e. no e.0) long (ap (λ (l : List (List T)). length l) same) in (
+      let c = carry state.messages (state.messages ++ m ∷ []) state.closed state.closed h.0 _ (length (flat_map sent (set views pass w))) _ (length (flat_map got (set views pass w))) (λ e. no (sym place.0 ∙ e.0)) long (ap (λ (l : List (List T)). length l) same) in (
         w,
         (
           h.0,
           h.1,
-          subst (λ (z : List T × List (List T)). IsMergeOf z.0 z.1) (λ i. (append_assoc h.1 messages (m ∷ []) i, sym now i)) grown,
+          subst (λ (z : List T × List (List T)). IsMergeOf z.0 z.1) (λ i. (append_assoc h.1 state.messages (m ∷ []) i, sym now i)) grown,
           subst (IsMergeOf h.1) (sym same) h.3,
           h.4 ∙ turns views pass v w false false at refl,
           all_set _ views pass w (c pass v (h.5 pass v at)) (λ j u other e. c j u (h.5 j u e)),
@@ -166,7 +167,7 @@ module _ {T : Type 0} where
       )
 
   pub receives : (pass : ℕ) (v : Log T) (xs : List T) (others : List (List T)) → v.got ≡ xs ∷ others → Receives IsWhole pass v (λ u x w. w ≡ with_got u x)
-  receives pass v xs others is m messages closed views h at =
+  receives pass v xs others is m rest state views front h at =
       let w = with_got v m in
       let r = around got views pass v at in
       let was : flat_map got views ≡ r.0 ++ (xs ∷ (others ++ r.1)) = r.2 ∙ ap (λ (l : List (List T)). r.0 ++ (l ++ r.1)) is in
@@ -174,12 +175,12 @@ module _ {T : Type 0} where
       let grown = grows h.1 r.0 xs (others ++ r.1) m (subst (IsMergeOf h.1) was h.3) in
       let same : flat_map sent (set views pass w) ≡ flat_map sent views = same_flat sent views pass v w at refl in
       let long : length (flat_map got (set views pass w)) ≡ length (flat_map got views) = ap (λ (l : List (List T)). length l) now ∙ as_long r.0 (others ++ r.1) _ xs ∙ sym (ap (λ (l : List (List T)). length l) was) in
-      let c = carry (m ∷ messages) messages closed closed h.0 _ (length (flat_map sent (set views pass w))) _ (length (flat_map got (set views pass w))) (λ e. absurd (cons-ne-nil m messages e.1)) (ap (λ (l : List (List T)). length l) same) long in (
+      let c = carry state.messages rest state.closed state.closed h.0 _ (length (flat_map sent (set views pass w))) _ (length (flat_map got (set views pass w))) (λ e. absurd (cons-ne-nil m rest (sym front ∙ e.1))) (ap (λ (l : List (List T)). length l) same) long in (
         w,
         (
           h.0,
           h.1 ++ m ∷ [],
-          subst (λ (z : List T × List (List T)). IsMergeOf z.0 z.1) (λ i. (sym (append_assoc h.1 (m ∷ []) messages) i, sym same i)) h.2,
+          subst (λ (z : List T × List (List T)). IsMergeOf z.0 z.1) (λ i. ((ap (λ l. h.1 ++ l) front ∙ sym (append_assoc h.1 (m ∷ []) rest)) i, sym same i)) h.2,
           subst (IsMergeOf (h.1 ++ m ∷ [])) (sym now) grown,
           h.4 ∙ turns views pass v w false false at refl,
           all_set _ views pass w (c pass v (h.5 pass v at)) (λ j u other e. c j u (h.5 j u e)),
@@ -188,38 +189,38 @@ module _ {T : Type 0} where
       )
 
   -- a view that changes in what it has found alone
-  turned : (messages : List T) (closed closed' : Bool) (views : List (Log T)) (pass : ℕ) (v w : Log T) → IsWhole messages closed views → get_elem? views pass ≡ some v
-      → w.sent ≡ v.sent → w.got ≡ v.got → closed' ≡ any (set views pass w) → ((closed ≡ true) × (messages ≡ []) → (closed' ≡ true) × (messages ≡ []))
-      → ((hub s g : ℕ) → Knows messages closed hub s g pass v → Knows messages closed' hub s g pass w) → IsWhole messages closed' (set views pass w)
-  turned messages closed closed' views pass v w h at es eg by k mine =
+  turned : (state : State T) (closed' : Bool) (views : List (Log T)) (pass : ℕ) (v w : Log T) → IsWhole state views → get_elem? views pass ≡ some v
+      → w.sent ≡ v.sent → w.got ≡ v.got → closed' ≡ any (set views pass w) → ((state.closed ≡ true) × (state.messages ≡ []) → (closed' ≡ true) × (state.messages ≡ []))
+      → ((hub s g : ℕ) → Knows state.messages state.closed hub s g pass v → Knows state.messages closed' hub s g pass w) → IsWhole (record state { closed = closed' }) (set views pass w)
+  turned state closed' views pass v w h at es eg by k mine =
       let ss = same_flat sent views pass v w at es in
       let sg = same_flat got views pass v w at eg in
       let ls : length (flat_map sent (set views pass w)) ≡ length (flat_map sent views) = ap (λ (l : List (List T)). length l) ss in
       let lg : length (flat_map got (set views pass w)) ≡ length (flat_map got views) = ap (λ (l : List (List T)). length l) sg in
-      let c = carry messages messages closed closed' h.0 _ _ _ _ k ls lg in (
+      let c = carry state.messages state.messages state.closed closed' h.0 _ _ _ _ k ls lg in (
         h.0,
         h.1,
-        subst (IsMergeOf (h.1 ++ messages)) (sym ss) h.2,
+        subst (IsMergeOf (h.1 ++ state.messages)) (sym ss) h.2,
         subst (IsMergeOf h.1) (sym sg) h.3,
         by,
-        all_set _ views pass w (subst (λ (n : ℕ × ℕ). Knows messages closed' h.0 n.0 n.1 pass w) (λ i. (sym ls i, sym lg i)) (mine h.0 _ _ (h.5 pass v at))) (λ j u other e. c j u (h.5 j u e)),
+        all_set _ views pass w (subst (λ (n : ℕ × ℕ). Knows state.messages closed' h.0 n.0 n.1 pass w) (λ i. (sym ls i, sym lg i)) (mine h.0 _ _ (h.5 pass v at))) (λ j u other e. c j u (h.5 j u e)),
       )
 
   pub closes : (pass : ℕ) (v : Log T) → Closes IsWhole pass v (λ u was w. (w ≡ with_closed u) × (u.closed ≡ true → was ≡ false) × (u.ended ≡ true → was ≡ false))
-  closes pass v messages closed views h at = (
+  closes pass v state views _ h at = (
     with_closed v,
-    turned messages closed true views pass v (with_closed v) h at refl refl (turns views pass v (with_closed v) true false at refl) (λ e. (refl, e.1)) (λ hub s g o. (o.0, λ p. (refl, (o.1 p).1))),
+    turned state true views pass v (with_closed v) h at refl refl (turns views pass v (with_closed v) true false at refl) (λ e. (refl, e.1)) (λ hub s g o. (o.0, λ p. (refl, (o.1 p).1))),
     (refl, (λ p. ap not (h.4 ∙ turns views pass v v false true at p)), λ p. ap not ((h.5 pass v at).1 p).0),
   )
 
   pub ends : (pass : ℕ) (v : Log T) → Ends IsWhole pass v (λ u w. w ≡ with_end u)
-  ends pass v views h at = (with_end v, turned [] true true views pass v (with_end v) h at refl refl (h.4 ∙ turns views pass v (with_end v) false false at refl) (λ e. e) (λ hub s g o. (o.0, λ _. (refl, refl))), refl)
+  ends pass v state views over h at = (with_end v, turned state state.closed views pass v (with_end v) h at refl refl (h.4 ∙ turns views pass v (with_end v) false false at refl) (λ e. e) (λ hub s g o. (o.0, λ _. over)), refl)
 
   -- who makes the passes makes one that has sent s and got g, which are empty
   parted : (pass : ℕ) (v : Log T) (n k : ℕ) (s g : List (List T)) → v.makes ≡ true → n ≡ v.senders + length s → k ≡ v.receivers + length g
       → ((zs : List T) (l : List (List T)) → IsMergeOf zs l → IsMergeOf zs (l ++ s)) → ((zs : List T) (l : List (List T)) → IsMergeOf zs l → IsMergeOf zs (l ++ g))
       → Forks IsWhole pass v (record v { senders = n; receivers = k }) (log false 0 0 false false s g)
-  parted pass v n k s g makes en ek js jg messages closed views h at =
+  parted pass v n k s g makes en ek js jg state views h at =
       let left : Log T = record v { senders = n; receivers = k } in
       let right : Log T = log false 0 0 false false s g in
       let vs : List (Log T) = set views pass left in
@@ -229,12 +230,12 @@ module _ {T : Type 0} where
       let lg : length (flat_map got (vs ++ right ∷ [])) ≡ length (flat_map got views) + length g = ap (λ (l : List (List T)). length l) fg ∙ length-append (flat_map got views) g in
       let mine = h.5 pass v at in
       let q = mine.0 makes in
-      let F : ℕ → Log T → Type 0 = Knows messages closed h.0 (length (flat_map sent (vs ++ right ∷ []))) (length (flat_map got (vs ++ right ∷ []))) in
+      let F : ℕ → Log T → Type 0 = Knows state.messages state.closed h.0 (length (flat_map sent (vs ++ right ∷ []))) (length (flat_map got (vs ++ right ∷ []))) in
       let old : All F vs = all_set F views pass left ((λ _. (q.0, en ∙ ap (λ x. x + length s) q.1 ∙ sym ls, ek ∙ ap (λ x. x + length g) q.2 ∙ sym lg)), mine.1)
       (λ j u other e. let theirs = h.5 j u e in ((λ p. absurd (other ((theirs.0 p).0 ∙ sym q.0))), theirs.1)) in (
         h.0,
         h.1,
-        subst (IsMergeOf (h.1 ++ messages)) (sym fs) (js (h.1 ++ messages) (flat_map sent views) h.2),
+        subst (IsMergeOf (h.1 ++ state.messages)) (sym fs) (js (h.1 ++ state.messages) (flat_map sent views) h.2),
         subst (IsMergeOf h.1) (sym fg) (jg h.1 (flat_map got views) h.3),
         h.4 ∙ turns views pass v left false false at refl ∙ sym (list_any-append has_closed vs (right ∷ []) ∙ or_none (any vs)),
         λ j u e. ⊎_elim (λ x. old j u x) (λ (is : right ≡ u). ((λ p. no (ap (λ (y : Log T). y.makes) is ∙ p)), λ p. no (ap (λ (y : Log T). y.ended) is ∙ p))) (at_snoc vs right u j e),
@@ -250,21 +251,21 @@ module _ {T : Type 0} where
   makes_receiver pass v makes = parted pass v v.senders (v.receivers + 1) [] ([] ∷ []) makes (omega arith) refl stays joins
 
   pub takes_back : (pass : ℕ) (v : Log T) (other : ℕ) (w : Log T) → Merges IsWhole pass v other w (together v w) spent_log
-  takes_back pass v other w messages closed views h at apart at' =
+  takes_back pass v other w state views h at apart at' =
       let both = together v w in
       let was : get_elem? views other ≡ some w = ⊎_elim (λ x. absurd (apart x.0)) (λ x. x.1) (at_set views pass other both w at') in
       let new : List (Log T) = set (set views pass both) other spent_log in
       let ls = hands_over sent (λ l. length l ≡ length (flat_map sent views)) (length_trade _) views pass other v w both spent_log apart at was refl refl refl in
       let lg = hands_over got (λ l. length l ≡ length (flat_map got views)) (length_trade _) views pass other v w both spent_log apart at was refl refl refl in
-      let c = carry messages messages closed closed h.0 _ (length (flat_map sent new)) _ (length (flat_map got new)) (λ e. e) ls lg in
+      let c = carry state.messages state.messages state.closed state.closed h.0 _ (length (flat_map sent new)) _ (length (flat_map got new)) (λ e. e) ls lg in
       let mine = h.5 pass v at in
       let theirs = h.5 other w was in
       let left : List (Log T) = set views other spent_log in
       let back = turns left pass v both w.closed false (at_other views other pass spent_log v (λ e. apart (sym e)) at) (or_comm w.closed v.closed) in
-      let F : ℕ → Log T → Type 0 = Knows messages closed h.0 (length (flat_map sent new)) (length (flat_map got new)) in (
+      let F : ℕ → Log T → Type 0 = Knows state.messages state.closed h.0 (length (flat_map sent new)) (length (flat_map got new)) in (
         h.0,
         h.1,
-        hands_over sent (IsMergeOf (h.1 ++ messages)) (trades (h.1 ++ messages)) views pass other v w both spent_log apart at was refl refl h.2,
+        hands_over sent (IsMergeOf (h.1 ++ state.messages)) (trades (h.1 ++ state.messages)) views pass other v w both spent_log apart at was refl refl h.2,
         hands_over got (IsMergeOf h.1) (trades h.1) views pass other v w both spent_log apart at was refl refl h.3,
         h.4 ∙ turns views other w spent_log false w.closed was (sym (or_none w.closed)) ∙ back ∙ ap any (sym (set_other views pass other both spent_log apart)),
         all_set F (set views pass both) other spent_log ((λ p. no p), λ p. no p)
@@ -273,11 +274,11 @@ module _ {T : Type 0} where
 
   -- who made the others, and has them back, knows what arrived, and all if the end was found
   pub settles : (pass : ℕ) (v : Log T) → v.makes ≡ true → length v.sent ≡ v.senders → length v.got ≡ v.receivers
-      → Learns IsWhole pass v (λ messages closed. HaveArrived v.sent v.got messages × (v.ended ≡ true → AllArrived v.sent v.got))
-  settles pass v makes all_sent all_got messages closed views h at =
+      → Learns IsWhole pass v (λ state. HaveArrived v.sent v.got state.messages × (v.ended ≡ true → AllArrived v.sent v.got))
+  settles pass v makes all_sent all_got state views h at =
       let mine = h.5 pass v at in
       let q = mine.0 makes in
-      let sents = subst (IsMergeOf (h.1 ++ messages)) (has_all sent views pass v at (all_sent ∙ q.1)) h.2 in
+      let sents = subst (IsMergeOf (h.1 ++ state.messages)) (has_all sent views pass v at (all_sent ∙ q.1)) h.2 in
       let gots = subst (IsMergeOf h.1) (has_all got views pass v at (all_got ∙ q.2)) h.3 in (
         (h.1, sents, gots),
         λ ended. (h.1, subst (λ (l : List T). IsMergeOf l v.sent) (ap (λ l. h.1 ++ l) (mine.1 ended).1 ∙ append-nil h.1) sents, gots),

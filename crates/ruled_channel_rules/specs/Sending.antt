@@ -57,12 +57,12 @@ module _ {T : Type 0} where
     abbrev pub Gives : RuledChannel T (Log T) P → Option (Pass T (Log T) × T)
         → Pass T (Log T) × Result (Result (Unit {0}) (SendError T)) (NoMemory T)
         → Type 0
-    Gives = GivesSent (λ _. Unit {0}) (λ v m w. w ≡ with_sent v m) (λ _ _ _. Unit {0})
+    Gives = GivesSent (λ v m w. w ≡ with_sent v m) (λ _ _. Unit {0})
 
     -- The send below may be polled, and whatever it gives is a send of this message by this sender.
     abbrev pub MaySend : Channel T → Sender T → T → RuledChannel T (Log T) P
         → Option (Pass T (Log T) × T) → Type 0
     MaySend channel s m below parts =
-        MayPoll (λ _. Unit {0}) IsWhole (λ v m w. w ≡ with_sent v m) (λ _ _ _. Unit {0}) below parts
+        MayPoll IsWhole (λ v m w. w ≡ with_sent v m) (λ _ _. Unit {0}) below parts
         × ((x : Pass T (Log T) × Result (Result (Unit {0}) (SendError T)) (NoMemory T))
         → Gives below parts x → Comes channel s m (record { pass = x.0 }, x.1))

@@ -5,6 +5,7 @@ use Rattle.std.specs.Prelude.{◌≡◌, ℕ, ◌+◌, Bool, ◌||◌, true, fal
 use Rattle.std.specs.List.{flat_map, list_any}
 use mathlib.Core.Option.{some}
 use lib.ListN.{get_elem?}
+use Rattle.ruled_channel.specs.State.{State}
 use Rattle.ruled_channel_rules.specs.declared.log.Log.{Log}
 use Rattle.ruled_channel_rules.specs.Merged.{IsMergeOf}
 
@@ -35,13 +36,14 @@ module _ {T : Type 0} where
       (v.makes ≡ true → (pass ≡ hub) × (v.senders ≡ senders) × (v.receivers ≡ receivers))
       × (v.ended ≡ true → (closed ≡ true) × (messages ≡ []))
 
-  abbrev pub IsWhole : List T → Bool → List (Log T) → Type 0
-  IsWhole messages closed views =
+  abbrev pub IsWhole : State T → List (Log T) → Type 0
+  IsWhole state views =
       (hub : ℕ) × (taken : List T)
-      × IsMergeOf (taken ++ messages) (flat_map sent views) × IsMergeOf taken (flat_map got views)
-      × (closed ≡ list_any has_closed views)
+      × IsMergeOf (taken ++ state.messages) (flat_map sent views)
+      × IsMergeOf taken (flat_map got views)
+      × (state.closed ≡ list_any has_closed views)
       × ((pass : ℕ) (v : Log T) → get_elem? views pass ≡ some v
-      → Knows messages closed hub (length (flat_map sent views))
+      → Knows state.messages state.closed hub (length (flat_map sent views))
       (length (flat_map got views)) pass v)
 
   -- what a step makes of a view

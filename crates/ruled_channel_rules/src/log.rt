@@ -44,12 +44,12 @@ impl<T> AtEnd<Log<T>> for Whole {
 }
 
 impl<T> Closed<Log<T>> for Whole {
-    ghost then = { λ v was_open w. (w ≡ with_closed v)
-        × (v.closed ≡ true → was_open ≡ false) × (v.ended ≡ true → was_open ≡ false) };
+    ghost then = { λ v has_closed w. (w ≡ with_closed v)
+        × (v.closed ≡ true → has_closed ≡ false) × (v.ended ≡ true → has_closed ≡ false) };
 }
 
 impl<T> Lesson<T, Log<T>> for Whole {
-    ghost fact = { λ v messages closed. HaveArrived v.sent v.got messages
+    ghost fact = { λ v state. HaveArrived v.sent v.got state.messages
         × (v.ended ≡ true → AllArrived v.sent v.got) };
 }
 

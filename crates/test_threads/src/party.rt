@@ -85,7 +85,8 @@ impl<'c> Party<'c> {
     /// Whether one more sender and one more receiver are counted.
     pub fn add<R: Wait>(&mut self, rt: &R) -> bool {
         let (channel, pass) = (self.channel, &mut self.pass);
-        channel.add_sender(rt, pass) && channel.add_receiver(rt, pass)
+        channel.add_sender_as::<Unruled, R>(rt, pass)
+            && channel.add_receiver_as::<Unruled, R>(rt, pass)
     }
 
     /// Gives up a sender and a receiver. Whether one of them was the last one.

@@ -1,10 +1,10 @@
-use Rattle.std.proofs.Common.{◌∙◌}
+use Rattle.std.proofs.Common.{ap, ◌∙◌}
 use Rattle.ruled_mutex.specs.Passes.{found}
-use Rattle.ruled_channel.proofs.Answered.{alike_closeds}
+use Rattle.ruled_channel.specs.State.{state_of}
 use Rattle.ruled_channel.proofs.Steps.{keeps}
 use Rattle.ruled_channel.proofs.channel.RuledChannel.closed_or_wait.Goals as goal
 
 pub give_back-requires-clause-rule : goal.give_back-requires-clause-rule
 give_back-requires-clause-rule g c = let same = c.lock-held.ensures.same in let shows = c.value_mut-core.ensures.value ∙ c.lock-held.ensures.held.1 in
-    keeps c.value_mut-core.result.now c.poll_closed-polled.new.core g.P.Protocol.fits g.P.Protocol.holds (found c.lock-held.result) (λ _ _ _. Unit {0}) _ _ _ _ same.0.1 same.1 shows
-    (alike_closeds _ _ _ c.poll_closed-polled.ensures.kept) (λ _ _ _ _ _. tt)
+    keeps c.value_mut-core.result.now c.poll_closed-polled.new.core (found c.lock-held.result) g.P.Protocol.holds _ _ _ _ same.0.1 same.1 shows (λ _ _. Unit {0})
+    (ap state_of c.poll_closed-polled.ensures.kept) (λ _ _ _ _. tt)

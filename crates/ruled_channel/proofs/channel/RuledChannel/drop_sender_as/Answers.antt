@@ -1,20 +1,23 @@
-use Rattle.std.proofs.Common.{◌∙◌}
+use Rattle.std.proofs.Common.{refl, ap, ◌∙◌}
+use Rattle.std.specs.Prelude.{◌==◌}
 use Rattle.ruled_mutex.specs.Passes.{found}
-use Rattle.ruled_channel.proofs.Dropped.{sender_keeps}
-use Rattle.ruled_channel.proofs.Steps.{keeps}
+use Rattle.ruled_channel.specs.State.{State, sender_less}
+use Rattle.ruled_channel.proofs.Dropped.{sender_gone, told_closed}
+use Rattle.ruled_channel.proofs.Steps.{shuts}
 use Rattle.ruled_channel.proofs.Made.{has_made}
 use Rattle.channel_core.specs.Channel.{sender_dropped}
 use Rattle.ruled_channel.proofs.channel.RuledChannel.drop_sender_as.Goals as goal
 
-pub give_back-requires-else-has_closed-clause-rule : goal.give_back-requires-else-has_closed-clause-rule
-give_back-requires-else-has_closed-clause-rule g c = let same = c.lock-held.ensures.same in let shows = c.value_mut-core.ensures.value ∙ c.lock-held.ensures.held.1 in
-    keeps c.value_mut-core.result.now c.drop_sender-has_closed.new.self g.P.Protocol.fits g.P.Protocol.holds (found c.lock-held.result) (λ _ _ _. Unit {0}) _ _ _ _ same.0.1 same.1 shows
-    (sender_keeps _ _ c.if-has_closed.ensures.reply c.if-has_closed.ensures.after) (λ _ _ _ _ _. tt)
+pub give_back-requires-clause-rule : goal.give_back-requires-clause-rule
+give_back-requires-clause-rule g c = let same = c.lock-held.ensures.same in let shows = c.value_mut-core.ensures.value ∙ c.lock-held.ensures.held.1 in
+    shuts c.value_mut-core.result.now c.drop_sender-has_closed.new.self (found c.lock-held.result) g.P.Protocol.holds _ _ _ _ same.0.1 same.1 shows
+    sender_less g.M.Closed.then (sender_gone _ _ c.drop_sender-has_closed.ensures.after) refl c.requires.rule
 
-pub returns-then-has_closed-clause-step : goal.returns-then-has_closed-clause-step
-returns-then-has_closed-clause-step g c = let shows = c.value_mut-core.ensures.value ∙ c.lock-held.ensures.held.1 in let here = c.if-has_closed.ensures in let told = c.give_back.ensures in
+pub returns-clause-step : goal.returns-clause-step
+returns-clause-step g c = let shows = c.value_mut-core.ensures.value ∙ c.lock-held.ensures.held.1 in let here = c.drop_sender-has_closed.ensures in let told = c.give_back.ensures in
     has_made c.give_back.new.pass c.value_mut-core.result.now c.drop_sender-has_closed.new.self _ _ _ shows c.new-bell.ensures told.found told.made told.woken sender_dropped here.after here.rung
 
-pub returns-else-has_closed-clause-step : goal.returns-else-has_closed-clause-step
-returns-else-has_closed-clause-step g c = let shows = c.value_mut-core.ensures.value ∙ c.lock-held.ensures.held.1 in let here = c.if-has_closed.ensures in let told = c.give_back-else-has_closed.ensures in
-    has_made c.give_back-else-has_closed.new.pass c.value_mut-core.result.now c.drop_sender-has_closed.new.self _ _ _ shows c.new-bell.ensures told.found told.made told.woken sender_dropped here.after here.rung
+pub returns-clause-closed : goal.returns-clause-closed
+returns-clause-closed g c = let shows = c.value_mut-core.ensures.value ∙ c.lock-held.ensures.held.1 in let here = c.drop_sender-has_closed.ensures in
+    told_closed c.value_mut-core.result.now c.drop_sender-has_closed.new.self (found c.lock-held.result) g.M.Closed.then _ _ _ (c.value_mut-core.result.now.senders == 1) _
+    c.lock-held.ensures.same.1 shows (ap (λ (s : State _). s.closed) (sender_gone c.value_mut-core.result.now c.drop_sender-has_closed.new.self here.after)) here.reply c.give_back.ensures.rule
