@@ -25,4 +25,4 @@ pub may_poll_again : {T V P : Type 0} (holds : State T → List V → Type 0) (t
     (held : Option (Pass T V)) (p q : Pass T V) → held ≡ Some p → IsPassOf channel q → IsSamePass p q → view q ≡ view p
     → MayPoll holds then at_end channel held → MayPoll holds then at_end channel (Some q)
 may_poll_again holds then at_end channel held p q is own same seen may = let old = subst (MayPoll holds then at_end channel) is may in
-    (refl, own, receives_same holds _ _ _ _ same.1 seen then old.1.1, ends_same holds _ _ _ _ same.1 seen at_end old.1.2)
+    (refl, (own, receives_same holds _ _ _ _ same.1 seen then old.1.1, ends_same holds _ _ _ _ same.1 seen at_end old.1.2))
