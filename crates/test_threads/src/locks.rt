@@ -126,8 +126,8 @@ const BARGING: usize = 3;
 
 // Takes the lock whenever it is free, until the other thread has had it as often as it is to.
 fn barge<R: Wait>(rt: &R, mutex: &Mutex) -> u64 {
-    let mut pass = mutex.pass();
     for _ in rt.forever() {
+        let mut pass = mutex.pass();
         if let Some(held) = mutex.try_lock(&mut pass) {
             let count = *pass.value_mut(mutex, &held);
             mutex.unlock_as::<Unruled>(&mut pass, held);
@@ -141,8 +141,8 @@ fn barge<R: Wait>(rt: &R, mutex: &Mutex) -> u64 {
 
 // Locks so often, and sleeps in between.
 fn sleep_and_lock<R: Wait>(rt: &R, mutex: &Mutex) {
-    let mut pass = mutex.pass();
     for _ in 0..LOCKED {
+        let mut pass = mutex.pass();
         mutex.with_as::<Unruled, _, _, _>(rt, &mut pass, |value| *value = value.wrapping_add(1));
     }
 }
