@@ -1,5 +1,5 @@
 //! Many messages in one step under the lock, by the rule that asks nothing.
-ghost use Rattle.std.specs.Prelude.{◌≡◌, ◌⊎◌, ◌+◌, ◌++◌, ◌<◌, ◌≤◌, ◌∷◌, [], drop, length, take, slice_get, None, IfOk, IsSome, OnOk, OnErr};
+ghost use Rattle.std.specs.Prelude.{◌≡◌, ◌⊎◌, ◌+◌, ◌++◌, ◌<◌, ◌≤◌, ◌∷◌, [], drop, length, take, slice_get, None, Ok, IfOk, IsSome, OnOk, OnErr};
 ghost use Rattle.std.specs.Vec.{vec_len, vec_capacity};
 ghost use Rattle.std.specs.VecDeque.{deque_len, deque_capacity};
 ghost use Rattle.futures.specs.declared.task.Poll.TheVariants.{Pending};
@@ -180,6 +180,8 @@ fn send_round<T: Drop, R: Wait>(
     ensures held { core.new.messages
         ≡ core.old.messages ++ take (moved_count result) from.old.items }
     ensures stops { moved_count result < limit → CanSendNoMore from.new.items core.new }
+    ensures wanted { OnErr result (GrowsWithMessages core.old) }
+    ensures none { result ≡ Ok (Ok 0) → (limit ≡ 0) ⊎ (from.old.items ≡ []) }
 {
     core.try_send_many(from, limit, bell)
 }
@@ -273,6 +275,8 @@ impl<T: Drop> RuledChannel<T, (), Unruled> {
             (try_send_answer (found pass.new).closed (is_channel_full (found pass.new)) tt)) }
         ensures step { HasMade (sent_many (take (moved_count result) from.old.items)) pass.new }
         ensures stops { moved_count result < limit → CanSendNoMore from.new.items (made pass.new) }
+        ensures wanted { OnErr result (GrowsWithMessages (found pass.new)) }
+        ensures none { result ≡ Ok (Ok 0) → (limit ≡ 0) ⊎ (from.old.items ≡ []) }
     {
         let held = self.mutex.lock(rt, &mut pass.lock);
         let mut bell = Ringer::new(rt);
@@ -314,6 +318,8 @@ impl<T: Drop> RuledChannel<T, (), Unruled> {
         ensures taken { into.new.items
             ≡ into.old.items ++ take (moved_count result) (found pass.new).messages }
         ensures step { HasMade (received_many (moved_count result)) pass.new }
+        ensures wanted { OnErr result (vec_capacity into.old
+            < vec_len into.old + taken_count limit (found pass.new)) }
     {
         let held = self.mutex.lock(rt, &mut pass.lock);
         let mut bell = Ringer::new(rt);

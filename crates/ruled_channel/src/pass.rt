@@ -90,7 +90,7 @@ impl<T: Drop, V, P: Protocol<T, V>> RuledChannel<T, V, P> {
         let made = Snapshot::of(pass.lock.value_mut(&self.mutex, &held));
         let found = Snapshot::of(&held);
         self.mutex.unlock_as::<O>(&mut pass.lock, held);
-        let woken = bell.wake_after(&self.mutex);
+        let woken = bell.wake_after(self, pass);
         let step = Step {
             held: found,
             made,

@@ -4,9 +4,13 @@
 //! without an allocation, until the lock is free, so that who is woken doesn't run into it; further
 //! marks are woken under the lock.
 ghost use Rattle.std.specs.Prelude.{◌≡◌, []};
+ghost use Rattle.ruled_channel.specs.Passes.{IsPassOf};
 ghost use Rattle.ruled_channel.specs.Rung.{in_turn_of_waking};
 
+use crate::channel::RuledChannel;
 use crate::mark::{Mark, Woken};
+use crate::pass::Pass;
+use crate::protocol::Protocol;
 use channel_core::Bell;
 use std::marker::Model;
 use std::sync::Wait;
@@ -57,7 +61,12 @@ impl<'a, R: Wait> Ringer<'a, R> {
     /// Wakes the first one, once the lock was given back. The answer is who was woken in all, the
     /// first one last.
     #[inline(always)]
-    pub(crate) fn wake_after<L>(self, _lock: &L) -> Woken
+    pub(crate) fn wake_after<T: Drop, V, P: Protocol<T, V>>(
+        self,
+        _channel: &RuledChannel<T, V, P>,
+        _pass: &Pass<T, V>,
+    ) -> Woken
+        requires free { IsPassOf _channel.now _pass.now }
         ensures { result ≡ in_turn_of_waking self.entry }
     {
         let Self {
