@@ -223,23 +223,32 @@ fn many_clerks_and_many_calls(rt: HostRuntime) -> Result<(), Fail> {
 /// How often a thread looks for the other one's message.
 const TRADING_TURNS: u32 = 100_000;
 
-/// Sends its own number until it takes the other one. It answers whether it did.
-fn trades(rt: &impl Wait, recorder: &Recorder<u64>, clerk: &mut Clerk<u64>, own: u64) -> bool {
-    let mut is_in = false;
+/// Takes messages until the other thread's number comes, and sends its own again whenever it took
+/// that. It answers whether the other one came.
+fn takes(rt: &impl Wait, recorder: &Recorder<u64>, clerk: &mut Clerk<u64>, own: u64) -> bool {
+    let mut is_taken = false;
     for _ in 0..TRADING_TURNS {
         if !recorder.owns(clerk) {
             return false;
         }
-        let call = if is_in { TryRecv } else { TrySend(own) };
+        let call = if is_taken { TrySend(own) } else { TryRecv };
         match recorder.call(rt, clerk, call) {
             Ok(Received(Ok(number))) if number != own => return true,
-            Ok(Received(Ok(_))) => is_in = false,
-            Ok(_) => is_in = true,
+            Ok(Received(Ok(_))) => is_taken = true,
+            Ok(_) => is_taken = false,
             Err(_) => return false,
         }
         thread::yield_now();
     }
     false
+}
+
+/// Whether a thread sends its own number.
+fn sends(rt: &impl Wait, recorder: &Recorder<u64>, clerk: &mut Clerk<u64>, own: u64) -> bool {
+    if !recorder.owns(clerk) {
+        return false;
+    }
+    matches!(&recorder.call(rt, clerk, TrySend(own)), Ok(TrySent(Ok(()))))
 }
 
 /// Says that it is there, and answers whether the other thread is.
@@ -248,7 +257,8 @@ fn meets(mine: &AtomicBool, theirs: &AtomicBool) -> bool {
     is_set(theirs)
 }
 
-/// Whether each of two clerks takes the other one's number, at once on two threads.
+/// Whether each of two clerks takes the other one's number, at once on two threads. One sends first:
+/// if both did, and took turns, each would take its own again and again.
 fn both_trade<R: Wait + Threads + Sync>(
     rt: &R,
     recorder: &Recorder<u64>,
@@ -259,8 +269,10 @@ fn both_trade<R: Wait + Threads + Sync>(
     let second = AtomicBool::new(false);
     let (one, other) = join(
         rt,
-        || meets(&first, &second) && trades(rt, recorder, one, 1),
-        || meets(&second, &first) && trades(rt, recorder, other, 2),
+        || { meets(&first, &second) && sends(rt, recorder, one, 1) && takes(rt, recorder, one, 1) },
+        || {
+            meets(&second, &first) && takes(rt, recorder, other, 2) && sends(rt, recorder, other, 2)
+        },
     );
     one && other
 }

@@ -8,11 +8,12 @@ use std::thread::{Threads, join};
 /// wait no more: if others have the processors, a test isn't to take long.
 const PATIENCE: u64 = 6_000;
 
-/// How many moments a turn takes that is given to others.
+/// How many moments a turn takes that is given to others, or all those of one meeting.
 const TURN: u64 = 20;
 
-/// How often a thread looks whether the other one is there, before it gives it a turn.
-const LOOKS: u32 = 50_000;
+/// How often a thread looks whether the other one is there, before it gives it turns. It can look so
+/// often before others have the processor.
+const LOOKS: u32 = 10_000;
 
 /// How often a thread looks for what the other one does, before it gives it a turn.
 const DEED_LOOKS: u32 = 1_000;
@@ -47,8 +48,10 @@ impl Meeting {
             if is_there || self.waited.load(Ordering::SeqCst) > PATIENCE {
                 return;
             }
-            if look > LOOKS {
+            if look == LOOKS {
                 self.give_turn();
+            } else if look > LOOKS {
+                thread::yield_now();
             }
         }
     }

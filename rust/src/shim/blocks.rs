@@ -69,8 +69,9 @@ impl<T> Later<T> {
                 self.move_newest();
             }
         }
-        if is_sparse(self.blocks.len(), self.blocks.capacity()) {
-            self.blocks.shrink_to(2 * self.blocks.len());
+        // An eighth at a time: to give much of a long list back at once takes long.
+        if is_sparse(2 * self.blocks.len(), self.blocks.capacity()) {
+            self.blocks.shrink_to(7 * self.blocks.len());
         }
     }
     /// Moves the newest that hasn't moved into the spare one, and keeps its own for that.
