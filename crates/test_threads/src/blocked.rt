@@ -295,16 +295,17 @@ fn a_blocked_send_sleeps_until_it_is_told(rt: HostRuntime) -> Result<(), Fail> {
 /// others wait.
 const BATCHES: u32 = 20;
 
-/// Blocks a thread in a batch of receives, and sends it two messages with two sends behind them. It
-/// answers whether both of these are woken, if both had to wait.
+/// Blocks a thread in a batch of receives until it sleeps, and sends it two messages with two sends
+/// behind them. It answers whether both of these are woken, if both had to wait.
 fn batch_wakes_both<R>(rt: &R) -> Result<Option<bool>, Fail>
 where
-    R: Threads + Wait + Clone + Drop + RandomSource + AllocGlobal + Abort,
+    R: Threads + Wait + Clone + Drop + RandomSource + AllocGlobal + Abort + Clock,
     R: std::marker::Send + Sync + 'static,
 {
     let (s, r) = channel(rt, Some(2))?;
     let weak = s.downgrade()?;
     let thread = blocked(rt, Call::RecvMany, &s, &r, &weak, 1)?;
+    give_time(rt);
     let (task, other) = (MockTask::new(rt)?, MockTask::new(rt)?);
     let (mut first, mut second) = (s.send(3), s.send(4));
     let mut from = numbers_from(rt.alloc(), 1, 2)?;
