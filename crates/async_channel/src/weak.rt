@@ -6,6 +6,7 @@ use crate::handles::{Receiver, Sender};
 use crate::link::Link;
 use crate::tag::Tag;
 use channel_core::{CloneError, OutOfMemory, Upgrade};
+use ruled_channel::Unruled;
 use std::fmt;
 use std::marker::Model;
 use std::sync::Wait;
