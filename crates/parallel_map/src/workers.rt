@@ -8,7 +8,7 @@
 //! back before it sends the next. At last it joins every worker that was started, whatever was
 //! refused meanwhile. Both channels are under the rule that what is received is what is sent. So
 //! once all ends are back the caller has had the chunks of all answers, each once.
-ghost use Rattle.std.specs.Prelude.{◌≡◌, ◌+◌, ◌^◌, ◌<◌, ◌≤◌, ◌⊎◌, [], All, length, take, drop, map, vec_len, true, false, IsTrue, IfOk, IfErr, IsSome, OnOk, OnErr, Err};
+ghost use Rattle.std.specs.Prelude.{◌≡◌, ◌+◌, ◌^◌, ◌<◌, ◌≤◌, ◌⊎◌, [], ◌∷◌, ◌++◌, All, length, take, drop, map, vec_len, true, false, IsTrue, IfOk, IfErr, IfSome, IsSome, OnOk, OnErr, Err};
 ghost use Rattle.std.specs.Vec.{vec_capacity};
 ghost use Rattle.ruled_channel_rules.specs.Handles.{IsSenderOf, IsReceiverOf, sent_by, got_by, has_ended, sender_closed, receiver_closed, known};
 ghost use Rattle.ruled_channel_rules.specs.Whole.{hub_log, together, sender_log, receiver_log};
@@ -239,6 +239,8 @@ fn take_chunk<A, B: Drop, J, G, R: Wait>(
 ) -> Result<bool, OutOfMemory>
     requires own { IsCollectorOf task.now.chunks collector.old }
     ensures own { OnOk result (IsCollectorOf task.now.chunks collector.new) }
+    ensures came { IfOk result (λ came. came ≡ true → length (got_by collector.new.receiver)
+        ≡ length (got_by collector.old.receiver) + 1) }
     ensures ended { IfOk result (λ came.
         came ≡ false → has_ended collector.new.receiver ≡ true) }
 {
@@ -269,6 +271,39 @@ fn take_chunks<A, B: Drop, J, G, R: Wait>(
     true
 }
 
+// Sends the first place of one more chunk. If as many chunks are out as may be, it takes one back
+// before. It answers how many are out then, or none if a channel was closed or memory was refused.
+fn send_place<A, B: Drop, J, G, R: Wait>(
+    rt: &R,
+    task: &Task<'_, A, B, J, G>,
+    feeder: &mut Sender<usize>,
+    collector: &mut Collector<B>,
+    from: usize,
+    before: usize,
+) -> Option<usize>
+    requires own { IsSenderOf task.now.places feeder.old
+        × IsCollectorOf task.now.chunks collector.old }
+    requires most { (0 < task.now.most_out) × (before ≤ task.now.most_out) }
+    ensures own { IsSenderOf task.now.places feeder.new }
+    ensures collector { IsSome result → IsCollectorOf task.now.chunks collector.new }
+    ensures sent { IsSome result → sent_by feeder.new ≡ sent_by feeder.old ++ from ∷ [] }
+    ensures most { IfSome result (λ out. out ≤ task.now.most_out) }
+    ensures out { IfSome result (λ out. out + length (got_by collector.new.receiver)
+        ≡ before + 1 + length (got_by collector.old.receiver)) }
+{
+    let mut out = before;
+    if out == task.most_out {
+        let Ok(true) = take_chunk(rt, task, collector) else {
+            return None;
+        };
+        out -= 1;
+    }
+    let Ok(Ok(())) = feeder.send_blocking(rt, &task.places, from) else {
+        return None;
+    };
+    Some(out + 1)
+}
+
 // Sends the first place of each chunk, and takes chunks back while too many are out. It answers
 // how many are out still, or none if a channel was closed or memory was refused.
 fn send_places<A, B: Drop, J, G, R: Wait>(
@@ -285,20 +320,14 @@ fn send_places<A, B: Drop, J, G, R: Wait>(
     ensures collector { IsSome result → IsCollectorOf task.now.chunks collector.new }
     ensures all { IsSome result
         → AreStartsOf (length task.now.inputs.now) task.now.size (sent_by feeder.new) }
+    ensures most { IfSome result (λ out. out ≤ task.now.most_out) }
+    ensures out { IfSome result (λ out. out + length (got_by collector.new.receiver)
+        ≡ length (sent_by feeder.new) + length (got_by collector.old.receiver)) }
 {
     let mut from = 0;
     let mut out = 0;
     while from < task.inputs.len() {
-        if out == task.most_out {
-            let Ok(true) = take_chunk(rt, task, collector) else {
-                return None;
-            };
-            out -= 1;
-        }
-        let Ok(Ok(())) = feeder.send_blocking(rt, &task.places, from) else {
-            return None;
-        };
-        out += 1;
+        out = send_place(rt, task, feeder, collector, from, out)?;
         from += task.size.min(task.inputs.len() - from);
     }
     Some(out)
