@@ -14,9 +14,9 @@ loop-from-preserved g c =
     let within = i.within in
     let sent : sent_by c.send_place.new.feeder ≡ sent_by c.loop-from.feeder ++ from ∷ [] = search rules in
     let more : length (sent_by c.send_place.new.feeder) ≡ length (sent_by c.loop-from.feeder) + 1 =
-        ap length sent ∙ length_push (sent_by c.loop-from.feeder) from in
+    ap length sent ∙ length_push (sent_by c.loop-from.feeder) from in
     let moved : c.in_ok-out.out + length (got_by c.send_place.new.collector.receiver)
-        ≡ c.loop-from.out + 1 + length (got_by c.loop-from.collector.receiver) = search rules in
+    ≡ c.loop-from.out + 1 + length (got_by c.loop-from.collector.receiver) = search rules in
     let before = i.out in
     let step : c.min-from.result ≡ min size (count - from) = search rules in record {
       own = (c.send_place.ensures.own, search rules);
