@@ -6,8 +6,8 @@ text with the change, or None if it has no place there. The libraries are those 
 `rt check` built.
 
 Stored answers cite the text of their function. A change that they don't fit is tried again without
-them. If all goals that aren't proved then are those that had an answer, `breaks_a_proof` is set: the
-prover may have found none for a change that keeps to the contract, either.
+them. If all goals that aren't proved then are those that had an answer, `breaks_a_proof` is set:
+the prover may have found none for a change that keeps to the contract, either.
 """
 import importlib.machinery
 import importlib.util
