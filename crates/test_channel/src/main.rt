@@ -14,6 +14,7 @@ mod draw;
 mod handles;
 mod judge;
 mod line;
+mod lists;
 mod many;
 mod maps;
 mod operation;

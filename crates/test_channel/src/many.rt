@@ -27,7 +27,7 @@ fn channel<R: Wait + Clone + Drop + AllocGlobal>(
 }
 
 /// Numbers that rise from 0.
-fn rising(alloc: Global, count: usize) -> Result<VecDeque<u64, Global>> {
+pub fn rising(alloc: Global, count: usize) -> Result<VecDeque<u64, Global>> {
     let mut numbers = VecDeque::with_capacity(alloc, count)?;
     for number in 0..count as u64 {
         numbers.push_back(number)?;
@@ -36,7 +36,7 @@ fn rising(alloc: Global, count: usize) -> Result<VecDeque<u64, Global>> {
 }
 
 /// Sees that so many messages came, in order.
-fn see_all(came: &[u64], count: usize) -> Result<()> {
+pub fn see_all(came: &[u64], count: usize) -> Result<()> {
     for (place, number) in came.iter().enumerate() {
         if *number != place as u64 {
             return Err(anyhow!("{number} came at place {place}"));

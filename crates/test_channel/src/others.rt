@@ -1,6 +1,6 @@
 //! Rows that no script has. A call that is refused memory is made again, and the row goes on as if
 //! nothing had been.
-use crate::{many, maps, records};
+use crate::{lists, many, maps, records};
 use anyhow::Result;
 use std::alloc::AllocGlobal;
 use std::random::RandomSource;
@@ -14,13 +14,15 @@ enum Row {
     /// So many messages are received by one future.
     ReceiveMany(usize),
     Recorder,
+    /// At a capacity, so many messages go from one future to another in one task.
+    List(usize, usize),
     /// By so many workers.
     Map(usize),
     MapInChunks(usize),
 }
 
 /// All rows, by their names.
-const ROWS: [(&str, Row); 9] = [
+const ROWS: [(&str, Row); 12] = [
     ("a send of many that waits", Row::SendMany(2, 5, 3)),
     (
         "a send of many without a capacity",
@@ -29,6 +31,9 @@ const ROWS: [(&str, Row); 9] = [
     ("a receive of many", Row::ReceiveMany(2)),
     ("a receive of many in rounds", Row::ReceiveMany(300)),
     ("the recorder's calls", Row::Recorder),
+    ("an empty list by name", Row::List(1, 0)),
+    ("a list by name", Row::List(1, 1000)),
+    ("a long list by name", Row::List(1024, 100_000)),
     ("a map by one thread", Row::Map(1)),
     ("a map by three threads", Row::Map(3)),
     ("a map in chunks by one thread", Row::MapInChunks(1)),
@@ -45,6 +50,7 @@ impl Row {
             Row::SendMany(capacity, count, polls) => many::send(rt, capacity, count, polls),
             Row::ReceiveMany(count) => many::receive(rt, count),
             Row::Recorder => records::calls(rt),
+            Row::List(capacity, count) => lists::relay(rt, capacity, count),
             Row::Map(workers) => maps::map(rt, false, workers),
             Row::MapInChunks(workers) => maps::map(rt, true, workers),
         }

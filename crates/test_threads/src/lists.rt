@@ -1,14 +1,11 @@
 //! Whole lists, sent and received by handles under the rule by name.
 ghost use Rattle.ruled_channel_rules.specs.Handles.{IsHubOf, IsSenderOf, IsReceiverOf};
 
-use futures::executor::block_on;
-use futures::future;
 use futures::task::Poll;
 use futures::test::MockTask;
 use ruled_channel_rules::{Channel, Hub, OutOfMemory, bounded, unbounded};
-use std::alloc::{AllocError, AllocGlobal, Global};
+use std::alloc::{AllocError, Global};
 use std::collections::VecDeque;
-use std::random::RandomSource;
 use std::sync::Wait;
 use std::test::*;
 use std::thread::{Threads, join};
@@ -55,26 +52,6 @@ fn relay<R: Threads + Wait + Sync>(
     )
 }
 
-/// One task sends the list and closes, and receives all.
-fn relay_in_one_task<'r, 'c, R: Wait + RandomSource + AllocGlobal>(
-    rt: &'r R,
-    alloc: Global,
-    channel: &'c Channel<u32>,
-    hub: &mut Hub<u32>,
-    list: VecDeque<u32>,
-) -> Result<Relayed, Fail>
-    requires { IsHubOf channel.now hub.old }
-{
-    let (sender, receiver) = (hub.sender(channel), hub.receiver(channel));
-    let send = sender.send_each_and_close(rt, channel, list);
-    let collect = receiver.collect(rt, channel, Vec::new(alloc));
-    let (sent, got) = block_on(rt, future::join(send, collect))?;
-    let (_, rest, sent) = sent;
-    let (_, all, got) = got;
-    let all_sent = matches!(&sent, Ok(Ok(()))) && rest.is_empty();
-    Ok((all_sent, got.map(|()| all)))
-}
-
 #[test]
 fn two_threads_relay_a_list(rt: HostRuntime) -> Result<(), Fail> {
     for (capacity, count) in [(1, 0), (1, 1000), (MANY, MANY)] {
@@ -82,19 +59,6 @@ fn two_threads_relay_a_list(rt: HostRuntime) -> Result<(), Fail> {
         let (channel, mut hub) = bounded(rt.alloc(), capacity as usize).expect(&rt, "a channel");
         let messages = numbers(rt.alloc(), count)?;
         let (all_sent, all) = relay(&rt, rt.alloc(), &channel, &mut hub, messages);
-        assert!(rt; all_sent);
-        assert!(rt; all.is_ok_and(|all| all.as_slice() == list.as_slice()));
-    }
-    Ok(())
-}
-
-#[test]
-fn one_task_relays_a_list(rt: HostRuntime) -> Result<(), Fail> {
-    for (capacity, count) in [(1, 0), (1, 1000), (1024, MANY)] {
-        let list = (0..count).collect::<Vec<_>>(rt.alloc())?;
-        let (channel, mut hub) = bounded(rt.alloc(), capacity).expect(&rt, "a channel");
-        let messages = numbers(rt.alloc(), count)?;
-        let (all_sent, all) = relay_in_one_task(&rt, rt.alloc(), &channel, &mut hub, messages)?;
         assert!(rt; all_sent);
         assert!(rt; all.is_ok_and(|all| all.as_slice() == list.as_slice()));
     }
