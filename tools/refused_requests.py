@@ -24,7 +24,8 @@ A line is printed for each row, with how many of its requests came to each. Of t
 the first and the last requests are refused. The status is 0 if nothing differed, each row asked for
 memory, and as many of its requests came to each as are stored. What is stored is what the programs
 did: it is written anew if a row comes or goes, or if one is meant to make other requests. Of maps
-nothing is stored, since their threads make another number of requests each time.
+and of blocked calls nothing is stored, since their threads make other requests each time: a call of
+each has to be made again.
 """
 
 import os
@@ -199,7 +200,7 @@ def other_rows():
     """The rows that no script has, as the stored run of test_channel names them."""
     _rows, _random, *names = (CRATES / "test_channel" / "stdout").read_text("utf-8").splitlines()
     for name in names:
-        output, is_by_threads = as_lines([name]).encode(), name.startswith("a map ")
+        output, is_by_threads = as_lines([name]).encode(), name.startswith(("a map ", "a blocked "))
         yield Row("test_channel", name, output, (name,), is_by_threads=is_by_threads)
 
 
@@ -223,6 +224,8 @@ def text_of(made, outcomes):
 def faults_of(row, outcomes):
     """What is wrong with a row, whatever is stored of it."""
     wrong = [f"{row}: request {it} differs" for it, what in outcomes.items() if what == "different"]
+    if row.is_by_threads and "again" not in outcomes.values():
+        wrong.append(f"{row}: no call says that it was refused memory")
     return wrong if outcomes else [f"{row}: no request is made"]
 
 

@@ -1,13 +1,15 @@
 """Tries changed bodies of functions on the prover.
 
-Those of different functions are tried in one run. A change has a `name`, the `function` that it
-changes, as the prover names its end, and its `file` in the crate. `written_into` answers the file's
+A change has a `name`, the `function` that it changes, as the prover names its end, and its `file`
+in the crate. `is_local` says that it changes nothing else, and `written_into` answers the file's
 text with the change, or None if it has no place there. The libraries are those that `rt ci` or
 `rt check` built.
 
-Stored answers cite the text of their function. A change that they don't fit is tried again without
-them. If all goals that aren't proved then are those that had an answer, `breaks_a_proof` is set:
-the prover may have found none for a change that keeps to the contract, either.
+One run tries changes of several functions. It leaves a change open if its function is only said to
+call one that isn't proved, or if stored answers, which cite the text of their function, don't fit.
+What is open is tried again, together and without those answers, and each by itself once a turn
+settles nothing. If all goals that aren't proved without its answers are those that had one,
+`breaks_a_proof` is set: the prover may find none for a change that keeps to the contract, either.
 """
 import importlib.machinery
 import importlib.util
@@ -17,16 +19,31 @@ import shutil
 import subprocess
 import sys
 import tempfile
+import threading
+from concurrent.futures import ThreadPoolExecutor
 from pathlib import Path
 
 VERDICT = re.compile(
     r'^fn \w+::(\S+): (proved|not proved|no proof|could not tell)(?:,[^:;]*)?(?:[:;] (.*))?$'
 )
 CALLS = re.compile(r'it calls .*|which (?:is|are) not proved')
+# How many run side by side, whatever crates they are of.
+TURNS = threading.BoundedSemaphore(len(os.sched_getaffinity(0)))
+# How many changes a run tries at most, so that no run takes much longer than others.
+MOST = 16
 
 
 class Refused(Exception):
     """What is wrong with a change, or with a run."""
+
+
+class Tried:
+    """What is found out of a change."""
+
+    # The file of answers that it doesn't fit, in its crate.
+    answers = ''
+    # Whether nothing isn't proved but goals that had one of these.
+    breaks_a_proof = False
 
 
 def toolchain():
@@ -39,25 +56,36 @@ def toolchain():
     return module.rtlib
 
 
-def alone(change, folder):
-    """The text of the change's file with nothing else changed."""
-    return {change.file: change.written_into((folder / change.file).read_text('utf-8'))}
+def texts_of(changes, folder):
+    """The texts of their files with these changes in them, or None if one has no place there."""
+    texts = {}
+    for change in changes:
+        text = texts.get(change.file) or (folder / change.file).read_text('utf-8')
+        texts[change.file] = change.written_into(text)
+        if texts[change.file] is None:
+            return None
+    return texts
 
 
-def rounds_of(changes, folder):
-    """Changes in rounds, of which each has one of a function, with the texts of its files."""
-    left = changes
-    while left:
-        taken, texts, later = {}, {}, []
-        for change in left:
-            text = texts.get(change.file) or (folder / change.file).read_text('utf-8')
-            new = change.written_into(text)
-            if change.function in taken or new is None:
-                later.append(change)
-            else:
-                taken[change.function], texts[change.file] = change, new
-        yield [*taken.values()], texts
-        left = later
+def round_of(changes, folder):
+    """As many of the changes as one run can try."""
+    taken = {}
+    for change in changes:
+        is_new = change.function not in taken and len(taken) < MOST
+        if is_new and texts_of([*taken.values(), change], folder) is not None:
+            taken[change.function] = change
+    return [*taken.values()]
+
+
+def rounds_of(changes, folder, is_apart):
+    """Rounds that try each of the changes once. What changes anything outside of its function is
+    tried by itself."""
+    together = [it for it in changes if it.is_local and not is_apart]
+    yield from ([it] for it in changes if it not in together)
+    while together:
+        taken = round_of(together, folder)
+        yield taken
+        together = [it for it in together if it not in taken]
 
 
 def own_reasons(said):
@@ -76,47 +104,56 @@ def answered(path):
     return {*re.findall(r'^pub ([\w-]+) :', path.read_text('utf-8'), re.M)}
 
 
-class Tried:
-    """What is found out of a change."""
-
-    # The answers that don't fit it, if there are.
-    answers = ''
-    # Whether nothing isn't proved but goals that had one of these.
-    breaks_a_proof = False
-
-
 class Trial:
-    """A crate whose changes are tried, each run over what the ones before it proved."""
+    """A crate whose changes are tried. The first run is alone; what it kept serves the others."""
 
     def __init__(self, crate, kept, rtlib):
         self.crate, self.kept, self.rtlib = crate, kept, rtlib
-        self.folder = Path(crate.folder)
+        self.folder, self.first = Path(crate.folder), threading.Lock()
 
-    def said_of(self, functions, texts, left_out):
-        """What the prover says of these functions of the crate with these texts in it, and without
-        the file that is left out."""
-        with tempfile.TemporaryDirectory(prefix='edits-') as room:
-            for part in self.rtlib.PARTS:
-                if (self.folder / part).is_dir():
-                    shutil.copytree(self.folder / part, f'{room}/{part}')
-            for file, text in texts.items():
-                Path(room, file).write_text(text, 'utf-8')
-            if left_out:
-                Path(room, left_out).unlink()
-            flags = ['--jobs', '1', *(word for it in functions for word in ('--only', it))]
-            words = [*self.crate.words(flags, keeps=False), '--incremental', self.kept]
-            ran = subprocess.run(
+    def copy_into(self, room, changes):
+        """Copies the crate with the changes in it, and without the answers that don't fit them."""
+        for part in filter(lambda it: (self.folder / it).is_dir(), self.rtlib.PARTS):
+            shutil.copytree(self.folder / part, room / part)
+        for file, text in texts_of(changes, self.folder).items():
+            (room / file).write_text(text, 'utf-8')
+        for file in {it.answers for it in changes if it.answers}:
+            (room / file).unlink()
+
+    def begun(self, changes):
+        """The first run, or None if there was one."""
+        with self.first:
+            if self.kept.exists():
+                return None
+            self.kept.mkdir()
+            return self.said_of(changes, self.kept)
+
+    def said(self, changes):
+        """What the prover says of the functions of these changes."""
+        said = self.begun(changes)
+        if said is None:
+            with tempfile.TemporaryDirectory(prefix='kept-') as room:
+                # A run replaces files, and changes none.
+                shutil.copytree(self.kept, kept := Path(room, 'kept'), copy_function=os.link)
+                said = self.said_of(changes, kept)
+        if not re.search(r'^only=\d+ proved=\d+', said, re.M):
+            raise Refused(said[-2000:])
+        return said
+
+    def said_of(self, changes, kept):
+        """The same, of a run over what is kept there."""
+        with TURNS, tempfile.TemporaryDirectory(prefix='edits-') as room:
+            self.copy_into(Path(room), changes)
+            flags = ['--jobs', '1', *(word for it in changes for word in ('--only', it.function))]
+            words = [*self.crate.words(flags, keeps=False), '--incremental', str(kept)]
+            return subprocess.run(
                 [*self.rtlib.guarded(), self.rtlib.RATTLE, 'check', *words],
                 cwd=room, stdin=subprocess.DEVNULL, stdout=subprocess.PIPE,
                 stderr=subprocess.STDOUT, text=True, errors='replace',
-            )
-        if not re.search(r'^only=\d+ proved=\d+', ran.stdout, re.M):
-            raise Refused(ran.stdout[-2000:])
-        return ran.stdout
+            ).stdout
 
-    def outcome(self, change, said, is_alone, left_out):
-        """Whether the change was proved, or None if it has to be tried by itself, or without its
-        function's answers."""
+    def outcome(self, change, said, is_alone):
+        """Whether the change was proved, or None if that is open."""
         verdicts = [it for it in map(VERDICT.match, said.split('\n')) if it]
         mine = [it for it in verdicts if f'::{it[1]}'.endswith(f'::{change.function}')]
         if len(mine) != 1:
@@ -127,34 +164,34 @@ class Trial:
         if verdict == 'could not tell' and is_alone:
             raise Refused('the prover could not tell')
         answers = f'proofs/{name.replace("::", "/")}/Answers.antt'
-        if left_out:
+        if change.answers:
             change.breaks_a_proof = goals_of(why) <= answered(self.folder / answers)
         elif re.search(rf'^\./{re.escape(answers)}:.*: error', said, re.M):
             change.answers = answers
             return None
         return False if verdict != 'could not tell' and (is_alone or own_reasons(why)) else None
 
-    def tried(self, changes, texts, left_out=''):
-        """Each of these changes, with whether it was proved or what is wrong with it."""
-        is_alone = len(changes) == 1
+    def tried(self, changes):
+        """Each of these changes, with whether it was proved, what is wrong with it, or None. Those
+        that can't be read together are tried in halves."""
+        is_alone, half = len(changes) == 1, len(changes) // 2
         try:
-            said = self.said_of([it.function for it in changes], texts, left_out)
-            found = [(it, self.outcome(it, said, is_alone, left_out)) for it in changes]
+            said = self.said(changes)
+            return [(it, self.outcome(it, said, is_alone)) for it in changes]
         except Refused as why:
-            found = [(it, str(why) if is_alone else None) for it in changes]
-        for change, outcome in found:
-            if outcome is None:
-                yield from self.tried([change], alone(change, self.folder), change.answers)
-            else:
-                yield change, outcome
+            if is_alone:
+                return [(changes[0], str(why))]
+            return self.tried(changes[:half]) + self.tried(changes[half:])
 
 
 def tried_in(crate, changes, rtlib):
-    """Each change of a crate, with whether it was proved or what is wrong with it. What changes
-    anything outside of its function is tried by itself."""
-    folder = Path(crate.folder)
-    apart = [([it], alone(it, folder)) for it in changes if not it.is_local]
-    with tempfile.TemporaryDirectory(prefix='edits-kept-') as kept:
-        trial = Trial(crate, kept, rtlib)
-        for taken, texts in [*apart, *rounds_of([it for it in changes if it.is_local], folder)]:
-            yield from trial.tried(taken, texts)
+    """Each change of a crate, with whether it was proved or what is wrong with it."""
+    with tempfile.TemporaryDirectory(prefix='kept-') as room:
+        trial, left, is_apart = Trial(crate, Path(room, 'kept'), rtlib), changes, False
+        while left:
+            rounds = [*rounds_of(left, trial.folder, is_apart)]
+            with ThreadPoolExecutor(len(rounds)) as pool:
+                tried = sum(pool.map(trial.tried, rounds), [])
+            yield from (it for it in tried if it[1] is not None)
+            found = [change for change, outcome in tried if outcome is None]
+            is_apart, left = len(found) == len(left), found

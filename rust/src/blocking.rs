@@ -11,7 +11,7 @@ use std::sync::{Arc, PoisonError};
 use std::task::{Context, Poll, Wake, Waker};
 
 /// How often a thread looks again before it sleeps.
-const LOOKS: u32 = turns(40);
+const LOOKS: u32 = 40;
 
 /// What a thread does, or what was done to it.
 const AWAKE: usize = 0;
@@ -52,7 +52,7 @@ impl Parker {
 
     /// Waits until somebody wakes this thread.
     fn wait(&self) {
-        for _look in 0..LOOKS {
+        for _look in 0..turns(LOOKS) {
             if self.take_wake() {
                 return;
             }
@@ -73,8 +73,9 @@ impl Parker {
 }
 
 thread_local! {
-    /// The thread's own, unless it is in use.
-    static PARKER: Cell<Option<Arc<Parker>>> = const { Cell::new(None) };
+    /// The thread's own, unless it is in use. It isn't made by a constant, which loom doesn't take.
+    #[allow(clippy::missing_const_for_thread_local)]
+    static PARKER: Cell<Option<Arc<Parker>>> = Cell::new(None);
 }
 
 /// Polls a future until it is ready, and sleeps whenever it is pending until it is woken.

@@ -26,7 +26,7 @@ use std::task::{Context, Poll, Waker};
 pub(crate) type Core<T> = ProvedCore<T, Waker>;
 
 /// How often a thread looks before it waits.
-const LOOKS: u32 = turns(20);
+const LOOKS: u32 = 20;
 
 /// How long it pauses between two looks.
 const PAUSES: u32 = 20;
@@ -209,7 +209,7 @@ impl<T> Channel<T> {
     /// than to sleep if another thread is about to make it so.
     #[inline]
     pub(crate) fn await_turn(&self, group: Group) {
-        for _look in 0..LOOKS {
+        for _look in 0..turns(LOOKS) {
             if self.seems_ready(group) {
                 return;
             }

@@ -10,7 +10,7 @@ use std::sync::{PoisonError, TryLockError};
 
 /// How often a thread looks at a taken lock before it sleeps until it is free.
 #[cfg(not(feature = "parking_lot"))]
-const LOOKS: u32 = turns(5);
+const LOOKS: u32 = 5;
 
 /// How long it pauses before each look: so long that whoever has the lock can take it many times, and
 /// its cache lines stay where they are.
@@ -53,7 +53,7 @@ impl<V> Lock<V> {
     #[cfg(not(feature = "parking_lot"))]
     #[cold]
     fn wait(&self) -> MutexGuard<'_, V> {
-        for _look in 0..LOOKS {
+        for _look in 0..turns(LOOKS) {
             pause(PAUSES);
             if let Some(guard) = self.try_lock() {
                 return guard;

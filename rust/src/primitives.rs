@@ -2,8 +2,12 @@
 //!
 //! The package in `models` puts loom's in their place, and goes through the orders of those meetings.
 
+use std::sync::atomic::Ordering::Relaxed;
+
 #[cfg(vamorilesh_loom)]
 pub(crate) use loom::sync::{atomic::AtomicUsize, Condvar, Mutex, Mutex as StdMutex, MutexGuard};
+#[cfg(vamorilesh_loom)]
+pub(crate) use loom::thread_local;
 #[cfg(not(vamorilesh_loom))]
 pub(crate) use std::sync::{atomic::AtomicUsize, Condvar, Mutex as StdMutex};
 #[cfg(not(vamorilesh_loom))]
@@ -23,19 +27,14 @@ pub(crate) fn abort() -> ! {
     panic!("the program ends");
 }
 
-/// loom's takes no constant.
-#[cfg(vamorilesh_loom)]
-macro_rules! of_thread {
-    ($(#[$about:meta])* static $name:ident: $of:ty = const { $value:expr };) => {
-        loom::thread_local! { $(#[$about])* static $name: $of = $value; }
-    };
-}
-#[cfg(vamorilesh_loom)]
-pub(crate) use of_thread as thread_local;
-
-/// How often a thread does something before it sleeps. Models look at one turn for all.
-pub(crate) const fn turns(count: u32) -> u32 {
-    if cfg!(vamorilesh_loom) {
+/// How often a thread looks before it sleeps: once on one processor, where nobody goes on meanwhile.
+/// Models look once, too.
+pub(crate) fn turns(count: u32) -> u32 {
+    static PROCESSORS: std::sync::atomic::AtomicUsize = std::sync::atomic::AtomicUsize::new(0);
+    if PROCESSORS.load(Relaxed) == 0 {
+        PROCESSORS.store(std::thread::available_parallelism().map_or(2, usize::from), Relaxed);
+    }
+    if cfg!(vamorilesh_loom) || PROCESSORS.load(Relaxed) == 1 {
         1
     } else {
         count

@@ -306,15 +306,12 @@ impl<T: Drop, R: Wait + Clone + Drop> Drop for Send<'_, T, R> {
         let Self {
             sender,
             message: _,
-            mut ticket,
+            ticket,
             marker: _,
         } = self;
-        if ticket.is_some() {
-            let link = &sender.get().link;
-            let (channel, mut pass) = link.channel();
-            channel.give_up_send(&link.rt, &mut pass, &mut ticket);
+        if let Some(ticket) = ticket {
+            sender.give_up_send(ticket);
         }
-        Ticket::destroy_none(ticket);
     }
 }
 
@@ -390,16 +387,13 @@ impl<T: Drop, R: Wait + Clone + Drop> Drop for Recv<'_, T, R> {
     fn drop(self) {
         let Self {
             receiver,
-            mut ticket,
+            ticket,
             marker: _,
             finished: _,
         } = self;
-        if ticket.is_some() {
-            let link = &receiver.get().link;
-            let (channel, mut pass) = link.channel();
-            channel.give_up_recv(&link.rt, &mut pass, &mut ticket);
+        if let Some(ticket) = ticket {
+            receiver.give_up_recv(ticket);
         }
-        Ticket::destroy_none(ticket);
     }
 }
 

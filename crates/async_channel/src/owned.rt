@@ -4,6 +4,7 @@ ghost use Rattle.async_channel.specs.Owned.{handle_in};
 
 use crate::handles::{Receiver, Sender};
 use crate::ops::{Closed, Recv, Send};
+use channel_core::Ticket;
 use std::sync::Wait;
 
 /// The handle of an operation: its own one, or one that it borrows.
@@ -22,6 +23,31 @@ impl<H> OwnedOrRef<'_, H> {
             OwnedOrRef::Owned(handle) => handle,
             OwnedOrRef::Ref(handle) => handle,
         }
+    }
+}
+
+impl<T: Drop, R: Wait + Clone + Drop> OwnedOrRef<'_, Sender<T, R>> {
+    // Takes the entry of a send that waits out of its list. It is out of line, so that the drop of
+    // one that doesn't wait moves nothing.
+    #[inline(never)]
+    pub(crate) fn give_up_send(self, ticket: Ticket) {
+        let link = &self.get().link;
+        let (channel, mut pass) = link.channel();
+        let mut ticket = Some(ticket);
+        channel.give_up_send(&link.rt, &mut pass, &mut ticket);
+        Ticket::destroy_none(ticket);
+    }
+}
+
+impl<T: Drop, R: Wait + Clone + Drop> OwnedOrRef<'_, Receiver<T, R>> {
+    // Takes the entry of a receive that waits out of its list, out of line.
+    #[inline(never)]
+    pub(crate) fn give_up_recv(self, ticket: Ticket) {
+        let link = &self.get().link;
+        let (channel, mut pass) = link.channel();
+        let mut ticket = Some(ticket);
+        channel.give_up_recv(&link.rt, &mut pass, &mut ticket);
+        Ticket::destroy_none(ticket);
     }
 }
 

@@ -1,7 +1,7 @@
 //! What a map by many threads costs.
 //!
-//! The same job runs over the same inputs in the plain loop, in the kit's `rayon`, and in `map_all`
-//! with one, two and four workers. All have to come to the same total.
+//! The same job runs over the same inputs in the plain loop, in the kit's `rayon`, in std's
+//! `map_chunks`, and in `map_all` with one, two and four workers. All have to come to the same total.
 use crate::job::Stir;
 use crate::ways::{Best, Way, best_of};
 use anyhow::Result;
@@ -44,12 +44,21 @@ where
     let inputs = inputs.as_slice();
     let plain = best_of(rt, job, inputs, Way::Plain)?;
     let rayon = best_of(rt, job, inputs, Way::Rayon)?;
+    let chunks = best_of(
+        rt,
+        job,
+        inputs,
+        Way::Chunks {
+            count: MOST_WORKERS,
+        },
+    )?;
     row(rt, name, "plain loop", &plain, &plain, &rayon)?;
     row(rt, name, "rayon", &rayon, &plain, &rayon)?;
+    row(rt, name, "`map_chunks`, chunks: 4", &chunks, &plain, &rayon)?;
     for workers in [1, 2, MOST_WORKERS] {
         let best = best_of(rt, job, inputs, Way::Map { workers })?;
         anyhow::ensure!(
-            best.total == plain.total && rayon.total == plain.total,
+            [best.total, rayon.total, chunks.total] == [plain.total; 3],
             "totals differ"
         );
         let way = format!(in rt.alloc(); "`map_all`, workers: {workers}")?;

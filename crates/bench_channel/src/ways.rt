@@ -4,10 +4,10 @@ use anyhow::Result;
 use async_channel::StampMaker;
 use parallel_map::{Open, map_all};
 use rayon::prelude::*;
-use std::alloc::AllocGlobal;
+use std::alloc::{AllocError, AllocGlobal, Global};
 use std::rt::Clock;
 use std::sync::Wait;
-use std::thread::Threads;
+use std::thread::{Threads, map_chunks};
 use std::time::Instant;
 
 /// How many times each way is timed. The best time counts.
@@ -23,6 +23,11 @@ pub enum Way {
     Plain,
     /// By the kit's rayon, on as many threads as it takes, in pieces as small as it likes.
     Rayon,
+    /// By std's `map_chunks`, in this number of chunks, each by a thread.
+    Chunks {
+        /// How many.
+        count: usize,
+    },
     /// By `map_all`, with this number of workers.
     Map {
         /// How many.
@@ -39,10 +44,33 @@ pub struct Best {
     pub total: u64,
 }
 
-fn plain<const STEPS: u64, R: AllocGlobal>(rt: &R, inputs: &[u64]) -> Result<Vec<u64>> {
-    let mut answers = Vec::with_capacity(rt.alloc(), inputs.len())?;
+fn plain<const STEPS: u64>(
+    alloc: Global,
+    inputs: &[u64],
+) -> std::result::Result<Vec<u64>, AllocError> {
+    let mut answers = Vec::with_capacity(alloc, inputs.len())?;
     for input in inputs {
         answers.push(stir_number::<STEPS>(*input))?;
+    }
+    Ok(answers)
+}
+
+fn by_chunks<const STEPS: u64, R: AllocGlobal + Threads + Sync>(
+    rt: &R,
+    inputs: &[u64],
+    count: usize,
+) -> Result<Vec<u64>> {
+    let (alloc, size) = (rt.alloc(), inputs.len().div_ceil(count.max(1)).max(1));
+    let chunks = map_chunks(
+        rt,
+        alloc,
+        inputs,
+        size,
+        &|_, chunk: &[u64]| { plain::<STEPS>(alloc, chunk) },
+    )?;
+    let mut answers = Vec::with_capacity(alloc, inputs.len())?;
+    for chunk in chunks {
+        answers.append(&mut chunk?)?;
     }
     Ok(answers)
 }
@@ -70,7 +98,8 @@ where
     R: Threads + Wait + Clone + Drop + AllocGlobal + Send + Sync,
 {
     match way {
-        Way::Plain => plain::<STEPS, R>(rt, inputs),
+        Way::Plain => Ok(plain::<STEPS>(rt.alloc(), inputs)?),
+        Way::Chunks { count } => by_chunks::<STEPS, R>(rt, inputs, count),
         Way::Rayon => by_rayon::<STEPS, R>(rt, inputs),
         Way::Map { workers } => {
             let workers = workers.max(1);

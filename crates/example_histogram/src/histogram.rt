@@ -24,26 +24,40 @@ type Counts = [u64; CLASSES];
 /// How many may be on their way.
 const CAPACITY: usize = 4;
 
-// Sends the class of each number until one can't be sent, and answers how many were sent.
-fn send_each<R: Wait>(rt: &R, channel: &Channel, pass: &mut Pass, numbers: &[usize]) -> usize
+// Sends the class of each number until the channel is closed, and answers how many were sent.
+fn send_each<R: Wait>(
+    rt: &R,
+    channel: &Channel,
+    pass: &mut Pass,
+    numbers: &[usize],
+) -> Result<usize, OutOfMemory>
     requires { IsPassOf channel.now pass.old × (view pass.old ≡ sender []) }
     ensures own { IsPassOf channel.now pass.new }
-    ensures sent { view pass.new ≡ sender (classes_of (take result numbers.now)) }
+    ensures sent { IfOk result (λ count.
+        view pass.new ≡ sender (classes_of (take count numbers.now))) }
 {
     for next in 0..numbers.len() {
         let class = (numbers[next] / 10).min(CLASSES - 1);
-        let Ok(Ok(())) = channel.send_blocking_as::<Tallied, Unruled, R>(rt, pass, class) else {
-            return next;
-        };
+        match channel.send_blocking_as::<Tallied, Unruled, R>(rt, pass, class) {
+            Ok(Ok(())) => {}
+            Ok(Err(_)) => return Ok(next),
+            Err(_) => return Err(OutOfMemory),
+        }
     }
-    numbers.len()
+    Ok(numbers.len())
 }
 
 // The same, and closes the channel.
-fn send_all<R: Wait>(rt: &R, channel: &Channel, mut pass: Pass, numbers: &[usize]) -> (Pass, usize)
+fn send_all<R: Wait>(
+    rt: &R,
+    channel: &Channel,
+    mut pass: Pass,
+    numbers: &[usize],
+) -> (Pass, Result<usize, OutOfMemory>)
     requires { IsPassOf channel.now pass × (view pass ≡ sender []) }
     ensures own { IsPassOf channel.now result.0 }
-    ensures sent { view result.0 ≡ sender (classes_of (take result.1 numbers.now)) }
+    ensures sent { IfOk result.1 (λ count.
+        view result.0 ≡ sender (classes_of (take count numbers.now))) }
 {
     let sent = send_each(rt, channel, &mut pass, numbers);
     channel.close_as::<Tallied, R>(rt, &mut pass);
@@ -89,10 +103,11 @@ pub fn histogram<R: Threads + Wait + Sync>(
     let counts = line.another::<Tallied>(&mut sends);
     let ((mut pass, sent), (other, counts)) = thread::join(
         rt,
-        move || -> (Pass, usize)
+        move || -> (Pass, Result<usize, OutOfMemory>)
             requires { IsPassOf line.now sends × (view sends ≡ sender []) }
             ensures own { IsPassOf line.entry.now result.0 }
-            ensures sent { view result.0 ≡ sender (classes_of (take result.1 numbers.entry.now)) }
+            ensures sent { IfOk result.1 (λ count.
+                view result.0 ≡ sender (classes_of (take count numbers.entry.now))) }
         { send_all(rt, line, sends, numbers) },
         move || -> (Pass, Result<Counts, OutOfMemory>)
             requires { IsPassOf line.now counts × (view counts ≡ counter [] false) }
@@ -102,7 +117,7 @@ pub fn histogram<R: Threads + Wait + Sync>(
                 × AreCountsOf found (view result.0).counted) }
         { count_all(rt, line, counts) },
     );
-    let counts = counts?;
+    let (sent, counts) = (sent?, counts?);
     line.absorb::<Tallied>(&mut pass, other);
     line.learn_as::<Tallied, R>(rt, &mut pass);
     if sent < numbers.len() {

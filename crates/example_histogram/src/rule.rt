@@ -2,7 +2,7 @@
 ghost use Rattle.std.specs.Prelude.{◌≡◌, ◌<◌, [], true, false};
 ghost use Rattle.example_histogram.specs.Rule.{IsTallied, tally, with_sent, with_counted, with_end, sender, counter, together, spent};
 
-use ruled_channel::{AtEnd, Closed, Join, Lesson, Protocol, Received, Sent, Split};
+use ruled_channel::{AtEnd, HasClosed, Join, Lesson, Protocol, Received, Sent, Split};
 use std::collections::LinkedList;
 
 /// What a pass knows. No value of it is made.
@@ -20,9 +20,11 @@ pub struct Tally {
 pub struct Tallied;
 
 impl Protocol<usize, Tally> for Tallied {
-    ghost holds = { IsTallied };
+    type Key = ();
 
-    ghost first = { tally true [] true [] false };
+    ghost holds = { λ _. IsTallied };
+
+    ghost first = { λ _. tally true [] true [] false };
 }
 
 impl Sent<usize, Tally> for Tallied {
@@ -38,7 +40,7 @@ impl AtEnd<Tally> for Tallied {
     ghost then = { λ v w. w ≡ with_end v };
 }
 
-impl Closed<Tally> for Tallied {
+impl HasClosed<Tally> for Tallied {
     ghost then = { λ v has_closed w. w ≡ v };
 }
 

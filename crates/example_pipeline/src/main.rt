@@ -7,7 +7,7 @@
 use anyhow::Result;
 use async_channel::{StampMaker, bounded};
 use futures::executor::block_on;
-use futures::future::join;
+use futures::future::join3;
 use futures::{FutureExt, StreamExt, TryStreamExt, stream};
 
 /// The numbers from 1 to this one are sent.
@@ -38,7 +38,7 @@ fn main(rt: HostRuntime) -> Result<()> {
         });
     let gather = squares.collect(rt.alloc());
 
-    let ((sent, squared), gathered) = block_on(&rt, join(join(send, square), gather))?;
+    let (sent, squared, gathered) = block_on(&rt, join3(send, square, gather))?;
     for answer in sent?.into_iter().chain(squared?) {
         answer??;
     }

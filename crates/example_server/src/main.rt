@@ -1,4 +1,4 @@
-//! A server: workers answer requests, each to whoever asked, and end cleanly when they are told to.
+//! A server: workers answer requests, each to whoever asked, and end cleanly when they are asked to.
 //!
 //! It is proved that each client's answer is that of its own request.
 //!

@@ -1,4 +1,4 @@
-//! A mutex under a rule: the count is the sum of what two threads have added, by contract.
+//! A mutex under a rule: the count is the sum of what two threads have added, and no add fails.
 #![tactic(auto)]
 
 mod tally;
@@ -7,12 +7,10 @@ use anyhow::{Result, anyhow};
 use tally::{Counter, add_in_pair, count};
 
 fn main(rt: HostRuntime) -> Result<()> {
-    let Ok((counter, pass)) = Counter::new(rt.alloc(), 0) else {
+    let Ok((counter, pass)) = Counter::new_with_key(rt.alloc(), 0, &40_000) else {
         return Err(anyhow!("memory was refused"));
     };
-    let Some(mut pass) = add_in_pair(&rt, &counter, pass, 20_000) else {
-        return Err(anyhow!("the count is too large"));
-    };
+    let mut pass = add_in_pair(&rt, &counter, pass, 20_000);
     println!(rt; "{}", count(&rt, &counter, &mut pass))?;
     Ok(())
 }

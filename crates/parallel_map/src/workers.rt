@@ -262,6 +262,8 @@ fn take_chunks<A, B: Drop, J, G, R: Wait>(
 ) -> bool
     requires own { IsCollectorOf task.now.chunks collector.old }
     ensures own { IsTrue result → IsCollectorOf task.now.chunks collector.new }
+    ensures came { IsTrue result → length (got_by collector.new.receiver)
+        ≡ length (got_by collector.old.receiver) + count }
 {
     for _turn in 0..count {
         let Ok(true) = take_chunk(rt, task, collector) else {
@@ -350,6 +352,8 @@ fn feed<A, B: Drop, J, G, R: Wait>(
     ensures collector { IsTrue result → IsCollectorOf task.now.chunks collector.new }
     ensures all { IsTrue result
         → AreStartsOf (length task.now.inputs.now) task.now.size (sent_by feeder.new) }
+    ensures back { IsTrue result → length (got_by collector.new.receiver)
+        ≡ length (sent_by feeder.new) + length (got_by collector.old.receiver) }
     ensures closed { sender_closed feeder.new ≡ true }
 {
     if !are_started {

@@ -6,3 +6,4 @@ pub mod Dropped
 pub mod Logging
 pub mod Capacity
 mod Made
+mod Looks

@@ -6,13 +6,13 @@ use Rattle.ruled_channel.specs.declared.pass.Pass.{Pass}
 use Rattle.ruled_channel.specs.Passes.{IsPassOf, view, IsSamePass}
 use Rattle.ruled_channel.specs.Steps.{HasMadeWith, closed_left, found}
 
-module _ {T V P : Type 0} where
+module _ {T V P K : Type 0} where
   -- the pass is there
-  abbrev pub MayWait : RuledChannel T V P → Option (Pass T V) → Type 0
+  abbrev pub MayWait : RuledChannel T V P K → Option (Pass T V) → Type 0
   MayWait channel held = IsSome held × IfSome held (λ p. IsPassOf channel p)
 
   -- The pass comes back, with its view as it was. There is no receiver, if memory was not refused.
-  abbrev pub GivesBack : RuledChannel T V P → Option (Pass T V)
+  abbrev pub GivesBack : RuledChannel T V P K → Option (Pass T V)
       → Pass T V × Result (Unit {0}) OutOfMemory → Type 0
   GivesBack channel held out =
       IfSome held (λ p. IsPassOf channel out.0 × IsSamePass p out.0 × (view out.0 ≡ view p)

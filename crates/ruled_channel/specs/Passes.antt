@@ -4,14 +4,19 @@ use Rattle.channel_model.specs.declared.errors.TrySendError.{TrySendError}
 use Rattle.channel_model.specs.declared.errors.TrySendError.TheVariants.{Full, Closed}
 use Rattle.channel_model.specs.declared.errors.TryRecvError.{TryRecvError}
 use Rattle.channel_model.specs.declared.errors.TryRecvError.TheVariants.{Empty, Closed}
-use Rattle.ruled_mutex.specs.Passes.{IsPassOf as IsMutexPass, IsSamePass as IsSameMutexPass, number as number_in_mutex, view as view_in_mutex}
+use Rattle.ruled_mutex.specs.Passes.{IsPassOf as IsMutexPass, IsSamePass as IsSameMutexPass, key_of as key_of_mutex, number as number_in_mutex, view as view_in_mutex}
 use Rattle.ruled_channel.specs.declared.channel.RuledChannel.{RuledChannel}
 use Rattle.ruled_channel.specs.declared.pass.Pass.{Pass}
 use Rattle.ruled_channel.specs.State.{State, IsClosed, IsEmpty, IsFull, IsUnbounded}
 
--- it is a pass of this channel
-abbrev pub IsPassOf : {T V P : Type 0} → RuledChannel T V P → Pass T V → Type 0
-IsPassOf channel pass = IsMutexPass channel.mutex pass.lock
+module _ {T V P K : Type 0} where
+  -- what it was made with
+  abbrev pub key_of : RuledChannel T V P K → K
+  key_of channel = key_of_mutex channel.mutex
+
+  -- it is a pass of this channel
+  abbrev pub IsPassOf : RuledChannel T V P K → Pass T V → Type 0
+  IsPassOf channel pass = IsMutexPass channel.mutex pass.lock
 
 module _ {T V : Type 0} where
   -- what the pass knows

@@ -1,5 +1,6 @@
 -- What a caller of a ruled channel shows of each step.
--- `holds state views` is the caller's rule: of what the channel is, and of what each pass knows.
+-- `holds state views` is the caller's rule, at the channel's key: of what the channel is, and of
+-- what each pass knows.
 -- Each pass has a number, and `views` at that number is its view.
 use Rattle.std.specs.Prelude.{◌≡◌, ⊤, ℕ, Bool, true, not, ◌&&◌, List, [], ◌∷◌, ◌++◌, slice_set, Option, Some, None}
 use mathlib.Core.Option.{some}
@@ -98,7 +99,8 @@ module _ {T V : Type 0} (holds : State T → List V → Type 0) where
       (state : State T) (views : List V) → holds state views → get_elem? views pass ≡ some v
       → fact state
 
-  -- this view stood among those of all passes, and the rule held
-  abbrev pub Fitted : V → State T → Type 0
-  Fitted v state =
-      (pass : ℕ) × (views : List V) × holds state views × (get_elem? views pass ≡ some v)
+-- this view stood among those of all passes, and the rule held, at some key
+abbrev pub Fitted : {T V K : Type 0} → (K → State T → List V → Type 0) → V → State T → Type 0
+Fitted {T} {V} {K} holds v state =
+    (key : K) × (pass : ℕ) × (views : List V) × holds key state views
+    × (get_elem? views pass ≡ some v)

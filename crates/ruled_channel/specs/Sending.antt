@@ -6,22 +6,22 @@ use Rattle.ruled_channel.specs.declared.channel.RuledChannel.{RuledChannel}
 use Rattle.ruled_channel.specs.State.{State, IsClosed}
 use Rattle.ruled_channel.specs.Rule.{Sends, Learns}
 use Rattle.ruled_channel.specs.declared.pass.Pass.{Pass}
-use Rattle.ruled_channel.specs.Passes.{IsPassOf, LearnedOf, WantsToSend, view, number, IsSamePass}
+use Rattle.ruled_channel.specs.Passes.{IsPassOf, LearnedOf, WantsToSend, key_of, view, number, IsSamePass}
 use Rattle.ruled_channel.specs.Steps.{HasSent}
 
-module _ {T V P : Type 0} where
+module _ {T V P K : Type 0} where
   -- pass and message are there, and the rule stays when the message joins
-  abbrev pub MaySend : (State T → List V → Type 0) → (V → T → V → Type 0)
-      → (V → State T → Type 0) → RuledChannel T V P → Option (Pass T V × T) → Type 0
+  abbrev pub MaySend : (K → State T → List V → Type 0) → (V → T → V → Type 0)
+      → (V → State T → Type 0) → RuledChannel T V P K → Option (Pass T V × T) → Type 0
   MaySend holds then fact channel held =
       IsSome held
       × IfSome held (λ h. IsPassOf channel h.0
-      × Sends holds (number h.0) (view h.0) h.1 then
-      × Learns holds (number h.0) (view h.0) (fact (view h.0)))
+      × Sends (holds (key_of channel)) (number h.0) (view h.0) h.1 then
+      × Learns (holds (key_of channel)) (number h.0) (view h.0) (fact (view h.0)))
 
   -- The pass comes back, with what the send tells. A message that was not sent comes back with it,
   -- and then the view is as it was: the channel was closed, or memory was wanted.
-  abbrev pub GivesSent : (V → T → V → Type 0) → (V → State T → Type 0) → RuledChannel T V P
+  abbrev pub GivesSent : (V → T → V → Type 0) → (V → State T → Type 0) → RuledChannel T V P K
       → Option (Pass T V × T)
       → Pass T V × Result (Result (Unit {0}) (SendError T)) (NoMemory T) → Type 0
   GivesSent then fact channel held out =
@@ -34,7 +34,7 @@ module _ {T V P : Type 0} where
       × WantsToSend (fact (view h.0))))
 
   -- what was there comes back: the pass with its view as it was, and the message
-  abbrev pub AreBack : RuledChannel T V P → Option (Pass T V × T)
+  abbrev pub AreBack : RuledChannel T V P K → Option (Pass T V × T)
       → Option (Pass T V × T) → Type 0
   AreBack channel None back = back ≡ None
   AreBack channel (Some h) back = IsSomeAnd back

@@ -5,7 +5,7 @@
 ghost use Rattle.std.specs.Prelude.{◌≡◌, IfOk, IfErr, OnErr};
 ghost use Rattle.ruled_channel.specs.State.{IsClosed, IsEmpty};
 ghost use Rattle.ruled_channel.specs.Rule.{Sends, Receives, Ends, Learns, Fitted};
-ghost use Rattle.ruled_channel.specs.Passes.{IsPassOf, IsSamePass, LearnedOf, WantsToSend, number, view};
+ghost use Rattle.ruled_channel.specs.Passes.{IsPassOf, IsSamePass, LearnedOf, WantsToSend, key_of, number, view};
 ghost use Rattle.ruled_channel.specs.Steps.{HasMadeWith, HasReceived, HasSent, receive_given_up, send_given_up};
 
 use crate::channel::RuledChannel;
@@ -58,8 +58,9 @@ impl<T: Drop, V, P: Protocol<T, V>> RuledChannel<T, V, P> {
         message: T,
     ) -> Result<Result<(), SendError<T>>, NoMemory<T>>
         requires own { IsPassOf self.now pass.old }
-        requires rule { Sends P.holds (number pass.old) (view pass.old) message M.then }
-        requires lesson { Learns P.holds (number pass.old) (view pass.old)
+        requires rule { Sends (P.holds (key_of self.now)) (number pass.old) (view pass.old) message
+            M.then }
+        requires lesson { Learns (P.holds (key_of self.now)) (number pass.old) (view pass.old)
             (L.fact (view pass.old)) }
         ensures own { IsPassOf self.now pass.new × IsSamePass pass.old pass.new }
         ensures sent { IfOk result (λ answer. IfOk answer
@@ -122,8 +123,9 @@ impl<T: Drop, V, P: Protocol<T, V>> RuledChannel<T, V, P> {
         pass: &mut Pass<T, V>,
     ) -> Result<Result<T, RecvError>, OutOfMemory>
         requires own { IsPassOf self.now pass.old }
-        requires rule { Receives P.holds (number pass.old) (view pass.old) M.then }
-        requires end { Ends P.holds (number pass.old) (view pass.old) E.then }
+        requires rule { Receives (P.holds (key_of self.now)) (number pass.old) (view pass.old)
+            M.then }
+        requires end { Ends (P.holds (key_of self.now)) (number pass.old) (view pass.old) E.then }
         ensures own { IsPassOf self.now pass.new × IsSamePass pass.old pass.new }
         ensures received { IfOk result (λ answer. IfOk answer
             (λ message. M.then (view pass.old) message (view pass.new))) }

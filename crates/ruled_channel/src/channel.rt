@@ -6,7 +6,7 @@ ghost use Rattle.ruled_channel.specs.Rule.{Sends, Forces, Receives, Ends, Closes
 
 use crate::mark::Mark;
 use crate::outcomes::{
-    AtEnd, Closed, Displaced, Ended, Forced, Kept, Lesson, Popped, Pushed, Received, Sent, Shut,
+    AtEnd, Displaced, Ended, Forced, HasClosed, Kept, Lesson, Popped, Pushed, Received, Sent, Shut,
     Undisplaced,
 };
 use crate::pass::Pass;
@@ -68,22 +68,24 @@ impl<T: Drop, V, P: Protocol<T, V>> RuledChannel<T, V, P> {
     ghost use Rattle.std.specs.Prelude.{◌≢◌};
     ghost use Rattle.channel_core.specs.Channel.{closing, force_sent, is_channel_full, new_channel, oldest, received, sent, unchanged};
     ghost use Rattle.channel_model.specs.Tables.{force_send_answer, try_recv_answer, try_send_answer};
-    ghost use Rattle.ruled_channel.specs.Passes.{IsPassOf, IsSamePass, Refuses, FindsNone, LearnedOf, number, view};
+    ghost use Rattle.ruled_channel.specs.Passes.{IsPassOf, IsSamePass, Refuses, FindsNone, LearnedOf, key_of, number, view};
     ghost use Rattle.ruled_channel.specs.Steps.{HasMade, found};
     ghost use Rattle.ruled_channel.specs.Guarded.{within};
 
     pub(crate) fn over(
         alloc: Global,
         core: Core<T, Mark>,
+        key: &P::Key,
     ) -> Result<(RuledChannel<T, V, P>, Pass<T, V>), OutOfMemory>
         requires new { core ≡ new_channel core.capacity }
         requires place { core.capacity ≢ Some 0 }
-        requires rule { P.holds (new_state core.capacity) (P.first ∷ []) }
-        ensures own { IfOk result (λ r. IsPassOf r.0 r.1 × (view r.1 ≡ P.first)) }
+        requires rule { P.holds key.now (new_state core.capacity) (P.first key.now ∷ []) }
+        ensures own { IfOk result (λ r. IsPassOf r.0 r.1 × (view r.1 ≡ P.first key.now)) }
+        ensures key { IfOk result (λ r. key_of r.0 ≡ key.now) }
         ensures capacity { IfOk result (λ r. r.0.capacity ≡ core.capacity) }
     {
         let capacity = core.capacity();
-        let Ok((mutex, pass)) = RuledMutex::new(alloc, core) else {
+        let Ok((mutex, pass)) = RuledMutex::new_with_key(alloc, core, key) else {
             return Err(OutOfMemory);
         };
         let channel = RuledChannel {
@@ -153,7 +155,8 @@ impl<T: Drop, V, P: Protocol<T, V>> RuledChannel<T, V, P> {
     /// ```
     pub fn another<M: Split<V>>(&self, pass: &mut Pass<T, V>) -> Pass<T, V>
         requires own { IsPassOf self.now pass.old }
-        requires rule { Forks P.holds (number pass.old) (view pass.old) (M.left (view pass.old))
+        requires rule { Forks (P.holds (key_of self.now)) (number pass.old) (view pass.old)
+            (M.left (view pass.old))
             (M.right (view pass.old)) }
         ensures own { IsPassOf self.now pass.new × IsSamePass pass.old pass.new }
         ensures left { view pass.new ≡ M.left (view pass.old) }
@@ -171,7 +174,8 @@ impl<T: Drop, V, P: Protocol<T, V>> RuledChannel<T, V, P> {
     /// ```
     pub fn absorb<M: Join<V>>(&self, pass: &mut Pass<T, V>, other: Pass<T, V>)
         requires own { IsPassOf self.now pass.old × IsPassOf self.now other }
-        requires rule { Merges P.holds (number pass.old) (view pass.old) (number other) (view other)
+        requires rule { Merges (P.holds (key_of self.now)) (number pass.old) (view pass.old)
+            (number other) (view other)
             (M.both (view pass.old) (view other)) M.spent }
         ensures own { IsPassOf self.now pass.new × IsSamePass pass.old pass.new }
         ensures both { view pass.new ≡ M.both (view pass.old) (view other) }
@@ -187,6 +191,7 @@ impl<T: Drop, V, P: Protocol<T, V>> RuledChannel<T, V, P> {
     /// let sent = channel.try_send_as::<Unruled, Unruled, _>(&rt, &mut pass, 5)?;
     /// assert_eq!(rt; sent, Ok(()));
     /// ```
+    #[inline(always)]
     pub fn try_send_as<M: Sent<T, V>, L: Lesson<T, V>, R: Wait>(
         &self,
         rt: &R,
@@ -194,8 +199,9 @@ impl<T: Drop, V, P: Protocol<T, V>> RuledChannel<T, V, P> {
         message: T,
     ) -> Result<Result<(), TrySendError<T>>, NoMemory<T>>
         requires own { IsPassOf self.now pass.old }
-        requires rule { Sends P.holds (number pass.old) (view pass.old) message M.then }
-        requires lesson { Learns P.holds (number pass.old) (view pass.old)
+        requires rule { Sends (P.holds (key_of self.now)) (number pass.old) (view pass.old) message
+            M.then }
+        requires lesson { Learns (P.holds (key_of self.now)) (number pass.old) (view pass.old)
             (L.fact (view pass.old)) }
         ensures own { IsPassOf self.now pass.new × IsSamePass pass.old pass.new }
         ensures sent { IfOk result (λ answer. IfOk answer
@@ -248,8 +254,9 @@ impl<T: Drop, V, P: Protocol<T, V>> RuledChannel<T, V, P> {
         message: T,
     ) -> Result<Result<Option<T>, SendError<T>>, NoMemory<T>>
         requires own { IsPassOf self.now pass.old }
-        requires rule { Forces P.holds (number pass.old) (view pass.old) message M.then }
-        requires lesson { Learns P.holds (number pass.old) (view pass.old)
+        requires rule { Forces (P.holds (key_of self.now)) (number pass.old) (view pass.old) message
+            M.then }
+        requires lesson { Learns (P.holds (key_of self.now)) (number pass.old) (view pass.old)
             (L.fact (view pass.old)) }
         ensures own { IsPassOf self.now pass.new × IsSamePass pass.old pass.new }
         ensures sent { IfOk result (λ answer. IfOk answer
@@ -296,15 +303,17 @@ impl<T: Drop, V, P: Protocol<T, V>> RuledChannel<T, V, P> {
     /// let none = channel.try_recv_as::<Unruled, Unruled, Unruled, _>(&rt, &mut pass);
     /// assert_eq!(rt; none, Err(TryRecvError::Empty));
     /// ```
+    #[inline(always)]
     pub fn try_recv_as<M: Received<T, V>, E: AtEnd<V>, L: Lesson<T, V>, R: Wait>(
         &self,
         rt: &R,
         pass: &mut Pass<T, V>,
     ) -> Result<T, TryRecvError>
         requires own { IsPassOf self.now pass.old }
-        requires rule { Receives P.holds (number pass.old) (view pass.old) M.then }
-        requires end { Ends P.holds (number pass.old) (view pass.old) E.then }
-        requires lesson { Learns P.holds (number pass.old) (view pass.old)
+        requires rule { Receives (P.holds (key_of self.now)) (number pass.old) (view pass.old)
+            M.then }
+        requires end { Ends (P.holds (key_of self.now)) (number pass.old) (view pass.old) E.then }
+        requires lesson { Learns (P.holds (key_of self.now)) (number pass.old) (view pass.old)
             (L.fact (view pass.old)) }
         ensures own { IsPassOf self.now pass.new × IsSamePass pass.old pass.new }
         ensures received { IfOk result
@@ -342,9 +351,9 @@ impl<T: Drop, V, P: Protocol<T, V>> RuledChannel<T, V, P> {
     /// assert!(rt; channel.close_as::<Unruled, _>(&rt, &mut pass));
     /// assert!(rt; !channel.close_as::<Unruled, _>(&rt, &mut pass));
     /// ```
-    pub fn close_as<M: Closed<V>, R: Wait>(&self, rt: &R, pass: &mut Pass<T, V>) -> bool
+    pub fn close_as<M: HasClosed<V>, R: Wait>(&self, rt: &R, pass: &mut Pass<T, V>) -> bool
         requires own { IsPassOf self.now pass.old }
-        requires rule { Closes P.holds (number pass.old) (view pass.old) M.then }
+        requires rule { Closes (P.holds (key_of self.now)) (number pass.old) (view pass.old) M.then }
         ensures own { IsPassOf self.now pass.new × IsSamePass pass.old pass.new }
         ensures closed { M.then (view pass.old) result (view pass.new) }
         ensures reply { result ≡ not (found pass.new).closed }

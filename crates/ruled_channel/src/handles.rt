@@ -9,11 +9,11 @@ ghost use Rattle.channel_core.specs.Channel.{receiver_dropped_by, sender_dropped
 ghost use Rattle.channel_core.specs.declared.state.Upgrade.TheVariants.{Raised};
 ghost use Rattle.channel_core.specs.Counts.{count_added, count_upgraded, may_add, upgrade_answer};
 ghost use Rattle.ruled_channel.specs.Rule.{AddsSender, RaisesSender, AddsReceiver, RaisesReceiver, DropsSender, DropsReceiver};
-ghost use Rattle.ruled_channel.specs.Passes.{IsPassOf, IsSamePass, number, view};
+ghost use Rattle.ruled_channel.specs.Passes.{IsPassOf, IsSamePass, key_of, number, view};
 ghost use Rattle.ruled_channel.specs.Steps.{HasMade, found};
 
 use crate::channel::RuledChannel;
-use crate::outcomes::{Closed, Counted, Kept, Shut, Turned};
+use crate::outcomes::{Counted, HasClosed, Kept, Shut, Turned};
 use crate::pass::Pass;
 use crate::protocol::Protocol;
 use crate::ringer::Ringer;
@@ -33,7 +33,8 @@ impl<T: Drop, V, P: Protocol<T, V>> RuledChannel<T, V, P> {
     /// ```
     pub fn add_sender_as<M: Counted<V>, R: Wait>(&self, rt: &R, pass: &mut Pass<T, V>) -> bool
         requires own { IsPassOf self.now pass.old }
-        requires rule { AddsSender P.holds (number pass.old) (view pass.old) M.then }
+        requires rule { AddsSender (P.holds (key_of self.now)) (number pass.old) (view pass.old)
+            M.then }
         ensures own { IsPassOf self.now pass.new × IsSamePass pass.old pass.new }
         ensures counted { OnTrue result (M.then (view pass.old) (view pass.new)) }
         ensures same { OnFalse result (view pass.new ≡ view pass.old) }
@@ -64,7 +65,8 @@ impl<T: Drop, V, P: Protocol<T, V>> RuledChannel<T, V, P> {
     /// ```
     pub fn add_receiver_as<M: Counted<V>, R: Wait>(&self, rt: &R, pass: &mut Pass<T, V>) -> bool
         requires own { IsPassOf self.now pass.old }
-        requires rule { AddsReceiver P.holds (number pass.old) (view pass.old) M.then }
+        requires rule { AddsReceiver (P.holds (key_of self.now)) (number pass.old) (view pass.old)
+            M.then }
         ensures own { IsPassOf self.now pass.new × IsSamePass pass.old pass.new }
         ensures counted { OnTrue result (M.then (view pass.old) (view pass.new)) }
         ensures same { OnFalse result (view pass.new ≡ view pass.old) }
@@ -97,7 +99,8 @@ impl<T: Drop, V, P: Protocol<T, V>> RuledChannel<T, V, P> {
         pass: &mut Pass<T, V>,
     ) -> Upgrade
         requires own { IsPassOf self.now pass.old }
-        requires rule { RaisesSender P.holds (number pass.old) (view pass.old) M.then }
+        requires rule { RaisesSender (P.holds (key_of self.now)) (number pass.old) (view pass.old)
+            M.then }
         ensures own { IsPassOf self.now pass.new × IsSamePass pass.old pass.new }
         ensures counted { result ≡ Raised → M.then (view pass.old) (view pass.new) }
         ensures same { result ≢ Raised → view pass.new ≡ view pass.old }
@@ -133,7 +136,8 @@ impl<T: Drop, V, P: Protocol<T, V>> RuledChannel<T, V, P> {
         pass: &mut Pass<T, V>,
     ) -> Upgrade
         requires own { IsPassOf self.now pass.old }
-        requires rule { RaisesReceiver P.holds (number pass.old) (view pass.old) M.then }
+        requires rule { RaisesReceiver (P.holds (key_of self.now)) (number pass.old) (view pass.old)
+            M.then }
         ensures own { IsPassOf self.now pass.new × IsSamePass pass.old pass.new }
         ensures counted { result ≡ Raised → M.then (view pass.old) (view pass.new) }
         ensures same { result ≢ Raised → view pass.new ≡ view pass.old }
@@ -162,9 +166,10 @@ impl<T: Drop, V, P: Protocol<T, V>> RuledChannel<T, V, P> {
     /// let sent = channel.try_send_as::<Unruled, Unruled, _>(&rt, &mut pass, 5)?;
     /// assert_eq!(rt; sent, Err(TrySendError::Closed(5)));
     /// ```
-    pub fn drop_sender_as<M: Closed<V>, R: Wait>(&self, rt: &R, pass: &mut Pass<T, V>) -> bool
+    pub fn drop_sender_as<M: HasClosed<V>, R: Wait>(&self, rt: &R, pass: &mut Pass<T, V>) -> bool
         requires own { IsPassOf self.now pass.old }
-        requires rule { DropsSender P.holds (number pass.old) (view pass.old) M.then }
+        requires rule { DropsSender (P.holds (key_of self.now)) (number pass.old) (view pass.old)
+            M.then }
         ensures own { IsPassOf self.now pass.new × IsSamePass pass.old pass.new }
         ensures closed { M.then (view pass.old) result (view pass.new) }
         ensures reply { result ≡ (((found pass.new).senders == 1) && not (found pass.new).closed) }
@@ -186,9 +191,10 @@ impl<T: Drop, V, P: Protocol<T, V>> RuledChannel<T, V, P> {
     /// assert!(rt; channel.drop_receiver_as::<Unruled, _>(&rt, &mut pass));
     /// assert!(rt; !channel.close_as::<Unruled, _>(&rt, &mut pass));
     /// ```
-    pub fn drop_receiver_as<M: Closed<V>, R: Wait>(&self, rt: &R, pass: &mut Pass<T, V>) -> bool
+    pub fn drop_receiver_as<M: HasClosed<V>, R: Wait>(&self, rt: &R, pass: &mut Pass<T, V>) -> bool
         requires own { IsPassOf self.now pass.old }
-        requires rule { DropsReceiver P.holds (number pass.old) (view pass.old) M.then }
+        requires rule { DropsReceiver (P.holds (key_of self.now)) (number pass.old) (view pass.old)
+            M.then }
         ensures own { IsPassOf self.now pass.new × IsSamePass pass.old pass.new }
         ensures closed { M.then (view pass.old) result (view pass.new) }
         ensures reply { result ≡ (((found pass.new).receivers == 1) && not (found pass.new).closed) }
@@ -208,14 +214,15 @@ impl<T: Drop, V, P: Protocol<T, V>> RuledChannel<T, V, P> {
     /// assert!(rt; channel.drop_receiver_with_as::<Unruled, _>(&rt, &mut pass, &mut stream));
     /// Ticket::destroy_none(stream);
     /// ```
-    pub fn drop_receiver_with_as<M: Closed<V>, R: Wait>(
+    pub fn drop_receiver_with_as<M: HasClosed<V>, R: Wait>(
         &self,
         rt: &R,
         pass: &mut Pass<T, V>,
         stream: &mut Option<Ticket>,
     ) -> bool
         requires own { IsPassOf self.now pass.old }
-        requires rule { DropsReceiver P.holds (number pass.old) (view pass.old) M.then }
+        requires rule { DropsReceiver (P.holds (key_of self.now)) (number pass.old) (view pass.old)
+            M.then }
         ensures own { IsPassOf self.now pass.new × IsSamePass pass.old pass.new }
         ensures closed { M.then (view pass.old) result (view pass.new) }
         ensures ticket { stream.new ≡ None }

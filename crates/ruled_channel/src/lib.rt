@@ -1,12 +1,12 @@
 //! A channel under a caller's rule over what it is and what each pass knows.
 //!
-//! A [`Protocol`] states the rule, of the messages, the oldest first, of the closed flag, the
-//! counts and the capacity, and of the views of all passes. A [`Pass`] is what one thread has of the
-//! channel: a view, and no bytes. A call whose name ends in `_as` asks for a proof that the rule
-//! allows its step, whatever the others did before, and tells what its answer says of the view: a
-//! [`Sent`], a [`Received`] and so on. So what came through the channel is known once two views are
-//! joined. After a call the pass also tells its step: of which channel it was, what it made of
-//! that, and whom it woke.
+//! A [`Protocol`] states the rule, of a key that the channel was made with, of the messages, the
+//! oldest first, of the closed flag, the counts and the capacity, and of the views of all passes. A
+//! [`Pass`] is what one thread has of the channel: a view, and no bytes. A call whose name ends in
+//! `_as` asks for a proof that the rule allows its step, whatever the others did before, and tells
+//! what its answer says of the view: a [`Sent`], a [`Received`] and so on. So what came through the
+//! channel is known once two views are joined. After a call the pass also tells its step: of which
+//! channel it was, what it made of that, and whom it woke.
 //!
 //! Threads share the channel by reference, each with a pass of its own, made by
 //! [`RuledChannel::another`]. It is closed by a call, also by the one that gives up the last sender
@@ -46,11 +46,11 @@ pub use channel_core::{
 };
 pub use closing::UntilClosed;
 pub use look::{Status, Waiters};
-pub use make::{bounded_with, unbounded_with};
+pub use make::{bounded_with, bounded_with_key, unbounded_with, unbounded_with_key};
 pub use mark::{Mark, Marker, Sleeper, Slot, Waiter};
-pub use outcomes::{AtEnd, Closed, Counted, Forced, Lesson, Received, Sent};
+pub use outcomes::{AtEnd, Counted, Forced, HasClosed, Lesson, Received, Sent};
 pub use pass::Pass;
 pub use protocol::Protocol;
-pub use receiving::Recv;
+pub use receiving::RecvAs;
 pub use ruled_mutex::{Join, Split, Unruled};
-pub use sending::Send;
+pub use sending::SendAs;

@@ -4,7 +4,7 @@ ghost use Rattle.event_list.specs.Waiting.{keys, told_count};
 ghost use Rattle.channel_core.specs.Channel.{list_of, unchanged};
 ghost use Rattle.ruled_channel.specs.State.{state_of};
 ghost use Rattle.ruled_channel.specs.Rule.{Learns};
-ghost use Rattle.ruled_channel.specs.Passes.{IsPassOf, IsSamePass, number, view};
+ghost use Rattle.ruled_channel.specs.Passes.{IsPassOf, IsSamePass, key_of, number, view};
 ghost use Rattle.ruled_channel.specs.Steps.{HasMade, found, status_of};
 
 use crate::channel::RuledChannel;
@@ -65,7 +65,8 @@ impl<T: Drop, V, P: Protocol<T, V>> RuledChannel<T, V, P> {
     #[inline]
     pub fn learn_as<L: Lesson<T, V>, R: Wait>(&self, rt: &R, pass: &mut Pass<T, V>) -> Status
         requires own { IsPassOf self.now pass.old }
-        requires rule { Learns P.holds (number pass.old) (view pass.old) (L.fact (view pass.old)) }
+        requires rule { Learns (P.holds (key_of self.now)) (number pass.old) (view pass.old)
+            (L.fact (view pass.old)) }
         ensures own { IsPassOf self.now pass.new × IsSamePass pass.old pass.new }
         ensures same { view pass.new ≡ view pass.old }
         ensures learned { L.fact (view pass.old) (state_of (found pass.new)) }

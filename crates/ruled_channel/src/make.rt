@@ -1,7 +1,7 @@
 //! How a channel is made.
 ghost use Rattle.std.specs.Prelude.{◌≡◌, ◌<◌, [], ◌∷◌, Some, None, IfOk};
 ghost use Rattle.ruled_channel.specs.State.{new_state};
-ghost use Rattle.ruled_channel.specs.Passes.{IsPassOf, view};
+ghost use Rattle.ruled_channel.specs.Passes.{IsPassOf, key_of, view};
 
 use crate::channel::RuledChannel;
 use crate::pass::Pass;
@@ -19,16 +19,36 @@ use std::alloc::Global;
 /// let sent = channel.try_send_as::<Unruled, Unruled, _>(&rt, &mut pass, 6)?;
 /// assert_eq!(rt; sent, Err(TrySendError::Full(6)));
 /// ```
-pub fn bounded_with<T: Drop, V, P: Protocol<T, V>>(
+pub fn bounded_with<T: Drop, V, P: Protocol<T, V, Key = ()>>(
     alloc: Global,
     cap: usize,
 ) -> Result<(RuledChannel<T, V, P>, Pass<T, V>), OutOfMemory>
     requires cap { 0 < cap }
-    requires rule { P.holds (new_state (Some cap)) (P.first ∷ []) }
-    ensures own { IfOk result (λ r. IsPassOf r.0 r.1 × (view r.1 ≡ P.first)) }
+    requires rule { P.holds tt (new_state (Some cap)) (P.first tt ∷ []) }
+    ensures own { IfOk result (λ r. IsPassOf r.0 r.1 × (view r.1 ≡ P.first tt)) }
     ensures capacity { IfOk result (λ r. r.0.capacity ≡ Some cap) }
 {
-    RuledChannel::over(alloc, Core::bounded(alloc, cap)?)
+    bounded_with_key(alloc, cap, &())
+}
+
+/// [`bounded_with`] under a rule that speaks of a key.
+///
+/// ```
+/// let (channel, _): (RuledChannel<u64, (), Below>, _) = bounded_with_key(rt.alloc(), 1, &10)?;
+/// assert_eq!(rt; channel.capacity(), Some(1));
+/// ```
+pub fn bounded_with_key<T: Drop, V, P: Protocol<T, V>>(
+    alloc: Global,
+    cap: usize,
+    key: &P::Key,
+) -> Result<(RuledChannel<T, V, P>, Pass<T, V>), OutOfMemory>
+    requires cap { 0 < cap }
+    requires rule { P.holds key.now (new_state (Some cap)) (P.first key.now ∷ []) }
+    ensures own { IfOk result (λ r. IsPassOf r.0 r.1 × (view r.1 ≡ P.first key.now)) }
+    ensures key { IfOk result (λ r. key_of r.0 ≡ key.now) }
+    ensures capacity { IfOk result (λ r. r.0.capacity ≡ Some cap) }
+{
+    RuledChannel::over(alloc, Core::bounded(alloc, cap)?, key)
 }
 
 /// An open and empty channel without a capacity, and its first pass.
@@ -38,12 +58,30 @@ pub fn bounded_with<T: Drop, V, P: Protocol<T, V>>(
 /// let sent = channel.try_send_as::<Unruled, Unruled, _>(&rt, &mut pass, 5)?;
 /// assert_eq!(rt; sent, Ok(()));
 /// ```
-pub fn unbounded_with<T: Drop, V, P: Protocol<T, V>>(
+pub fn unbounded_with<T: Drop, V, P: Protocol<T, V, Key = ()>>(
     alloc: Global,
 ) -> Result<(RuledChannel<T, V, P>, Pass<T, V>), OutOfMemory>
-    requires rule { P.holds (new_state None) (P.first ∷ []) }
-    ensures own { IfOk result (λ r. IsPassOf r.0 r.1 × (view r.1 ≡ P.first)) }
+    requires rule { P.holds tt (new_state None) (P.first tt ∷ []) }
+    ensures own { IfOk result (λ r. IsPassOf r.0 r.1 × (view r.1 ≡ P.first tt)) }
     ensures capacity { IfOk result (λ r. r.0.capacity ≡ None) }
 {
-    RuledChannel::over(alloc, Core::unbounded(alloc))
+    unbounded_with_key(alloc, &())
+}
+
+/// [`unbounded_with`] under a rule that speaks of a key.
+///
+/// ```
+/// let (channel, _): (RuledChannel<u64, (), Below>, _) = unbounded_with_key(rt.alloc(), &10)?;
+/// assert_eq!(rt; channel.capacity(), None);
+/// ```
+pub fn unbounded_with_key<T: Drop, V, P: Protocol<T, V>>(
+    alloc: Global,
+    key: &P::Key,
+) -> Result<(RuledChannel<T, V, P>, Pass<T, V>), OutOfMemory>
+    requires rule { P.holds key.now (new_state None) (P.first key.now ∷ []) }
+    ensures own { IfOk result (λ r. IsPassOf r.0 r.1 × (view r.1 ≡ P.first key.now)) }
+    ensures key { IfOk result (λ r. key_of r.0 ≡ key.now) }
+    ensures capacity { IfOk result (λ r. r.0.capacity ≡ None) }
+{
+    RuledChannel::over(alloc, Core::unbounded(alloc), key)
 }

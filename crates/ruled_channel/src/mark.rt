@@ -152,9 +152,20 @@ pub trait Waiter<C> {
 /// let marker = Marker::new();
 /// drop(marker);
 /// ```
-#[derive(Drop)]
 pub struct Marker {
     slot: Option<Arc<Slot>>,
+}
+
+impl Drop for Marker {
+    fn drop(self) {
+        let Self { slot } = self;
+        // Who was woken has the slot alone, and so gives it up without a locked step.
+        if let Some(slot) = slot
+            && let Err(shared) = Arc::try_unwrap(slot)
+        {
+            drop(shared);
+        }
+    }
 }
 
 impl Marker {
@@ -169,20 +180,34 @@ impl Marker {
     }
 
     // The slot, which is made if there is none yet.
-    fn slot(&mut self, alloc: Global) -> Result<Arc<Slot>, OutOfMemory> {
-        let slot = match self.slot.take() {
-            Some(slot) => slot,
-            None => {
-                let empty = Slot {
-                    waker: Mutex::new(None),
-                };
-                Arc::new(alloc, empty).map_err(|_| OutOfMemory)?
-            }
-        };
-        let other = Arc::try_clone(&slot).map_err(|_| OutOfMemory);
-        self.slot = Some(slot);
-        other
+    fn slot(&mut self, alloc: Global) -> Result<&mut Arc<Slot>, OutOfMemory> {
+        if self.slot.is_none() {
+            let empty = Slot {
+                waker: Mutex::new(None),
+            };
+            self.slot = Some(Arc::new(alloc, empty).map_err(|_| OutOfMemory)?);
+        }
+        match &mut self.slot {
+            Some(slot) => Ok(slot),
+            None => unreachable!(),
+        }
     }
+}
+
+// Registers a task, whose waker lies in the slot then. The answer is whether one could be made. A
+// slot that nobody shares is written without its lock.
+fn register<R: Wait>(rt: &R, slot: &mut Arc<Slot>, source: &Source, cx: &mut Context<'_>) -> bool
+    ensures registered { Covers cx.new (λ s. s ≡ source.now.id) }
+    ensures kept { Keeps cx.old cx.new }
+{
+    if let Some(own) = Arc::get_mut(slot) {
+        let waker = own.waker.get_mut();
+        let _pending: Poll<()> = cx.register(source, waker);
+        return waker.is_some();
+    }
+    let mut waker = slot.waker.lock(rt);
+    let _pending: Poll<()> = cx.register(source, &mut *waker);
+    waker.is_some()
 }
 
 /// A task waits by its slot, and is registered with the source.
@@ -201,14 +226,12 @@ impl Waiter<Context<'_>> for Marker {
         cx: &mut Context<'_>,
     ) -> Result<Mark, OutOfMemory> {
         let slot = self.slot(alloc)?;
-        let mut waker = slot.waker.lock(rt);
-        let _pending: Poll<()> = cx.register(source, &mut *waker);
-        let is_made = waker.is_some();
-        drop(waker);
-        if is_made {
-            Ok(Mark::Task(slot))
-        } else {
-            Err(OutOfMemory)
+        if !register(rt, slot, source, cx) {
+            return Err(OutOfMemory);
+        }
+        match Arc::try_clone(slot) {
+            Ok(other) => Ok(Mark::Task(other)),
+            Err(_) => Err(OutOfMemory),
         }
     }
 }

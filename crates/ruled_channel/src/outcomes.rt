@@ -60,11 +60,11 @@ pub trait AtEnd<V> {
 /// after.
 ///
 /// ```
-/// impl<V> Closed<V> for Same {
+/// impl<V> HasClosed<V> for Same {
 ///     ghost then = { λ v has_closed w. w ≡ v };
 /// }
 /// ```
-pub trait Closed<V> {
+pub trait HasClosed<V> {
     ghost then: { V → Bool → V → Type 0 };
 }
 
@@ -106,7 +106,7 @@ impl<V> AtEnd<V> for Unruled {
     ghost then = { λ _ _. Unit {0} };
 }
 
-impl<V> Closed<V> for Unruled {
+impl<V> HasClosed<V> for Unruled {
     ghost then = { λ _ _ _. Unit {0} };
 }
 
@@ -184,7 +184,7 @@ pub(crate) struct Shut<M> {
     closed: PhantomData<M>,
 }
 
-impl<T, V, M: Closed<V>> Outcome<Core<T, Mark>, V> for Shut<M> {
+impl<T, V, M: HasClosed<V>> Outcome<Core<T, Mark>, V> for Shut<M> {
     ghost then = { shut M.then };
 }
 

@@ -3,7 +3,7 @@ ghost use Rattle.std.specs.Prelude.{◌≡◌};
 ghost use Rattle.crossbeam_utils.specs.Register.{TurnsAt};
 ghost use Rattle.ruled_mutex.specs.Passes.{found as found_by, made as made_of, Holds};
 ghost use Rattle.ruled_channel.specs.Guarded.{within};
-ghost use Rattle.ruled_channel.specs.Passes.{IsPassOf, IsSamePass, number, view};
+ghost use Rattle.ruled_channel.specs.Passes.{IsPassOf, IsSamePass, key_of, number, view};
 ghost use Rattle.ruled_channel.specs.Steps.{found, made, woken};
 ghost use Rattle.ruled_channel.specs.Rung.{in_turn_of_waking};
 
@@ -78,7 +78,8 @@ impl<T: Drop, V, P: Protocol<T, V>> RuledChannel<T, V, P> {
         bell: Ringer<'_, R>,
     )
         requires own { Holds self.now.mutex held pass.old.lock }
-        requires rule { TurnsAt (within P.holds) (number pass.old) (view pass.old)
+        requires rule { TurnsAt (within (P.holds (key_of self.now))) (number pass.old)
+            (view pass.old)
             (found_by held) (made_of held pass.old.lock) O.then }
         ensures own { IsPassOf self.now pass.new × IsSamePass pass.old pass.new }
         ensures rule { O.then (view pass.old) (found_by held) (made_of held pass.old.lock)

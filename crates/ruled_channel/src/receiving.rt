@@ -5,7 +5,7 @@ ghost use Rattle.futures.specs.Task.{Covers, Keeps};
 ghost use Rattle.futures.specs.Poll.{IfReady, OnPending};
 ghost use Rattle.ruled_channel.specs.State.{IsEmpty};
 ghost use Rattle.ruled_channel.specs.Rule.{Receives, Ends, Fitted};
-ghost use Rattle.ruled_channel.specs.Passes.{IsPassOf, LearnedOf, number, view};
+ghost use Rattle.ruled_channel.specs.Passes.{IsPassOf, LearnedOf, key_of, number, view};
 ghost use Rattle.ruled_channel.specs.Steps.{HasMade, HasMadeWith, receive_given_up};
 ghost use Rattle.ruled_channel.specs.Receiving.{MayPoll, Gives, IsBack};
 
@@ -28,17 +28,18 @@ use std::sync::Wait;
 ///
 /// ```
 /// let (channel, pass) = bounded_with::<u64, (), Unruled>(rt.alloc(), 1)?;
-/// let receive: Recv<'_, '_, _, _, _, _, _, _> = channel.recv_as::<Unruled, Unruled, _>(&rt, pass);
+/// let receive: RecvAs<'_, '_, _, _, _, _, _, _> =
+///     channel.recv_as::<Unruled, Unruled, _>(&rt, pass);
 /// assert!(rt; receive.into_pass().is_some());
 /// ```
-pub struct Recv<'r, 'c, T: Drop, V, P: Protocol<T, V>, M, E, R: Wait> {
+pub struct RecvAs<'r, 'c, T: Drop, V, P: Protocol<T, V>, M, E, R: Wait> {
     rt: &'r R,
     channel: &'c RuledChannel<T, V, P>,
     // None, once a poll was ready.
     pass: Option<Pass<T, V>>,
     ticket: Option<Ticket>,
     marker: Marker,
-    told: PhantomData<(M, E)>,
+    tells: PhantomData<(M, E)>,
     ghost owns: { ForSome pass (λ p. IsPassOf channel.now p) },
     // Only who has its pass may wait.
     ghost rests: { pass ≡ None → ticket ≡ None },
@@ -62,26 +63,26 @@ impl<T: Drop, V, P: Protocol<T, V>> RuledChannel<T, V, P> {
         &'c self,
         rt: &'r R,
         pass: Pass<T, V>,
-    ) -> Recv<'r, 'c, T, V, P, M, E, R>
+    ) -> RecvAs<'r, 'c, T, V, P, M, E, R>
         requires own { IsPassOf self.now pass }
-        requires rule { Receives P.holds (number pass) (view pass) M.then }
-        requires end { Ends P.holds (number pass) (view pass) E.then }
+        requires rule { Receives (P.holds (key_of self.now)) (number pass) (view pass) M.then }
+        requires end { Ends (P.holds (key_of self.now)) (number pass) (view pass) E.then }
         ensures { MayPoll P.holds M.then E.then result.channel.now result.pass
             × (result.pass ≡ Some pass) × (result.channel.now ≡ self.now) }
     {
-        Recv {
+        RecvAs {
             rt,
             channel: self,
             pass: Some(pass),
             ticket: None,
             marker: Marker::new(),
-            told: PhantomData,
+            tells: PhantomData,
         }
     }
 }
 
 impl<T: Drop, V, P: Protocol<T, V>, M: Received<T, V>, E: AtEnd<V>, R: Wait> Future
-    for Recv<'_, '_, T, V, P, M, E, R> {
+    for RecvAs<'_, '_, T, V, P, M, E, R> {
     type Output = (Pass<T, V>, Result<Result<T, RecvError>, OutOfMemory>);
 
     ghost can_poll = { λ f. MayPoll P.holds M.then E.then f.channel.now f.pass };
@@ -130,7 +131,7 @@ impl<T: Drop, V, P: Protocol<T, V>, M: Received<T, V>, E: AtEnd<V>, R: Wait> Fut
     }
 }
 
-impl<T: Drop, V, P: Protocol<T, V>, M, E, R: Wait> Recv<'_, '_, T, V, P, M, E, R> {
+impl<T: Drop, V, P: Protocol<T, V>, M, E, R: Wait> RecvAs<'_, '_, T, V, P, M, E, R> {
     /// Gives the receive up. It took no message, and its pass is as it was; there is none after a
     /// poll that was ready. A notice that it had goes on to the next one.
     ///
@@ -165,7 +166,7 @@ impl<T: Drop, V, P: Protocol<T, V>, M, E, R: Wait> Recv<'_, '_, T, V, P, M, E, R
     }
 }
 
-impl<T: Drop, V, P: Protocol<T, V>, M, E, R: Wait> Drop for Recv<'_, '_, T, V, P, M, E, R> {
+impl<T: Drop, V, P: Protocol<T, V>, M, E, R: Wait> Drop for RecvAs<'_, '_, T, V, P, M, E, R> {
     fn drop(mut self) {
         let _pass = self.leave();
         let Self {
@@ -174,7 +175,7 @@ impl<T: Drop, V, P: Protocol<T, V>, M, E, R: Wait> Drop for Recv<'_, '_, T, V, P
             pass: _,
             ticket,
             marker: _,
-            told: _,
+            tells: _,
         } = self;
         Ticket::destroy_none(ticket);
     }

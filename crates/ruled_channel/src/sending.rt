@@ -5,7 +5,7 @@ ghost use Rattle.futures.specs.Task.{Covers, Keeps};
 ghost use Rattle.futures.specs.Poll.{IfReady, OnPending};
 ghost use Rattle.ruled_channel.specs.State.{IsFull};
 ghost use Rattle.ruled_channel.specs.Rule.{Sends, Learns};
-ghost use Rattle.ruled_channel.specs.Passes.{IsPassOf, LearnedOf, number, view};
+ghost use Rattle.ruled_channel.specs.Passes.{IsPassOf, LearnedOf, key_of, number, view};
 ghost use Rattle.ruled_channel.specs.Steps.{HasMade, HasMadeWith, send_given_up};
 ghost use Rattle.ruled_channel.specs.Sending.{MaySend, GivesSent, AreBack};
 
@@ -28,17 +28,18 @@ use std::sync::Wait;
 ///
 /// ```
 /// let (channel, pass) = bounded_with::<u64, (), Unruled>(rt.alloc(), 1)?;
-/// let send: Send<'_, '_, _, _, _, _, _, _> = channel.send_as::<Unruled, Unruled, _>(&rt, pass, 5);
+/// let send: SendAs<'_, '_, _, _, _, _, _, _> =
+///     channel.send_as::<Unruled, Unruled, _>(&rt, pass, 5);
 /// assert!(rt; send.into_parts().is_some());
 /// ```
-pub struct Send<'r, 'c, T: Drop, V, P: Protocol<T, V>, M, L, R: Wait> {
+pub struct SendAs<'r, 'c, T: Drop, V, P: Protocol<T, V>, M, L, R: Wait> {
     rt: &'r R,
     channel: &'c RuledChannel<T, V, P>,
     // None, once a poll was ready.
     parts: Option<(Pass<T, V>, T)>,
     ticket: Option<Ticket>,
     marker: Marker,
-    told: PhantomData<(M, L)>,
+    tells: PhantomData<(M, L)>,
     ghost owns: { ForSome parts (λ h. IsPassOf channel.now h.0) },
     // Only who has its pass may wait.
     ghost rests: { parts ≡ None → ticket ≡ None },
@@ -64,26 +65,27 @@ impl<T: Drop, V, P: Protocol<T, V>> RuledChannel<T, V, P> {
         rt: &'r R,
         pass: Pass<T, V>,
         message: T,
-    ) -> Send<'r, 'c, T, V, P, M, L, R>
+    ) -> SendAs<'r, 'c, T, V, P, M, L, R>
         requires own { IsPassOf self.now pass }
-        requires rule { Sends P.holds (number pass) (view pass) message M.then }
-        requires lesson { Learns P.holds (number pass) (view pass) (L.fact (view pass)) }
+        requires rule { Sends (P.holds (key_of self.now)) (number pass) (view pass) message M.then }
+        requires lesson { Learns (P.holds (key_of self.now)) (number pass) (view pass)
+            (L.fact (view pass)) }
         ensures { MaySend P.holds M.then L.fact result.channel.now result.parts
             × (result.parts ≡ Some (pass, message)) × (result.channel.now ≡ self.now) }
     {
-        Send {
+        SendAs {
             rt,
             channel: self,
             parts: Some((pass, message)),
             ticket: None,
             marker: Marker::new(),
-            told: PhantomData,
+            tells: PhantomData,
         }
     }
 }
 
 impl<T: Drop, V, P: Protocol<T, V>, M: Sent<T, V>, L: Lesson<T, V>, R: Wait> Future
-    for Send<'_, '_, T, V, P, M, L, R> {
+    for SendAs<'_, '_, T, V, P, M, L, R> {
     type Output = (Pass<T, V>, Result<Result<(), SendError<T>>, NoMemory<T>>);
 
     ghost can_poll = { λ f. MaySend P.holds M.then L.fact f.channel.now f.parts };
@@ -131,7 +133,7 @@ impl<T: Drop, V, P: Protocol<T, V>, M: Sent<T, V>, L: Lesson<T, V>, R: Wait> Fut
     }
 }
 
-impl<T: Drop, V, P: Protocol<T, V>, M, L, R: Wait> Send<'_, '_, T, V, P, M, L, R> {
+impl<T: Drop, V, P: Protocol<T, V>, M, L, R: Wait> SendAs<'_, '_, T, V, P, M, L, R> {
     /// Gives the send up. Its message was not sent, and comes back with its pass, which is as it
     /// was; there are none after a poll that was ready. A notice that it had goes on to the next
     /// one.
@@ -167,7 +169,7 @@ impl<T: Drop, V, P: Protocol<T, V>, M, L, R: Wait> Send<'_, '_, T, V, P, M, L, R
     }
 }
 
-impl<T: Drop, V, P: Protocol<T, V>, M, L, R: Wait> Drop for Send<'_, '_, T, V, P, M, L, R> {
+impl<T: Drop, V, P: Protocol<T, V>, M, L, R: Wait> Drop for SendAs<'_, '_, T, V, P, M, L, R> {
     fn drop(mut self) {
         let _parts = self.leave();
         let Self {
@@ -176,7 +178,7 @@ impl<T: Drop, V, P: Protocol<T, V>, M, L, R: Wait> Drop for Send<'_, '_, T, V, P
             parts: _,
             ticket,
             marker: _,
-            told: _,
+            tells: _,
         } = self;
         Ticket::destroy_none(ticket);
     }

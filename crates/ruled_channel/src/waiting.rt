@@ -2,7 +2,7 @@
 //!
 //! A poll looks without a mark first. One that is ready needs none, nor memory for it; one that
 //! isn't has changed nothing. Then its mark is made, and left in the core's list under the same
-//! lock, so that whoever tells it finds it.
+//! lock, so that whoever tells it finds it. That is out of line, and the look is in its caller.
 ghost use Rattle.std.specs.Prelude.{◌≡◌, ◌==◌, ◌⊎◌, [], ◌++◌, Some, None, IfOk, IfErr, IfSome, IfNone, IsSome, OnOk, OnErr};
 ghost use Rattle.futures.specs.Poll.{IfReady};
 ghost use Rattle.futures.specs.declared.task.Poll.TheVariants.{Pending};
@@ -13,7 +13,7 @@ ghost use Rattle.channel_core.specs.Tickets.{left};
 ghost use Rattle.ruled_channel.specs.declared.mark.Mark.{Mark};
 ghost use Rattle.ruled_channel.specs.State.{IsEmpty};
 ghost use Rattle.ruled_channel.specs.Rule.{Sends, Receives, Ends, Learns, Fitted};
-ghost use Rattle.ruled_channel.specs.Passes.{IsPassOf, IsSamePass, LearnedOf, Refuses, IfFull, UnlessFull, WantsToSend, number, view};
+ghost use Rattle.ruled_channel.specs.Passes.{IsPassOf, IsSamePass, LearnedOf, Refuses, IfFull, UnlessFull, WantsToSend, key_of, number, view};
 ghost use Rattle.ruled_channel.specs.Steps.{HasMade, closed_left, found, made, receive_given_up, send_given_up, woken};
 
 use crate::channel::RuledChannel;
@@ -30,6 +30,7 @@ use std::sync::Wait;
 // ## Under the lock
 impl<T: Drop, V, P: Protocol<T, V>> RuledChannel<T, V, P> {
     #[tactic(auto, using(crate::proofs::Logging::logs, crate::proofs::Logging::logs_if_ready))]
+    #[inline(always)]
     pub(crate) fn poll_recv<C, W: Waiter<C>, R: Wait>(
         &self,
         core: &mut Core<T, Mark>,
@@ -52,12 +53,38 @@ impl<T: Drop, V, P: Protocol<T, V>> RuledChannel<T, V, P> {
             × (ticket.new ≡ ticket.old)) }
         ensures wanted { OnErr result (recv_poll (oldest core.old) core.old.closed ≡ Pending) }
     {
-        let polled = core.poll_recv_with(ticket, &mut None, bell, &mut None)?;
-        if let Poll::Ready(answer) = polled {
-            return Ok(Poll::Ready(answer));
+        if core.is_empty() && !core.is_closed() {
+            self.wait_to_recv(core, ticket, waiter, cx, bell)?;
+            return Ok(Poll::Pending);
         }
+        match core.poll_recv_with(ticket, &mut None, bell, &mut None)? {
+            Poll::Ready(answer) => Ok(Poll::Ready(answer)),
+            Poll::Pending => unreachable!(),
+        }
+    }
+
+    // A receive that can't go on waits.
+    #[inline(never)]
+    fn wait_to_recv<C, W: Waiter<C>, R: Wait>(
+        &self,
+        core: &mut Core<T, Mark>,
+        ticket: &mut Option<Ticket>,
+        waiter: &mut W,
+        cx: &mut C,
+        bell: &mut Ringer<'_, R>,
+    ) -> Result<(), OutOfMemory>
+        requires { recv_poll (oldest core.old) core.old.closed ≡ Pending }
+        ensures waits { OnOk result ((w : Mark) × W.waits_by cx.new self.now.source.id w
+            × RecvWaits ticket.old core.old w ticket.new core.new) }
+        ensures keeps { W.keeps cx.old cx.new }
+        ensures silent { bell.new ≡ bell.old }
+        ensures unchanged { OnErr result ((core.new ≡ core.old) × (ticket.new ≡ ticket.old)) }
+    {
         let mark = waiter.mark(bell.runtime(), self.alloc, &self.source, cx)?;
-        core.poll_recv(ticket, mark, bell)
+        match core.poll_recv(ticket, mark, bell)? {
+            Poll::Pending => Ok(()),
+            Poll::Ready(_) => unreachable!(),
+        }
     }
 
     #[tactic(auto, using(crate::proofs::Logging::logs, crate::proofs::Logging::logs_if_ready))]
@@ -92,6 +119,7 @@ impl<T: Drop, V, P: Protocol<T, V>> RuledChannel<T, V, P> {
     }
 
     #[tactic(auto, using(crate::proofs::Logging::logs, crate::proofs::Logging::logs_if_ready))]
+    #[inline(always)]
     pub(crate) fn poll_send<C, W: Waiter<C>, R: Wait>(
         &self,
         core: &mut Core<T, Mark>,
@@ -118,12 +146,44 @@ impl<T: Drop, V, P: Protocol<T, V>> RuledChannel<T, V, P> {
         ensures wanted { OnErr result (GrowsWithMessages core.old
             ⊎ (send_poll message.old core.old.closed (is_channel_full core.old) ≡ Pending)) }
     {
-        let polled = core.poll_send_with(message, ticket, &mut None, bell, &mut None)?;
-        if let Poll::Ready(answer) = polled {
-            return Ok(Poll::Ready(answer));
+        if core.is_full() && !core.is_closed() {
+            self.wait_to_send(core, message, ticket, waiter, cx, bell)?;
+            return Ok(Poll::Pending);
         }
+        match core.poll_send_with(message, ticket, &mut None, bell, &mut None)? {
+            Poll::Ready(answer) => Ok(Poll::Ready(answer)),
+            // A poll without a message.
+            Poll::Pending => {
+                self.wait_to_send(core, message, ticket, waiter, cx, bell)?;
+                Ok(Poll::Pending)
+            }
+        }
+    }
+
+    // A send that can't go on waits.
+    #[inline(never)]
+    fn wait_to_send<C, W: Waiter<C>, R: Wait>(
+        &self,
+        core: &mut Core<T, Mark>,
+        message: &mut Option<T>,
+        ticket: &mut Option<Ticket>,
+        waiter: &mut W,
+        cx: &mut C,
+        bell: &mut Ringer<'_, R>,
+    ) -> Result<(), OutOfMemory>
+        requires { send_poll message.old core.old.closed (is_channel_full core.old) ≡ Pending }
+        ensures waits { OnOk result ((w : Mark) × W.waits_by cx.new self.now.source.id w
+            × SendWaits message.old ticket.old core.old w ticket.new core.new) }
+        ensures kept { message.new ≡ message.old }
+        ensures keeps { W.keeps cx.old cx.new }
+        ensures silent { bell.new ≡ bell.old }
+        ensures unchanged { OnErr result ((core.new ≡ core.old) × (ticket.new ≡ ticket.old)) }
+    {
         let mark = waiter.mark(bell.runtime(), self.alloc, &self.source, cx)?;
-        core.poll_send(message, ticket, mark, bell)
+        match core.poll_send(message, ticket, mark, bell)? {
+            Poll::Pending => Ok(()),
+            Poll::Ready(_) => unreachable!(),
+        }
     }
 }
 
@@ -194,8 +254,9 @@ impl<T: Drop, V, P: Protocol<T, V>> RuledChannel<T, V, P> {
         R: Wait,
         W: Waiter<C>,
         requires own { IsPassOf self.now pass.old }
-        requires rule { Sends P.holds (number pass.old) (view pass.old) message M.then }
-        requires lesson { Learns P.holds (number pass.old) (view pass.old)
+        requires rule { Sends (P.holds (key_of self.now)) (number pass.old) (view pass.old) message
+            M.then }
+        requires lesson { Learns (P.holds (key_of self.now)) (number pass.old) (view pass.old)
             (L.fact (view pass.old)) }
         ensures own { IsPassOf self.now pass.new × IsSamePass pass.old pass.new }
         ensures sent { IfOk result (λ answer. IfOk answer
@@ -277,8 +338,9 @@ impl<T: Drop, V, P: Protocol<T, V>> RuledChannel<T, V, P> {
         R: Wait,
         W: Waiter<C>,
         requires own { IsPassOf self.now pass.old }
-        requires rule { Receives P.holds (number pass.old) (view pass.old) M.then }
-        requires end { Ends P.holds (number pass.old) (view pass.old) E.then }
+        requires rule { Receives (P.holds (key_of self.now)) (number pass.old) (view pass.old)
+            M.then }
+        requires end { Ends (P.holds (key_of self.now)) (number pass.old) (view pass.old) E.then }
         ensures own { IsPassOf self.now pass.new × IsSamePass pass.old pass.new }
         ensures received { IfOk result (λ poll. IfReady poll (λ answer. IfOk answer
             (λ message. M.then (view pass.old) message (view pass.new)))) }
@@ -355,8 +417,9 @@ impl<T: Drop, V, P: Protocol<T, V>> RuledChannel<T, V, P> {
         R: Wait,
         W: Waiter<C>,
         requires own { IsPassOf self.now pass.old }
-        requires rule { Receives P.holds (number pass.old) (view pass.old) M.then }
-        requires end { Ends P.holds (number pass.old) (view pass.old) E.then }
+        requires rule { Receives (P.holds (key_of self.now)) (number pass.old) (view pass.old)
+            M.then }
+        requires end { Ends (P.holds (key_of self.now)) (number pass.old) (view pass.old) E.then }
         ensures own { IsPassOf self.now pass.new × IsSamePass pass.old pass.new }
         ensures received { IfOk result (λ poll. IfReady poll (λ next. IfSome next
             (λ message. M.then (view pass.old) message (view pass.new)))) }

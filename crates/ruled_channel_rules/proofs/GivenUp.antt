@@ -12,7 +12,7 @@ use Rattle.ruled_channel_rules.specs.Sending.{MaySend, IsAsItWas}
 
 module _ {T P : Type 0} where
   -- a send gives the same back as one that wants memory
-  pub send_back : (channel : Channel T) (s : Sender T) (m : T) (below : RuledChannel T (Log T) P) (parts : Option (Pass T (Log T) × T)) (pass : Pass T (Log T)) (message : T)
+  pub send_back : (channel : Channel T) (s : Sender T) (m : T) (below : RuledChannel T (Log T) P (Unit {0})) (parts : Option (Pass T (Log T) × T)) (pass : Pass T (Log T)) (message : T)
       → MaySend channel s m below parts → AreBack below parts (Some (pass, message))
       → IsSenderOf channel (record { pass = pass }) × IsAsItWas s (record { pass = pass }) × (message ≡ m)
   send_back channel s m below None pass message may back = absurd (search rules)

@@ -42,7 +42,7 @@ module _ {T : Type 0} where
 
   -- The receive below is one at this channel, and keeps the pass of this receiver, which is as it
   -- was.
-  abbrev pub MayReceive : Channel T → Receiver T → RuledChannel T (Log T) Whole
+  abbrev pub MayReceive : Channel T → Receiver T → RuledChannel T (Log T) Whole (Unit {0})
       → Option (Pass T (Log T)) → Type 0
   MayReceive channel r below pass =
       (below ≡ channel.ruled)

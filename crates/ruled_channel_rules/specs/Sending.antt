@@ -54,15 +54,15 @@ module _ {T : Type 0} where
 
   module _ {P : Type 0} where
     -- what the send below gives
-    abbrev pub Gives : RuledChannel T (Log T) P → Option (Pass T (Log T) × T)
+    abbrev pub Gives : RuledChannel T (Log T) P (Unit {0}) → Option (Pass T (Log T) × T)
         → Pass T (Log T) × Result (Result (Unit {0}) (SendError T)) (NoMemory T)
         → Type 0
     Gives = GivesSent (λ v m w. w ≡ with_sent v m) (λ _ _. Unit {0})
 
     -- The send below may be polled, and whatever it gives is a send of this message by this sender.
-    abbrev pub MaySend : Channel T → Sender T → T → RuledChannel T (Log T) P
+    abbrev pub MaySend : Channel T → Sender T → T → RuledChannel T (Log T) P (Unit {0})
         → Option (Pass T (Log T) × T) → Type 0
     MaySend channel s m below parts =
-        MayPoll IsWhole (λ v m w. w ≡ with_sent v m) (λ _ _. Unit {0}) below parts
+        MayPoll (λ _. IsWhole) (λ v m w. w ≡ with_sent v m) (λ _ _. Unit {0}) below parts
         × ((x : Pass T (Log T) × Result (Result (Unit {0}) (SendError T)) (NoMemory T))
         → Gives below parts x → Comes channel s m (record { pass = x.0 }, x.1))

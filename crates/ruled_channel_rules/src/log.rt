@@ -3,7 +3,7 @@ ghost use Rattle.std.specs.Prelude.{◌≡◌, [], true, false};
 ghost use Rattle.ruled_channel_rules.specs.Merged.{HaveArrived, AllArrived};
 ghost use Rattle.ruled_channel_rules.specs.Whole.{IsWhole, hub_log, sender_log, receiver_log, spent_log, with_sent, with_got, with_closed, with_end, one_sender_more, one_receiver_more, together};
 
-use ruled_channel::{AtEnd, Closed, Join, Lesson, Protocol, Received, Sent, Split};
+use ruled_channel::{AtEnd, HasClosed, Join, Lesson, Protocol, Received, Sent, Split};
 use std::collections::LinkedList;
 
 /// What a pass knows. No value of it is made.
@@ -26,9 +26,11 @@ pub struct Log<T> {
 pub struct Whole;
 
 impl<T> Protocol<T, Log<T>> for Whole {
-    ghost holds = { IsWhole };
+    type Key = ();
 
-    ghost first = { hub_log 0 0 };
+    ghost holds = { λ _. IsWhole };
+
+    ghost first = { λ _. hub_log 0 0 };
 }
 
 impl<T> Sent<T, Log<T>> for Whole {
@@ -43,7 +45,7 @@ impl<T> AtEnd<Log<T>> for Whole {
     ghost then = { λ v w. w ≡ with_end v };
 }
 
-impl<T> Closed<Log<T>> for Whole {
+impl<T> HasClosed<Log<T>> for Whole {
     ghost then = { λ v has_closed w. (w ≡ with_closed v)
         × (v.closed ≡ true → has_closed ≡ false) × (v.ended ≡ true → has_closed ≡ false) };
 }

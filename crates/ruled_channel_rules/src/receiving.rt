@@ -28,7 +28,7 @@ use std::sync::Wait;
 pub struct Recv<'r, 'c, T: Drop, R: Wait> {
     channel: &'c Channel<T>,
     // None, once a poll was ready.
-    inner: Option<ruled_channel::Recv<'r, 'c, T, Log<T>, Whole, Whole, Whole, R>>,
+    inner: Option<ruled_channel::RecvAs<'r, 'c, T, Log<T>, Whole, Whole, Whole, R>>,
     // What it began with.
     receiver: Snapshot<Receiver<T>>,
 }

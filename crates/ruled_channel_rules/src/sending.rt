@@ -17,7 +17,7 @@ use std::snapshot::Snapshot;
 use std::sync::Wait;
 
 /// What became of a message.
-type Sent<T> = Result<Result<(), SendError<T>>, NoMemory<T>>;
+type SendResult<T> = Result<Result<(), SendError<T>>, NoMemory<T>>;
 
 /// How many steps a poll makes before the task's others have a turn.
 pub(crate) const BUDGET: u32 = 128;
@@ -36,7 +36,7 @@ pub struct Send<'r, 'c, T: Drop, R: Wait> {
     rt: &'r R,
     channel: &'c Channel<T>,
     // None, once a poll was ready.
-    inner: Option<ruled_channel::Send<'r, 'c, T, Log<T>, Whole, Whole, Unruled, R>>,
+    inner: Option<ruled_channel::SendAs<'r, 'c, T, Log<T>, Whole, Whole, Unruled, R>>,
     // What it began with.
     sender: Snapshot<Sender<T>>,
     message: Snapshot<T>,
@@ -84,7 +84,7 @@ impl<T: Drop> Sender<T> {
 }
 
 impl<T: Drop, R: Wait> Future for Send<'_, '_, T, R> {
-    type Output = (Sender<T>, Sent<T>);
+    type Output = (Sender<T>, SendResult<T>);
 
     ghost can_poll = { λ f. IsSomeAnd f.inner (λ b. MaySend f.channel.now f.sender.value
         f.message.value b.channel.now b.parts) };
@@ -151,7 +151,7 @@ impl<T: Drop, R: Wait> Send<'_, '_, T, R> {
     }
 
     // The answer of the send below. One that was refused learns that the channel is closed.
-    fn answer(&self, mut sender: Sender<T>, sent: Sent<T>) -> (Sender<T>, Sent<T>)
+    fn answer(&self, mut sender: Sender<T>, sent: SendResult<T>) -> (Sender<T>, SendResult<T>)
         requires { Comes self.now.channel.now self.now.sender.value self.now.message.value
             (sender, sent) }
         ensures { TellsSent self.now.channel.now self.now.sender.value self.now.message.value
@@ -201,7 +201,7 @@ pub enum Turn<S, F, M> {
 }
 
 /// The sender, what was not sent, and the answer of the last message.
-type SentEach<T> = (Sender<T>, VecDeque<T>, Sent<T>);
+type SendEachResult<T> = (Sender<T>, VecDeque<T>, SendResult<T>);
 
 impl<T: Drop> Sender<T> {
     ghost use Rattle.ruled_channel_rules.specs.SendingEach.{MaySendEach};
@@ -327,7 +327,7 @@ impl<T: Drop, R: Wait> SendEach<'_, '_, T, R> {
 
     // Makes one step: begins the next send, or polls the one that waits.
     #[tactic(auto, using(crate::proofs::Lists::one_sent, crate::proofs::Lists::all_sent))]
-    fn advance(&mut self, cx: &mut Context<'_>) -> Poll<Option<SentEach<T>>>
+    fn advance(&mut self, cx: &mut Context<'_>) -> Poll<Option<SendEachResult<T>>>
         requires { MaySendEach self.old.channel.now self.old.sender.value
             self.old.messages.value.items self.old.turn }
         ensures done { IfReady result (λ done. IfSome done (λ out.
@@ -374,7 +374,7 @@ impl<T: Drop, R: Wait> SendEach<'_, '_, T, R> {
 impl<T: Drop, R: Wait> Future for SendEach<'_, '_, T, R> {
     ghost use Rattle.ruled_channel_rules.specs.SendingEach.{MaySendEach, TellsSentEach, waits_at};
 
-    type Output = SentEach<T>;
+    type Output = SendEachResult<T>;
 
     ghost can_poll = { λ f. MaySendEach f.channel.now f.sender.value f.messages.value.items f.turn };
 

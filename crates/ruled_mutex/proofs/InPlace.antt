@@ -1,6 +1,6 @@
 -- Who holds the lock has slot 0, and no other.
 use Rattle.std.proofs.Common.{◌≡◌, ℕ, List, [], ◌∷◌, sym, ap, ◌∙◌}
-use mathlib.Core.Option.{none, some, some-injective, some-ne-none}
+use mathlib.Core.Option.{some, some-injective, some-ne-none}
 use Rattle.atomic_table.specs.Table.{rest}
 use Rattle.ruled_mutex.specs.Passes.{first_slot, first_value}
 

@@ -113,7 +113,7 @@ module _ {T V : Type 0} (holds : T → List V → Type 0) where
     kept = subst (holds r.value) (sym (map-append client s.views (w ∷ []))) kept;
   }
 
-  pub sits : (slots : ℕ) (v : V) → Admits holds v → Enters Rule slots 8 (λ r w. w ≡ outside v)
+  pub sits : (slots : ℕ) (v : V) → Admits holds v → Enters Rule slots 0 (λ r w. w ≡ outside v)
   sits slots v admits s r _ _ = (outside v, arrived s r (outside v) (λ _. tt) (admits r.value (map client s.views) r.kept), refl)
 
   pub splits : (id : ℕ) (d : D) (left right : V) → Forks holds id d.client left right → Splits Rule id d (doing d.stage left) (outside right)

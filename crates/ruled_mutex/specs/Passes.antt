@@ -44,25 +44,29 @@ module _ {T V : Type 0} where
   abbrev pub pass_with : Pass T V → T → Pass T V
   pass_with p w = record p { seat = seat_with p.seat 0 w }
 
-module _ {T V P A : Type 0} where
+module _ {T V P A K : Type 0} where
+  -- what it was made with
+  abbrev pub key_of : RuledMutex T V P A K → K
+  key_of m = m.table.shared.key
+
   -- it is a pass of this mutex, and does not hold its lock
-  abbrev pub IsPassOf : RuledMutex T V P A → Pass T V → Type 0
+  abbrev pub IsPassOf : RuledMutex T V P A K → Pass T V → Type 0
   IsPassOf m p =
       (p.seat.table_id ≡ m.table.shared.table_id) × (p.seat.me.0.stage ≡ Outside)
       × (p.seat.me.1 ≡ [])
 
   -- it is a pass of this mutex
-  abbrev pub IsIn : RuledMutex T V P A → Pass T V → Type 0
+  abbrev pub IsIn : RuledMutex T V P A K → Pass T V → Type 0
   IsIn m p = p.seat.table_id ≡ m.table.shared.table_id
 
   -- it gave the lock back while somebody slept, and has woken nobody yet
-  abbrev pub Owes : RuledMutex T V P A → Pass T V → Type 0
+  abbrev pub Owes : RuledMutex T V P A K → Pass T V → Type 0
   Owes m p =
       (p.seat.table_id ≡ m.table.shared.table_id) × (p.seat.me.0.stage ≡ OwesWake)
       × (p.seat.me.1 ≡ [])
 
   -- it is a pass of this mutex, and holds its lock
-  abbrev pub Holds : RuledMutex T V P A → Held T → Pass T V → Type 0
+  abbrev pub Holds : RuledMutex T V P A K → Held T → Pass T V → Type 0
   Holds m h p =
       (p.seat.table_id ≡ m.table.shared.table_id) × (p.seat.me.0.stage ≡ Holding (found h))
       × (first_slot p.seat.me.1 ≡ some 0) × (rest p.seat.me.1 ≡ [])

@@ -8,7 +8,7 @@ ghost use Rattle.ruled_mutex.specs.Passes.{Holds, made, pass_with};
 
 use crate::mutex::RuledMutex;
 use crate::pass::{Held, Pass};
-use crossbeam_utils::rule::Protocol;
+use crate::protocol::Protocol;
 use std::alloc::Allocator;
 
 impl<T, V> Pass<T, V> {

@@ -5,8 +5,9 @@ ghost use Rattle.crossbeam_utils.specs.Register.{Admits, Forks, Merges, TurnsAt}
 
 use crate::pass::{Doing, Held, Pass};
 use crate::plays::{Cut, Glue, Learn, Lock, Pay, Sit, Unlock};
+use crate::protocol::Protocol;
 use atomic_table::{Join, Refused, Split, Table, TableRule};
-use crossbeam_utils::rule::{Outcome, Protocol};
+use crossbeam_utils::rule::Outcome;
 use std::alloc::{AllocFailed, Allocator, Global};
 use std::hint;
 use std::marker::PhantomData;
@@ -29,12 +30,12 @@ pub struct Guards<P> {
     protocol: PhantomData<P>,
 }
 
-impl<T, V, P: Protocol<T, V>> TableRule<T, Doing<T, V>, ()> for Guards<P> {
+impl<T, V, P: Protocol<T, V>> TableRule<T, Doing<T, V>, P::Key> for Guards<P> {
     ghost use Rattle.ruled_mutex.specs.Rule.{Guarded, outside};
 
-    ghost holds = { λ _. Guarded P.holds };
+    ghost holds = { λ key. Guarded (P.holds key) };
 
-    ghost first = { λ _. outside P.first };
+    ghost first = { λ key. outside (P.first key) };
 }
 
 // The words of the table. The lock's has 64 bytes on each side that nobody writes, so nothing else
@@ -43,6 +44,9 @@ const WORDS: usize = 16;
 
 // Which of them is the lock's.
 const WORD: usize = 8;
+
+// Nobody writes this one, so who reads it fetches no cache line that another thread holds.
+const STILL: usize = 0;
 
 const FREE: u64 = 0;
 
@@ -76,12 +80,12 @@ fn pause() {
 /// ```
 #[derive(Drop)]
 pub struct RuledMutex<T, V, P: Protocol<T, V>, A: Allocator = Global> {
-    pub(crate) table: Table<T, Doing<T, V>, (), Guards<P>, A>,
+    pub(crate) table: Table<T, Doing<T, V>, P::Key, Guards<P>, A>,
     ghost shape: { (table.shared.table_id.words ≡ 16) × (table.shared.table_id.slots ≡ 1) },
 }
 
-impl<T, V, P: Protocol<T, V>, A: Allocator> RuledMutex<T, V, P, A> {
-    ghost use Rattle.ruled_mutex.specs.Passes.{IsPassOf, IsSamePass, Holds, IsIn, Owes, Learns, view, number, found, made};
+impl<T, V, P: Protocol<T, V, Key = ()>, A: Allocator> RuledMutex<T, V, P, A> {
+    ghost use Rattle.ruled_mutex.specs.Passes.{IsPassOf, view};
 
     /// The mutex and its first pass, with the view that the rule begins with. The value comes back
     /// if there is no memory.
@@ -97,8 +101,39 @@ impl<T, V, P: Protocol<T, V>, A: Allocator> RuledMutex<T, V, P, A> {
     pub fn new(alloc: A, value: T) -> Result<(RuledMutex<T, V, P, A>, Pass<T, V>), T>
     where
         A: Clone,
-        requires { P.holds value (P.first ∷ []) }
-        ensures ok { IfOk result (λ r. IsPassOf r.0 r.1 × (view r.1 ≡ P.first)) }
+        requires { P.holds tt value (P.first tt ∷ []) }
+        ensures ok { IfOk result (λ r. IsPassOf r.0 r.1 × (view r.1 ≡ P.first tt)) }
+        ensures err { IfErr result (λ back. back ≡ value) }
+    {
+        RuledMutex::new_with_key(alloc, value, &())
+    }
+}
+
+impl<T, V, P: Protocol<T, V>, A: Allocator> RuledMutex<T, V, P, A> {
+    ghost use Rattle.ruled_mutex.specs.Passes.{IsPassOf, IsSamePass, Holds, IsIn, Owes, Learns, key_of, view, number, found, made};
+
+    /// A mutex of this key, and its first pass, with the view that the rule begins with. The value
+    /// comes back if there is no memory.
+    ///
+    /// ```
+    /// let made = RuledMutex::<u64, (), AtMost>::new_with_key(rt.alloc(), 4, &6);
+    /// let Ok((mutex, mut pass)) = made else {
+    ///     panic!(&rt; "out of memory");
+    /// };
+    /// let held = mutex.lock(&rt, &mut pass);
+    /// assert!(rt; *pass.value_mut(&mutex, &held) == 4);
+    /// mutex.unlock_as::<Unruled>(&mut pass, held);
+    /// ```
+    pub fn new_with_key(
+        alloc: A,
+        value: T,
+        key: &P::Key,
+    ) -> Result<(RuledMutex<T, V, P, A>, Pass<T, V>), T>
+    where
+        A: Clone,
+        requires { P.holds key.now value (P.first key.now ∷ []) }
+        ensures ok { IfOk result (λ r. IsPassOf r.0 r.1 × (view r.1 ≡ P.first key.now)
+            × (key_of r.0 ≡ key.now)) }
         ensures err { IfErr result (λ back. back ≡ value) }
     {
         let Ok(heap) = alloc.clone() else {
@@ -110,7 +145,7 @@ impl<T, V, P: Protocol<T, V>, A: Allocator> RuledMutex<T, V, P, A> {
             let AllocFailed { value } = failed;
             return Err(value);
         }
-        match Table::new(alloc, &[FREE; WORDS], slots, &()) {
+        match Table::new(alloc, &[FREE; WORDS], slots, key) {
             Ok((table, seat)) => Ok((RuledMutex { table }, Pass { seat })),
             Err(Refused { mut slots }) => {
                 let Some(value) = slots.pop() else {
@@ -134,10 +169,10 @@ impl<T, V, P: Protocol<T, V>, A: Allocator> RuledMutex<T, V, P, A> {
     /// mutex.unlock_as::<Unruled>(&mut other, held);
     /// ```
     pub fn pass(&self) -> Pass<T, V>
-        requires { Admits P.holds P.first }
-        ensures { IsPassOf self.now result × (view result ≡ P.first) }
+        requires { Admits (P.holds (key_of self.now)) (P.first (key_of self.now)) }
+        ensures { IsPassOf self.now result × (view result ≡ P.first (key_of self.now)) }
     {
-        let (_, seat) = self.table.shared.load_new_seat::<Sit>(WORD);
+        let (_, seat) = self.table.shared.load_new_seat::<Sit>(STILL);
         Pass { seat }
     }
 
@@ -166,8 +201,8 @@ impl<T, V, P: Protocol<T, V>, A: Allocator> RuledMutex<T, V, P, A> {
     /// ```
     pub fn another<M: Split<V>>(&self, pass: &mut Pass<T, V>) -> Pass<T, V>
         requires own { IsPassOf self.now pass.old }
-        requires rule { Forks P.holds (number pass.old) (view pass.old) (M.left (view pass.old))
-            (M.right (view pass.old)) }
+        requires rule { Forks (P.holds (key_of self.now)) (number pass.old) (view pass.old)
+            (M.left (view pass.old)) (M.right (view pass.old)) }
         ensures own { IsPassOf self.now pass.new × IsSamePass pass.old pass.new }
         ensures left { view pass.new ≡ M.left (view pass.old) }
         ensures right { IsPassOf self.now result × (view result ≡ M.right (view pass.old)) }
@@ -187,8 +222,8 @@ impl<T, V, P: Protocol<T, V>, A: Allocator> RuledMutex<T, V, P, A> {
     /// ```
     pub fn absorb<M: Join<V>>(&self, pass: &mut Pass<T, V>, other: Pass<T, V>)
         requires own { IsPassOf self.now pass.old × IsPassOf self.now other }
-        requires rule { Merges P.holds (number pass.old) (view pass.old) (number other) (view other)
-            (M.both (view pass.old) (view other)) M.spent }
+        requires rule { Merges (P.holds (key_of self.now)) (number pass.old) (view pass.old)
+            (number other) (view other) (M.both (view pass.old) (view other)) M.spent }
         ensures own { IsPassOf self.now pass.new × IsSamePass pass.old pass.new }
         ensures both { view pass.new ≡ M.both (view pass.old) (view other) }
     {
@@ -259,8 +294,8 @@ impl<T, V, P: Protocol<T, V>, A: Allocator> RuledMutex<T, V, P, A> {
     /// ```
     pub fn learn_as<L: Lesson<T, V>>(&self, pass: &mut Pass<T, V>, held: &Held<T>)
         requires own { Holds self.now held.now pass.old }
-        requires rule { Learns P.holds (number pass.old) (view pass.old) (found held.now)
-            (L.fact (view pass.old) (found held.now)) }
+        requires rule { Learns (P.holds (key_of self.now)) (number pass.old) (view pass.old)
+            (found held.now) (L.fact (view pass.old) (found held.now)) }
         ensures same { IsSamePass pass.old pass.new × (view pass.new ≡ view pass.old) }
         ensures held { Holds self.now held.now pass.new
             × (made held.now pass.new ≡ made held.now pass.old) }
@@ -286,8 +321,8 @@ impl<T, V, P: Protocol<T, V>, A: Allocator> RuledMutex<T, V, P, A> {
     #[inline]
     pub fn unlock_as<M: Outcome<T, V>>(&self, pass: &mut Pass<T, V>, held: Held<T>)
         requires own { Holds self.now held pass.old }
-        requires rule { TurnsAt P.holds (number pass.old) (view pass.old) (found held)
-            (made held pass.old) M.then }
+        requires rule { TurnsAt (P.holds (key_of self.now)) (number pass.old) (view pass.old)
+            (found held) (made held pass.old) M.then }
         ensures own { IsPassOf self.now pass.new × IsSamePass pass.old pass.new }
         ensures rule { M.then (view pass.old) (found held) (made held pass.old) (view pass.new) }
     {
@@ -304,7 +339,7 @@ impl<T, V, P: Protocol<T, V>, A: Allocator> RuledMutex<T, V, P, A> {
 
 /// Calls made of the others.
 impl<T, V, P: Protocol<T, V>, A: Allocator> RuledMutex<T, V, P, A> {
-    ghost use Rattle.ruled_mutex.specs.Passes.{IsPassOf, IsSamePass, view, number};
+    ghost use Rattle.ruled_mutex.specs.Passes.{IsPassOf, IsSamePass, key_of, view, number};
 
     /// Takes the lock, lends the value to `f`, and gives the lock back. The rule has to allow each
     /// step that `f` may make.
@@ -330,7 +365,7 @@ impl<T, V, P: Protocol<T, V>, A: Allocator> RuledMutex<T, V, P, A> {
         requires own { IsPassOf self.now pass.old }
         requires call { F.IsAlwaysCallable f }
         requires rule { (x y : T) (answer : O) → FnOnceReturnsAtMut F.FnOnce f x answer y →
-            TurnsAt P.holds (number pass.old) (view pass.old) x y M.then }
+            TurnsAt (P.holds (key_of self.now)) (number pass.old) (view pass.old) x y M.then }
         ensures own { IsPassOf self.now pass.new × IsSamePass pass.old pass.new }
         ensures rule { (x : T) × (y : T) × FnOnceReturnsAtMut F.FnOnce f x result y
             × M.then (view pass.old) x y (view pass.new) }

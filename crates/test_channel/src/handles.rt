@@ -274,6 +274,9 @@ impl<'a, R: Wait + Clone + Drop + RandomSource + AllocGlobal> Handles<'a, R> {
                 let mut into = Vec::new(self.alloc);
                 let (task, receiver) = (MockTask::new(self.rt)?, self.receiver(receiver)?);
                 let received = received_many(&task, way, receiver, &mut into, limit)?;
+                if into.capacity() / 2 > into.len().saturating_add(8) {
+                    return Err(anyhow!("a batch took more room than it needs"));
+                }
                 Ok(Answer::Received(received, into))
             }
             Line::TryIter { receiver, limit } => self.take_from_iter(receiver, limit),

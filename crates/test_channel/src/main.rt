@@ -10,6 +10,7 @@
 #![tactic(auto)]
 
 mod answer;
+mod blocked;
 mod draw;
 mod handles;
 mod judge;

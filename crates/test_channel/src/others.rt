@@ -1,9 +1,11 @@
 //! Rows that no script has. A call that is refused memory is made again, and the row goes on as if
 //! nothing had been.
-use crate::{lists, many, maps, records};
+use crate::blocked::Call;
+use crate::{blocked, lists, many, maps, records};
 use anyhow::Result;
 use std::alloc::AllocGlobal;
 use std::random::RandomSource;
+use std::rt::Clock;
 use std::sync::Wait;
 use std::thread::Threads;
 
@@ -16,13 +18,15 @@ enum Row {
     Recorder,
     /// At a capacity, so many messages go from one future to another in one task.
     List(usize, usize),
+    /// By two threads.
+    Blocked(Call),
     /// By so many workers.
     Map(usize),
     MapInChunks(usize),
 }
 
 /// All rows, by their names.
-const ROWS: [(&str, Row); 12] = [
+const ROWS: [(&str, Row); 15] = [
     ("a send of many that waits", Row::SendMany(2, 5, 3)),
     (
         "a send of many without a capacity",
@@ -34,6 +38,12 @@ const ROWS: [(&str, Row); 12] = [
     ("an empty list by name", Row::List(1, 0)),
     ("a list by name", Row::List(1, 1000)),
     ("a long list by name", Row::List(1024, 100_000)),
+    ("a blocked send by name", Row::Blocked(Call::Send)),
+    ("a blocked receive by name", Row::Blocked(Call::Receive)),
+    (
+        "a blocked receive of all by name",
+        Row::Blocked(Call::ReceiveAll),
+    ),
     ("a map by one thread", Row::Map(1)),
     ("a map by three threads", Row::Map(3)),
     ("a map in chunks by one thread", Row::MapInChunks(1)),
@@ -44,13 +54,14 @@ impl Row {
     /// Makes the row, and answers how many calls were refused memory and made again.
     fn make<R>(self, rt: &R) -> Result<usize>
     where
-        R: Wait + Threads + Clone + Drop + Send + Sync + RandomSource + AllocGlobal,
+        R: Wait + Threads + Clone + Drop + Send + Sync + Clock + RandomSource + AllocGlobal,
     {
         match self {
             Row::SendMany(capacity, count, polls) => many::send(rt, capacity, count, polls),
             Row::ReceiveMany(count) => many::receive(rt, count),
             Row::Recorder => records::calls(rt),
             Row::List(capacity, count) => lists::relay(rt, capacity, count),
+            Row::Blocked(call) => blocked::make_call(rt, call),
             Row::Map(workers) => maps::map(rt, false, workers),
             Row::MapInChunks(workers) => maps::map(rt, true, workers),
         }
@@ -60,7 +71,7 @@ impl Row {
 /// Makes the rows of this name, or all, and answers whether a call was made again.
 pub fn make<R>(rt: &R, asked: Option<&str>) -> Result<bool>
 where
-    R: Wait + Threads + Clone + Drop + Send + Sync + RandomSource + AllocGlobal + Print,
+    R: Wait + Threads + Clone + Drop + Send + Sync + Clock + RandomSource + AllocGlobal + Print,
 {
     let mut was_refused = false;
     for (name, row) in ROWS {

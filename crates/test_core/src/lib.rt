@@ -16,10 +16,6 @@ mod lists;
 #[cfg(test)]
 mod log;
 #[cfg(test)]
-mod plain;
-#[cfg(test)]
-mod plain_agrees;
-#[cfg(test)]
 mod replay;
 #[cfg(test)]
 mod scripts;

@@ -5,7 +5,7 @@ use std::alloc::Global;
 use std::process::Abort;
 
 /// The ticket of a new entry.
-pub fn listen(rt: &impl Abort, list: &mut WaitList<u64>, payload: u64) -> Ticket {
+fn listen(rt: &impl Abort, list: &mut WaitList<u64>, payload: u64) -> Ticket {
     match list.listen(payload) {
         Ok(ticket) => ticket,
         Err(_) => panic!(rt; "there is memory for an entry"),

@@ -65,11 +65,14 @@ impl Call {
                 Ok(Err(RecvError)) => Closed,
                 Err(_) => Otherwise,
             },
-            Call::RecvMany => match r.recv_many_blocking(&mut Vec::new(alloc), usize::MAX) {
-                Ok(Ok(count)) => Batch(count),
-                Ok(Err(RecvError)) => Closed,
-                Err(_) => Otherwise,
-            },
+            Call::RecvMany => {
+                let mut into = Vec::new(alloc);
+                match r.recv_many_blocking(&mut into, usize::MAX) {
+                    Ok(Ok(count)) if into.capacity() < 100 => Batch(count),
+                    Ok(Err(RecvError)) => Closed,
+                    _ => Otherwise,
+                }
+            }
             Call::Send(message) => match s.send_blocking(message) {
                 Ok(Ok(())) => Done,
                 Ok(Err(SendError(back))) if back == message => Closed,
@@ -288,6 +291,33 @@ fn a_blocked_send_sleeps_until_it_is_told(rt: HostRuntime) -> Result<(), Fail> {
     assert!(rt; matches!(&task.poll(&mut send), Poll::Ready(Ok(Ok(())))));
     assert_eq!(rt; r.try_recv(), Ok(2));
     assert_eq!(rt; thread.join(&rt), Done);
+    Ok(())
+}
+
+#[test]
+fn a_told_call_wakes_no_other(rt: HostRuntime) -> Result<(), Fail> {
+    for (call, act, ended) in [
+        (Call::Recv, TrySend(7), Got(7)),
+        (Call::Send(2), TryRecv, Done),
+    ] {
+        let (s, r) = channel(&rt, Some(1))?;
+        if let Group::Sends = call.group() {
+            assert_eq!(rt; s.try_send(1), Ok(Ok(())));
+        }
+        let (task, weak) = (MockTask::new(&rt)?, s.downgrade()?);
+        let thread = blocked(&rt, call, &s, &r, &weak, 1)?;
+        give_time(&rt);
+        let (mut send, mut recv) = (s.send(3), r.recv());
+        assert!(rt;
+            match call.group() {
+                Group::Sends => task.poll(&mut send).is_pending(),
+                _ => task.poll(&mut recv).is_pending(),
+            }
+        );
+        assert!(rt; act.make(&s, &r) != Otherwise);
+        assert_eq!(rt; thread.join(&rt), ended);
+        assert!(rt; !task.is_woken(), "{call:?}");
+    }
     Ok(())
 }
 

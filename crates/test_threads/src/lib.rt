@@ -8,8 +8,6 @@ mod blocked;
 #[cfg(test)]
 mod books;
 #[cfg(test)]
-mod given_up;
-#[cfg(test)]
 mod lists;
 #[cfg(test)]
 mod locks;

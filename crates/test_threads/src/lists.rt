@@ -66,7 +66,7 @@ fn two_threads_relay_a_list(rt: HostRuntime) -> Result<(), Fail> {
 }
 
 #[test]
-fn lists_that_wait_keep_their_place(rt: HostRuntime) -> Result<(), Fail> {
+fn sends_that_wait_keep_their_place(rt: HostRuntime) -> Result<(), Fail> {
     let (channel, mut hub) = bounded(rt.alloc(), 1).expect(&rt, "a channel");
     let (task, other) = (MockTask::new(&rt)?, MockTask::new(&rt)?);
     let (sender, next) = (hub.sender(&channel), hub.sender(&channel));
@@ -74,9 +74,14 @@ fn lists_that_wait_keep_their_place(rt: HostRuntime) -> Result<(), Fail> {
     let mut later = next.send_each(&rt, &channel, numbers(rt.alloc(), 1)?);
     assert!(rt; task.poll(&mut send).is_pending() && other.poll(&mut later).is_pending());
     assert!(rt; task.poll(&mut send).is_pending());
-    let mut receiver = hub.receiver(&channel);
-    assert_eq!(rt; receiver.try_recv(&rt, &channel), Ok(0));
+    assert_eq!(rt; hub.receiver(&channel).try_recv(&rt, &channel), Ok(0));
     assert!(rt; task.is_woken() && !other.is_woken());
+    assert!(rt; task.poll(&mut send).is_ready() && !other.is_woken());
+    Ok(())
+}
+
+#[test]
+fn receives_that_wait_keep_their_place(rt: HostRuntime) -> Result<(), Fail> {
     let (channel, mut hub) = bounded(rt.alloc(), 1).expect(&rt, "a channel");
     let (task, other) = (MockTask::new(&rt)?, MockTask::new(&rt)?);
     let (receiver, next) = (hub.receiver(&channel), hub.receiver(&channel));

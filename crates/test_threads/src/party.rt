@@ -81,18 +81,4 @@ impl<'c> Party<'c> {
     pub fn close<R: Wait>(&mut self, rt: &R) -> bool {
         self.channel.close_as::<Unruled, R>(rt, &mut self.pass)
     }
-
-    /// Whether one more sender and one more receiver are counted.
-    pub fn add<R: Wait>(&mut self, rt: &R) -> bool {
-        let (channel, pass) = (self.channel, &mut self.pass);
-        channel.add_sender_as::<Unruled, R>(rt, pass)
-            && channel.add_receiver_as::<Unruled, R>(rt, pass)
-    }
-
-    /// Gives up a sender and a receiver. Whether one of them was the last one.
-    pub fn give_up<R: Wait>(&mut self, rt: &R) -> bool {
-        let (channel, pass) = (self.channel, &mut self.pass);
-        channel.drop_sender_as::<Unruled, R>(rt, pass)
-            || channel.drop_receiver_as::<Unruled, R>(rt, pass)
-    }
 }

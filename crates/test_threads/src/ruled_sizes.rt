@@ -35,15 +35,3 @@ fn two_hundred_thousand_messages_need_no_bound(rt: HostRuntime) -> Result<(), Fa
     assert!(rt; fill(&rt, &mut party));
     Ok(())
 }
-
-#[test]
-fn a_hundred_thousand_senders_and_receivers_are_counted(rt: HostRuntime) -> Result<(), Fail> {
-    let Ok((channel, pass)) = bounded_with::<u32, (), Unruled>(rt.alloc(), 1) else {
-        return Err(AllocError.into());
-    };
-    let mut party = Party::new(&channel, pass);
-    assert!(rt; (0..MANY).all(|_| party.add(&rt)));
-    assert!(rt; !(0..MANY).any(|_| party.give_up(&rt)));
-    assert!(rt; party.give_up(&rt) && !party.add(&rt));
-    Ok(())
-}

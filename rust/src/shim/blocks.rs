@@ -53,6 +53,7 @@ impl<T> Later<T> {
             _ => self.push_block(value),
         }
     }
+    #[inline(never)]
     fn push_block(&mut self, value: T) {
         let mut block = take(&mut self.spare);
         self.moved = if block.capacity() == 0 { 0 } else { self.moved + 1 };
@@ -128,7 +129,8 @@ impl<T> Blocks<T> {
         }
         value
     }
-    /// Goes on to the next block.
+    /// Goes on to the next block. Not in line, so that a call that doesn't is a short piece.
+    #[inline(never)]
     fn go_on(&mut self) {
         let Some(later) = &mut self.later else { return };
         later.pop_block(&mut self.first);

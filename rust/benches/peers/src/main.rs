@@ -106,8 +106,8 @@ fn print_rows(works: &[Work], measured: &Measured, here: &str) {
 fn print_of_page(name: &str, rounds: usize) {
     let (works, about) = match name {
         "one_thread" => (works::all(), "One thread: the crate's ns of processor time"),
-        "threads" => (threads::all(), "Threads, and tasks on tokio: the crate's ns"),
-        "one_processor" => (threads::crowds(), "Threads on one processor: the crate's ns"),
+        "threads" => (threads::all(), "Threads, and tasks on tokio"),
+        "one_processor" => (threads::crowds(), "Threads on one processor"),
         "batches" => {
             (batches::all(), "Batches of 8, 32 and 128, by the blocking calls: ns a message")
         }
@@ -118,10 +118,15 @@ fn print_of_page(name: &str, rounds: usize) {
     let [flume, crossbeam, tokio] = ["flume", "crossbeam-channel", "tokio"].map(version);
     if name == "batches" {
         println!(
-            "said: {about}, beside single messages of crossbeam-channel {crossbeam}. Ratios are of \
-             batches of 32 to these, and to its best (`try_iter` of 1, 8, 32 or 128)."
+            "said: {about}, beside crossbeam-channel's single messages. Ratios are of batches of 32 \
+             to these, and to its best (`try_iter` of 1, 8, 32 or 128)."
         );
         batches::print(|work, peer| measured[&(work, peer)].median);
+        return;
+    }
+    if name != "one_thread" {
+        println!("said: {about}: ns elapsed, and the same ratios.");
+        print_rows(&works, &measured, "ratio");
         return;
     }
     println!(
@@ -129,7 +134,7 @@ fn print_of_page(name: &str, rounds: usize) {
          crossbeam-channel {crossbeam} and tokio {tokio}'s mpsc.",
         version(BASE)
     );
-    print_rows(&works, &measured, if name == "one_thread" { "here" } else { "ratio" });
+    print_rows(&works, &measured, "here");
 }
 
 fn main() {

@@ -3,10 +3,10 @@
 
 /// Names an entry of one waiting list. Its key is all that a contract sees of it.
 ///
-/// A ticket is neither `Copy` nor `Clone`, so an entry has one owner. It has no `Drop` either, so
-/// that nobody forgets an entry: a ticket goes back to the list, which takes the entry out and
-/// hands a notice on, or is an error of the compiler. To another list it means nothing, or
-/// whichever entry has the same key there; if no entry has it, the ticket alone goes.
+/// A ticket is neither `Copy` nor `Clone`, so an entry has one owner. In Rattle it has no `Drop`
+/// either: who forgets an entry gets an error of the compiler. A ticket goes back to the list,
+/// which takes the entry out and hands a notice on. To another list it means nothing, or whichever
+/// entry has the same key there; if no entry has it, the ticket alone goes.
 pub struct Ticket {
     pub(super) key: usize,
 }

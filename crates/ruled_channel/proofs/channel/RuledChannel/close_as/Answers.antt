@@ -1,3 +1,4 @@
+use Rattle.ruled_channel.specs.Passes.{key_of}
 use Rattle.ruled_channel.proofs.Made.{has_made}
 use Rattle.channel_core.specs.Channel.{closing}
 use Rattle.std.proofs.Common.{true, ap, refl, ◌∙◌}
@@ -13,10 +14,10 @@ returns-clause-step g c = let shows = c.value_mut-core.ensures.value ∙ c.lock-
 
 pub give_back-requires-clause-rule : goal.give_back-requires-clause-rule
 give_back-requires-clause-rule g c = let same = c.lock-held.ensures.same in let shows = c.value_mut-core.ensures.value ∙ c.lock-held.ensures.held.1 in
-    shuts c.value_mut-core.result.now c.close-was_open.new.self (found c.lock-held.result) g.P.Protocol.holds _ _ _ _ same.0.1 same.1 shows
-    closed_now g.M.Closed.then (ap state_of c.close-was_open.ensures.after ∙ closing_shuts c.value_mut-core.result.now) refl c.requires.rule
+    shuts c.value_mut-core.result.now c.close-was_open.new.self (found c.lock-held.result) (g.P.Protocol.holds (key_of c.args.self.now)) _ _ _ _ same.0.1 same.1 shows
+    closed_now g.M.HasClosed.then (ap state_of c.close-was_open.ensures.after ∙ closing_shuts c.value_mut-core.result.now) refl c.requires.rule
 
 pub returns-clause-closed : goal.returns-clause-closed
 returns-clause-closed g c = let shows = c.value_mut-core.ensures.value ∙ c.lock-held.ensures.held.1 in let here = c.close-was_open.ensures in
-    told_closed c.value_mut-core.result.now c.close-was_open.new.self (found c.lock-held.result) g.M.Closed.then _ _ _ true _
+    told_closed c.value_mut-core.result.now c.close-was_open.new.self (found c.lock-held.result) g.M.HasClosed.then _ _ _ true _
     c.lock-held.ensures.same.1 shows (ap (λ (s : State _). s.closed) (ap state_of here.after ∙ closing_shuts c.value_mut-core.result.now)) here.reply c.give_back.ensures.rule

@@ -1,6 +1,7 @@
 use Rattle.std.proofs.Common.{ap, ◌∙◌}
 use Rattle.ruled_mutex.specs.Passes.{found}
 use Rattle.ruled_channel.specs.State.{state_of}
+use Rattle.ruled_channel.specs.Passes.{key_of}
 use Rattle.ruled_channel.proofs.Steps.{keeps}
 use Rattle.ruled_channel.proofs.Made.{has_made}
 use Rattle.ruled_channel.specs.Steps.{send_given_up}
@@ -8,7 +9,7 @@ use Rattle.ruled_channel.proofs.channel.RuledChannel.give_up_send.Goals as goal
 
 pub give_back-requires-clause-rule : goal.give_back-requires-clause-rule
 give_back-requires-clause-rule g c = let same = c.lock-held.ensures.same in let shows = c.value_mut-core.ensures.value ∙ c.lock-held.ensures.held.1 in
-    keeps c.value_mut-core.result.now c.cancel_send.new.self (found c.lock-held.result) g.P.Protocol.holds _ _ _ _ same.0.1 same.1 shows (λ _ _. Unit {0}) (ap state_of c.cancel_send.ensures.after) (λ _ _ _ _. tt)
+    keeps c.value_mut-core.result.now c.cancel_send.new.self (found c.lock-held.result) (g.P.Protocol.holds (key_of c.args.self.now)) _ _ _ _ same.0.1 same.1 shows (λ _ _. Unit {0}) (ap state_of c.cancel_send.ensures.after) (λ _ _ _ _. tt)
 
 pub returns-clause-step : goal.returns-clause-step
 returns-clause-step g c = let shows = c.value_mut-core.ensures.value ∙ c.lock-held.ensures.held.1 in let here = c.cancel_send.ensures in let told = c.give_back.ensures in

@@ -1,7 +1,7 @@
 use Rattle.std.proofs.Common.{ap, refl, sym, ◌∙◌}
 use Rattle.ruled_mutex.specs.Passes.{found}
 use Rattle.ruled_channel.specs.State.{IsUnbounded, state_of}
-use Rattle.ruled_channel.specs.Passes.{view}
+use Rattle.ruled_channel.specs.Passes.{key_of, view}
 use Rattle.ruled_channel.proofs.Answered.{learned, sent_err, sent_ok, refuses}
 use Rattle.ruled_channel.proofs.Steps.{keeps, pushes}
 use Rattle.ruled_channel.proofs.Made.{has_made}
@@ -11,15 +11,15 @@ use Rattle.ruled_channel.proofs.channel.RuledChannel.try_send_as.Goals as goal
 pub give_back-requires-in-Ok-Err-clause-rule : goal.give_back-requires-in-Ok-Err-clause-rule
 give_back-requires-in-Ok-Err-clause-rule g c = let same = c.lock-held.ensures.same in let shows = c.value_mut-core.ensures.value ∙ c.lock-held.ensures.held.1 in
     let none = sent_err c.value_mut-core.result.now c.try_send.new.self _ _ _ _ (sym c.in-Ok-Err.field-0-is ∙ c.in-Ok-Err.ensures.reply) c.in-Ok-Err.ensures.after in
-    keeps c.value_mut-core.result.now c.try_send.new.self (found c.lock-held.result) g.P.Protocol.holds _ _ _ _ same.0.1 same.1 shows g.L.Lesson.fact (ap state_of none) c.requires.lesson
+    keeps c.value_mut-core.result.now c.try_send.new.self (found c.lock-held.result) (g.P.Protocol.holds (key_of c.args.self.now)) _ _ _ _ same.0.1 same.1 shows g.L.Lesson.fact (ap state_of none) c.requires.lesson
 
 pub give_back-requires-in-Err-clause-rule : goal.give_back-requires-in-Err-clause-rule
 give_back-requires-in-Err-clause-rule g c = let same = c.lock-held.ensures.same in let shows = c.value_mut-core.ensures.value ∙ c.lock-held.ensures.held.1 in
-    keeps c.value_mut-core.result.now c.try_send.new.self (found c.lock-held.result) g.P.Protocol.holds _ _ _ _ same.0.1 same.1 shows g.L.Lesson.fact (ap state_of c.in-Err.ensures.unchanged) c.requires.lesson
+    keeps c.value_mut-core.result.now c.try_send.new.self (found c.lock-held.result) (g.P.Protocol.holds (key_of c.args.self.now)) _ _ _ _ same.0.1 same.1 shows g.L.Lesson.fact (ap state_of c.in-Err.ensures.unchanged) c.requires.lesson
 
 pub give_back-requires-clause-rule : goal.give_back-requires-clause-rule
 give_back-requires-clause-rule g c = let same = c.lock-held.ensures.same in let shows = c.value_mut-core.ensures.value ∙ c.lock-held.ensures.held.1 in let here = c.in-Ok-Ok in
-    pushes c.value_mut-core.result.now c.try_send.new.self (found c.lock-held.result) g.P.Protocol.holds _ _ _ _ same.0.1 same.1 shows c.args.message g.M.Sent.then
+    pushes c.value_mut-core.result.now c.try_send.new.self (found c.lock-held.result) (g.P.Protocol.holds (key_of c.args.self.now)) _ _ _ _ same.0.1 same.1 shows c.args.message g.M.Sent.then
     (sent_ok _ _ c.args.message _ _ refl refl (sym here.field-0-is ∙ here.ensures.reply) here.ensures.after) c.requires.rule
 
 pub returns-in-Ok-Err-clause-refused : goal.returns-in-Ok-Err-clause-refused

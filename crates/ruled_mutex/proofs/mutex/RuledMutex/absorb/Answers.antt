@@ -1,4 +1,4 @@
-use Rattle.std.proofs.Common.{rules, subst, sym}
+use Rattle.std.proofs.Common.{rules}
 use Rattle.ruled_mutex.proofs.Keeps.{joins}
 use Rattle.ruled_mutex.proofs.mutex.RuledMutex.absorb.Goals as goal
 

@@ -1,4 +1,3 @@
-use Rattle.std.proofs.Common.{rules}
 use Rattle.ruled_mutex.specs.Passes.{found}
 use Rattle.ruled_mutex.proofs.InPlace.{has_slot}
 use Rattle.ruled_mutex.proofs.pass.Pass.value_mut.Goals as goal

@@ -1,7 +1,7 @@
 use Rattle.std.proofs.Common.{rules, ◌≡◌, Some}
 use Rattle.ruled_channel.specs.Passes.{IsPassOf, IsSamePass, view}
 use Rattle.ruled_channel.proofs.Same.{may_poll_again}
-use Rattle.ruled_channel.proofs.receiving.RecvFuture.poll.Goals as goal
+use Rattle.ruled_channel.proofs.receiving.RecvAsFuture.poll.Goals as goal
 
 pub returns-in-Ok-Pending-clause-again : goal.returns-in-Ok-Pending-clause-again
 returns-in-Ok-Pending-clause-again g c = let pass = c.in-Some.pass in let now = c.recv_or_wait_as.new.pass in

@@ -1,0 +1,120 @@
+//! Calls by name that block until another thread makes its own. Who is refused memory when it
+//! begins to wait is told so.
+ghost use Rattle.ruled_channel_rules.specs.Handles.{IsHubOf, IsReceiverOf, IsSenderOf};
+
+use anyhow::{Result, anyhow};
+use ruled_channel_rules::{Channel, Hub, NoMemory, OutOfMemory, Receiver, Sender, bounded};
+use std::alloc::{AllocGlobal, Global};
+use std::rt::Clock;
+use std::sync::Wait;
+use std::thread::{Threads, join, sleep};
+use std::time::Duration;
+
+/// A call that blocks.
+#[derive(Clone, Copy)]
+pub enum Call {
+    Send,
+    Receive,
+    ReceiveAll,
+}
+
+/// Who shares a channel.
+#[derive(Drop)]
+struct Party<'c> {
+    channel: &'c Channel<u64>,
+    sender: Sender<u64>,
+    receiver: Receiver<u64>,
+    ghost owns: { IsSenderOf channel.now sender × IsReceiverOf channel.now receiver },
+}
+
+/// Gives others so much time that they sleep.
+fn give_time(rt: &impl Clock) {
+    sleep(rt, Duration::from_millis(20));
+}
+
+impl<'c> Party<'c> {
+    fn new(channel: &'c Channel<u64>, hub: &mut Hub<u64>) -> Party<'c>
+        requires { IsHubOf channel.now hub.old }
+        ensures { IsHubOf channel.now hub.new }
+    {
+        let (sender, receiver) = (hub.sender(channel), hub.receiver(channel));
+        Party {
+            channel,
+            sender,
+            receiver,
+        }
+    }
+
+    /// Makes the call, and again if it was refused memory. The answer is how often it was. What all
+    /// receive is 1.
+    fn block<R: Wait>(&mut self, rt: &R, alloc: Global, call: Call) -> Option<usize> {
+        let mut all = Vec::new(alloc);
+        for again in 0..2 {
+            let is_done = match call {
+                Call::Send => match self.sender.send_blocking(rt, self.channel, 1) {
+                    Err(NoMemory(_)) => false,
+                    sent => return (sent == Ok(Ok(()))).then_some(again),
+                },
+                Call::Receive => match self.receiver.recv_blocking(rt, self.channel) {
+                    Err(OutOfMemory) => false,
+                    got => return (got == Ok(Ok(1))).then_some(again),
+                },
+                Call::ReceiveAll => self.receiver.recv_all(rt, self.channel, &mut all).is_ok(),
+            };
+            if is_done {
+                return Some(again);
+            }
+        }
+        None
+    }
+
+    /// Tells a send that is blocked, or a receive.
+    fn tell<R: Wait>(&mut self, rt: &R, call: Call) -> bool {
+        match call {
+            Call::Send => self.receiver.try_recv(rt, self.channel).is_ok(),
+            _ => self.sender.try_send(rt, self.channel, 1) == Ok(Ok(())),
+        }
+    }
+
+    /// Lets a blocked call go on: in vain, if it doesn't wake at once, and then for good.
+    fn release<R: Wait + Clock>(&mut self, rt: &R, call: Call) -> bool {
+        give_time(rt);
+        let _in_vain = self.tell(rt, call);
+        match call {
+            Call::Send => drop(self.sender.try_send(rt, self.channel, 1)),
+            _ => drop(self.receiver.try_recv(rt, self.channel)),
+        }
+        give_time(rt);
+        let is_told = self.tell(rt, call);
+        if let Call::ReceiveAll = call {
+            self.sender.close(rt, self.channel);
+        }
+        is_told
+    }
+}
+
+/// Makes the call by a thread that another one lets go on. The answer is how often it was refused
+/// memory. A receive of all closes the channel then.
+pub fn make_call<R>(rt: &R, call: Call) -> Result<usize>
+where
+    R: Threads + Wait + Sync + Clock + AllocGlobal,
+{
+    let (channel, mut hub) = bounded(rt.alloc(), 1)?;
+    let mut one = Party::new(&channel, &mut hub);
+    let mut other = Party::new(&channel, &mut hub);
+    if let Call::Send = call {
+        // It sends what fills the channel.
+        let _is_full = other.tell(rt, Call::Receive);
+    }
+    let (alloc, all) = (rt.alloc(), matches!(call, Call::ReceiveAll));
+    // If there is no memory for a thread, the second is called first.
+    let (again, is_told) = join(
+        rt,
+        move || one.block(rt, alloc, call),
+        move || other.release(rt, call),
+    );
+    match again {
+        Some(again) if is_told != (all && again > 0) => Ok(again),
+        _ => Err(anyhow!("a blocked call went otherwise")),
+    }
+}
