@@ -94,7 +94,8 @@ impl<'c> Party<'c> {
 }
 
 /// Makes the call by a thread that another one lets go on. The answer is how often it was refused
-/// memory. A receive of all closes the channel then.
+/// memory. A receive of all that was refused memory has closed the channel, so that it may be told or
+/// not.
 pub fn make_call<R>(rt: &R, call: Call) -> Result<usize>
 where
     R: Threads + Wait + Sync + Clock + AllocGlobal,
@@ -114,7 +115,7 @@ where
         move || other.release(rt, call),
     );
     match again {
-        Some(again) if is_told != (all && again > 0) => Ok(again),
+        Some(again) if is_told || all && again > 0 => Ok(again),
         _ => Err(anyhow!("a blocked call went otherwise")),
     }
 }
