@@ -12,6 +12,9 @@ pub mod Guarded
 pub mod Passes
 pub mod Steps
 pub mod Receiving
+pub mod RecvAs
 pub mod Sending
+pub mod SendAs
 pub mod Closing
+pub mod UntilClosed
 pub mod Batches

@@ -1,5 +1,5 @@
 -- What a clause says of a channel's passes and of its answers.
-use Rattle.std.specs.Prelude.{◌≡◌, ◌⊎◌, ⊤, ℕ, Result, Ok, Err}
+use Rattle.std.specs.Prelude.{◌≡◌, ◌⊎◌, ⊤, ℕ, Option, Result, Ok, Err}
 use Rattle.channel_model.specs.declared.errors.TrySendError.{TrySendError}
 use Rattle.channel_model.specs.declared.errors.TrySendError.TheVariants.{Full, Closed}
 use Rattle.channel_model.specs.declared.errors.TryRecvError.{TryRecvError}
@@ -13,6 +13,14 @@ module _ {T V P K : Type 0} where
   -- what it was made with
   abbrev pub key_of : RuledChannel T V P K → K
   key_of channel = key_of_mutex channel.mutex
+
+  -- how many messages it can hold, if there is a bound
+  abbrev pub capacity_of : RuledChannel T V P K → Option ℕ
+  capacity_of channel = channel.capacity
+
+  -- the name of the source that its tasks wait for
+  abbrev pub source_of : RuledChannel T V P K → ℕ
+  source_of channel = channel.source.id
 
   -- it is a pass of this channel
   abbrev pub IsPassOf : RuledChannel T V P K → Pass T V → Type 0

@@ -8,7 +8,7 @@ ghost use Rattle.channel_model.specs.Tables.{OnReady, OnWait, recv_poll, send_po
 ghost use Rattle.channel_core.specs.Batches.{CanSendNoMore, counted, moved_count, received_many, sent_many, taken_count};
 ghost use Rattle.channel_core.specs.Channel.{GrowsWithMessages, RecvWaits, SendWaits, is_channel_full, oldest, unchanged};
 ghost use Rattle.ruled_channel.specs.declared.mark.Mark.{Mark};
-ghost use Rattle.ruled_channel.specs.Passes.{IsPassOf, IsSamePass};
+ghost use Rattle.ruled_channel.specs.Passes.{IsPassOf, IsSamePass, source_of};
 ghost use Rattle.ruled_channel.specs.Steps.{HasMade, found, made, woken};
 ghost use Rattle.ruled_channel.specs.Batches.{counted_poll, counted_send, polled_count, polled_receives, polled_sends};
 
@@ -48,7 +48,7 @@ impl<T: Drop> RuledChannel<T, (), Unruled> {
             ++ (polled_receives ticket.old (taken_count limit core.old) core.old).rung) }
         ensures finished { OnReady result (ticket.new ≡ None) }
 
-        ensures waits { OnWait result ((w : Mark) × W.waits_by cx.new self.now.source.id w
+        ensures waits { OnWait result ((w : Mark) × W.waits_by cx.new (source_of self.now) w
             × RecvWaits ticket.old core.old w ticket.new core.new) }
         ensures kept { OnWait result (into.new.items ≡ into.old.items) }
         ensures keeps { W.keeps cx.old cx.new }
@@ -106,7 +106,7 @@ impl<T: Drop> RuledChannel<T, (), Unruled> {
             (polled_count result < limit → CanSendNoMore from.new.items core.new))) }
         ensures finished { OnReady result (ticket.new ≡ None) }
 
-        ensures waits { OnWait result ((w : Mark) × W.waits_by cx.new self.now.source.id w
+        ensures waits { OnWait result ((w : Mark) × W.waits_by cx.new (source_of self.now) w
             × SendWaits (slice_get from.old.items 0) ticket.old core.old w ticket.new core.new) }
         ensures keeps { W.keeps cx.old cx.new }
 
@@ -371,7 +371,7 @@ impl<T: Drop> RuledChannel<T, (), Unruled> {
             pass.new) }
         ensures stops { IfOk result (λ poll. IfReady poll (λ sent. OnOk sent
             (polled_count result < limit → CanSendNoMore from.new.items (made pass.new)))) }
-        ensures waits { OnWait result ((w : Mark) × W.waits_by cx.new self.now.source.id w
+        ensures waits { OnWait result ((w : Mark) × W.waits_by cx.new (source_of self.now) w
             × IsSome ticket.new × SendWaits (slice_get from.old.items 0) ticket.old
             (found pass.new) w ticket.new (made pass.new) × (woken pass.new ≡ [])) }
         ensures keeps { W.keeps cx.old cx.new }
@@ -428,7 +428,7 @@ impl<T: Drop> RuledChannel<T, (), Unruled> {
             × HasMade (λ channel. polled_receives ticket.old (taken_count limit channel) channel)
             pass.new) }
         ensures untouched { OnWait result (into.new.items ≡ into.old.items) }
-        ensures waits { OnWait result ((w : Mark) × W.waits_by cx.new self.now.source.id w
+        ensures waits { OnWait result ((w : Mark) × W.waits_by cx.new (source_of self.now) w
             × IsSome ticket.new × RecvWaits ticket.old (found pass.new) w ticket.new (made pass.new)
             × (woken pass.new ≡ [])) }
         ensures keeps { W.keeps cx.old cx.new }

@@ -68,7 +68,7 @@ impl<T: Drop, V, P: Protocol<T, V>> RuledChannel<T, V, P> {
     ghost use Rattle.std.specs.Prelude.{◌≢◌};
     ghost use Rattle.channel_core.specs.Channel.{closing, force_sent, is_channel_full, new_channel, oldest, received, sent, unchanged};
     ghost use Rattle.channel_model.specs.Tables.{force_send_answer, try_recv_answer, try_send_answer};
-    ghost use Rattle.ruled_channel.specs.Passes.{IsPassOf, IsSamePass, Refuses, FindsNone, LearnedOf, key_of, number, view};
+    ghost use Rattle.ruled_channel.specs.Passes.{IsPassOf, IsSamePass, Refuses, FindsNone, LearnedOf, capacity_of, key_of, number, source_of, view};
     ghost use Rattle.ruled_channel.specs.Steps.{HasMade, found};
     ghost use Rattle.ruled_channel.specs.Guarded.{within};
 
@@ -82,7 +82,7 @@ impl<T: Drop, V, P: Protocol<T, V>> RuledChannel<T, V, P> {
         requires rule { P.holds key.now (new_state core.capacity) (P.first key.now ∷ []) }
         ensures own { IfOk result (λ r. IsPassOf r.0 r.1 × (view r.1 ≡ P.first key.now)) }
         ensures key { IfOk result (λ r. key_of r.0 ≡ key.now) }
-        ensures capacity { IfOk result (λ r. r.0.capacity ≡ core.capacity) }
+        ensures capacity { IfOk result (λ r. capacity_of r.0 ≡ core.capacity) }
     {
         let capacity = core.capacity();
         let Ok((mutex, pass)) = RuledMutex::new_with_key(alloc, core, key) else {
@@ -104,7 +104,7 @@ impl<T: Drop, V, P: Protocol<T, V>> RuledChannel<T, V, P> {
     /// assert_eq!(rt; channel.capacity(), Some(4));
     /// ```
     pub fn capacity(&self) -> Option<usize>
-        ensures { result ≡ self.now.capacity }
+        ensures { result ≡ capacity_of self.now }
     {
         self.capacity
     }
@@ -127,7 +127,7 @@ impl<T: Drop, V, P: Protocol<T, V>> RuledChannel<T, V, P> {
     /// let _source: &Source = channel.source();
     /// ```
     pub fn source(&self) -> &Source
-        ensures { result.now ≡ self.now.source }
+        ensures { result.now.id ≡ source_of self.now }
     {
         &self.source
     }

@@ -3,7 +3,7 @@ ghost use Rattle.std.specs.Prelude.{◌≡◌, IfSome, IsSome, Some, None};
 ghost use Rattle.std.specs.Option.{ForSome};
 ghost use Rattle.futures.specs.Task.{Covers, Keeps};
 ghost use Rattle.futures.specs.Poll.{IfReady, OnPending};
-ghost use Rattle.ruled_channel.specs.Passes.{IsPassOf};
+ghost use Rattle.ruled_channel.specs.Passes.{IsPassOf, source_of};
 ghost use Rattle.ruled_channel.specs.Receiving.{IsBack};
 ghost use Rattle.ruled_channel.specs.Steps.{HasMade, closed_left};
 ghost use Rattle.ruled_channel.specs.Closing.{MayWait, GivesBack};
@@ -40,6 +40,8 @@ pub struct UntilClosed<'r, 'c, T: Drop, V, P: Protocol<T, V>, R: Wait> {
 }
 
 impl<T: Drop, V, P: Protocol<T, V>> RuledChannel<T, V, P> {
+    ghost use Rattle.ruled_channel.specs.UntilClosed.{channel_of, pass_of};
+
     /// Waits, in a task, until all receivers were given up. A channel that is closed by hand, or by
     /// its last sender, may still have some.
     ///
@@ -57,8 +59,8 @@ impl<T: Drop, V, P: Protocol<T, V>> RuledChannel<T, V, P> {
         pass: Pass<T, V>,
     ) -> UntilClosed<'r, 'c, T, V, P, R>
         requires { IsPassOf self.now pass }
-        ensures { MayWait result.channel.now result.pass
-            × (result.pass ≡ Some pass) × (result.channel.now ≡ self.now) }
+        ensures { MayWait (channel_of result) (pass_of result)
+            × (pass_of result ≡ Some pass) × (channel_of result ≡ self.now) }
     {
         UntilClosed {
             rt,
@@ -71,26 +73,28 @@ impl<T: Drop, V, P: Protocol<T, V>> RuledChannel<T, V, P> {
 }
 
 impl<T: Drop, V, P: Protocol<T, V>, R: Wait> Future for UntilClosed<'_, '_, T, V, P, R> {
+    ghost use Rattle.ruled_channel.specs.UntilClosed.{channel_of, pass_of, ticket_of};
+
     type Output = (Pass<T, V>, Result<(), OutOfMemory>);
 
-    ghost can_poll = { λ f. MayWait f.channel.now f.pass };
+    ghost can_poll = { λ f. MayWait (channel_of f) (pass_of f) };
 
-    ghost needs = { λ f source. source ≡ f.channel.now.source.id };
+    ghost needs = { λ f source. source ≡ source_of (channel_of f) };
 
-    ghost gives = { λ f. GivesBack f.channel.now f.pass };
+    ghost gives = { λ f. GivesBack (channel_of f) (pass_of f) };
 
     #[tactic(auto, using(crate::proofs::Made::no_receiver))]
     fn poll(&mut self, cx: &mut Context<'_>) -> Poll<Self::Output>
-        requires { MayWait self.old.channel.now self.old.pass }
-        ensures value { IfReady result (GivesBack self.old.channel.now self.old.pass) }
-        ensures again { OnPending result (MayWait self.new.channel.now self.new.pass) }
+        requires { MayWait (channel_of self.old) (pass_of self.old) }
+        ensures value { IfReady result (GivesBack (channel_of self.old) (pass_of self.old)) }
+        ensures again { OnPending result (MayWait (channel_of self.new) (pass_of self.new)) }
         ensures same { OnPending result ((x : _)
-            → GivesBack self.new.channel.now self.new.pass x
-            → GivesBack self.old.channel.now self.old.pass x) }
+            → GivesBack (channel_of self.new) (pass_of self.new) x
+            → GivesBack (channel_of self.old) (pass_of self.old) x) }
         ensures registered { OnPending result
-            (Covers cx.new (λ source. source ≡ self.new.channel.now.source.id)) }
-        ensures holds { OnPending result (IsSome self.new.ticket) }
-        ensures gone { IfReady result (λ _. self.new.ticket ≡ None) }
+            (Covers cx.new (λ source. source ≡ source_of (channel_of self.new))) }
+        ensures holds { OnPending result (IsSome (ticket_of self.new)) }
+        ensures gone { IfReady result (λ _. ticket_of self.new ≡ None) }
         ensures kept { Keeps cx.old cx.new }
     {
         let Some(mut pass) = self.pass.take() else {
@@ -112,6 +116,8 @@ impl<T: Drop, V, P: Protocol<T, V>, R: Wait> Future for UntilClosed<'_, '_, T, V
 }
 
 impl<T: Drop, V, P: Protocol<T, V>, R: Wait> UntilClosed<'_, '_, T, V, P, R> {
+    ghost use Rattle.ruled_channel.specs.UntilClosed.{channel_of, pass_of, ticket_of};
+
     /// Gives the wait up. Its pass is as it was; there is none after a poll that was ready.
     ///
     /// ```
@@ -120,8 +126,8 @@ impl<T: Drop, V, P: Protocol<T, V>, R: Wait> UntilClosed<'_, '_, T, V, P, R> {
     /// assert!(rt; closed.into_pass().is_some());
     /// ```
     pub fn into_pass(mut self) -> Option<Pass<T, V>>
-        ensures back { IsBack self.entry.channel.now self.entry.pass result }
-        ensures step { IfSome self.entry.ticket (λ ticket. IfSome result
+        ensures back { IsBack (channel_of self.entry) (pass_of self.entry) result }
+        ensures step { IfSome (ticket_of self.entry) (λ ticket. IfSome result
             (λ back. HasMade (closed_left (Some ticket)) back)) }
     {
         self.leave()
@@ -129,10 +135,10 @@ impl<T: Drop, V, P: Protocol<T, V>, R: Wait> UntilClosed<'_, '_, T, V, P, R> {
 
     // Takes its entry out of the list, and gives its pass.
     fn leave(&mut self) -> Option<Pass<T, V>>
-        ensures back { IsBack self.old.channel.now self.old.pass result }
-        ensures step { IfSome self.old.ticket (λ ticket. IfSome result
+        ensures back { IsBack (channel_of self.old) (pass_of self.old) result }
+        ensures step { IfSome (ticket_of self.old) (λ ticket. IfSome result
             (λ back. HasMade (closed_left (Some ticket)) back)) }
-        ensures ticket { self.new.ticket ≡ None }
+        ensures ticket { ticket_of self.new ≡ None }
     {
         let Some(mut pass) = self.pass.take() else {
             return None;

@@ -1,7 +1,7 @@
 //! How a channel is made.
 ghost use Rattle.std.specs.Prelude.{◌≡◌, ◌<◌, [], ◌∷◌, Some, None, IfOk};
 ghost use Rattle.ruled_channel.specs.State.{new_state};
-ghost use Rattle.ruled_channel.specs.Passes.{IsPassOf, key_of, view};
+ghost use Rattle.ruled_channel.specs.Passes.{IsPassOf, capacity_of, key_of, view};
 
 use crate::channel::RuledChannel;
 use crate::pass::Pass;
@@ -26,7 +26,7 @@ pub fn bounded_with<T: Drop, V, P: Protocol<T, V, Key = ()>>(
     requires cap { 0 < cap }
     requires rule { P.holds tt (new_state (Some cap)) (P.first tt ∷ []) }
     ensures own { IfOk result (λ r. IsPassOf r.0 r.1 × (view r.1 ≡ P.first tt)) }
-    ensures capacity { IfOk result (λ r. r.0.capacity ≡ Some cap) }
+    ensures capacity { IfOk result (λ r. capacity_of r.0 ≡ Some cap) }
 {
     bounded_with_key(alloc, cap, &())
 }
@@ -46,7 +46,7 @@ pub fn bounded_with_key<T: Drop, V, P: Protocol<T, V>>(
     requires rule { P.holds key.now (new_state (Some cap)) (P.first key.now ∷ []) }
     ensures own { IfOk result (λ r. IsPassOf r.0 r.1 × (view r.1 ≡ P.first key.now)) }
     ensures key { IfOk result (λ r. key_of r.0 ≡ key.now) }
-    ensures capacity { IfOk result (λ r. r.0.capacity ≡ Some cap) }
+    ensures capacity { IfOk result (λ r. capacity_of r.0 ≡ Some cap) }
 {
     RuledChannel::over(alloc, Core::bounded(alloc, cap)?, key)
 }
@@ -63,7 +63,7 @@ pub fn unbounded_with<T: Drop, V, P: Protocol<T, V, Key = ()>>(
 ) -> Result<(RuledChannel<T, V, P>, Pass<T, V>), OutOfMemory>
     requires rule { P.holds tt (new_state None) (P.first tt ∷ []) }
     ensures own { IfOk result (λ r. IsPassOf r.0 r.1 × (view r.1 ≡ P.first tt)) }
-    ensures capacity { IfOk result (λ r. r.0.capacity ≡ None) }
+    ensures capacity { IfOk result (λ r. capacity_of r.0 ≡ None) }
 {
     unbounded_with_key(alloc, &())
 }
@@ -81,7 +81,7 @@ pub fn unbounded_with_key<T: Drop, V, P: Protocol<T, V>>(
     requires rule { P.holds key.now (new_state None) (P.first key.now ∷ []) }
     ensures own { IfOk result (λ r. IsPassOf r.0 r.1 × (view r.1 ≡ P.first key.now)) }
     ensures key { IfOk result (λ r. key_of r.0 ≡ key.now) }
-    ensures capacity { IfOk result (λ r. r.0.capacity ≡ None) }
+    ensures capacity { IfOk result (λ r. capacity_of r.0 ≡ None) }
 {
     RuledChannel::over(alloc, Core::unbounded(alloc), key)
 }

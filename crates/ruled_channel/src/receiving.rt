@@ -5,7 +5,7 @@ ghost use Rattle.futures.specs.Task.{Covers, Keeps};
 ghost use Rattle.futures.specs.Poll.{IfReady, OnPending};
 ghost use Rattle.ruled_channel.specs.State.{IsEmpty};
 ghost use Rattle.ruled_channel.specs.Rule.{Receives, Ends, Fitted};
-ghost use Rattle.ruled_channel.specs.Passes.{IsPassOf, LearnedOf, key_of, number, view};
+ghost use Rattle.ruled_channel.specs.Passes.{IsPassOf, LearnedOf, key_of, number, source_of, view};
 ghost use Rattle.ruled_channel.specs.Steps.{HasMade, HasMadeWith, receive_given_up};
 ghost use Rattle.ruled_channel.specs.Receiving.{MayPoll, Gives, IsBack};
 
@@ -46,6 +46,8 @@ pub struct RecvAs<'r, 'c, T: Drop, V, P: Protocol<T, V>, M, E, R: Wait> {
 }
 
 impl<T: Drop, V, P: Protocol<T, V>> RuledChannel<T, V, P> {
+    ghost use Rattle.ruled_channel.specs.RecvAs.{channel_of, pass_of};
+
     /// Receives a message, in a task, which sleeps while the channel is empty and open. The step of
     /// the rule is made by the poll that is ready.
     ///
@@ -67,8 +69,8 @@ impl<T: Drop, V, P: Protocol<T, V>> RuledChannel<T, V, P> {
         requires own { IsPassOf self.now pass }
         requires rule { Receives (P.holds (key_of self.now)) (number pass) (view pass) M.then }
         requires end { Ends (P.holds (key_of self.now)) (number pass) (view pass) E.then }
-        ensures { MayPoll P.holds M.then E.then result.channel.now result.pass
-            × (result.pass ≡ Some pass) × (result.channel.now ≡ self.now) }
+        ensures { MayPoll P.holds M.then E.then (channel_of result) (pass_of result)
+            × (pass_of result ≡ Some pass) × (channel_of result ≡ self.now) }
     {
         RecvAs {
             rt,
@@ -83,33 +85,35 @@ impl<T: Drop, V, P: Protocol<T, V>> RuledChannel<T, V, P> {
 
 impl<T: Drop, V, P: Protocol<T, V>, M: Received<T, V>, E: AtEnd<V>, R: Wait> Future
     for RecvAs<'_, '_, T, V, P, M, E, R> {
+    ghost use Rattle.ruled_channel.specs.RecvAs.{channel_of, pass_of, ticket_of};
+
     type Output = (Pass<T, V>, Result<Result<T, RecvError>, OutOfMemory>);
 
-    ghost can_poll = { λ f. MayPoll P.holds M.then E.then f.channel.now f.pass };
+    ghost can_poll = { λ f. MayPoll P.holds M.then E.then (channel_of f) (pass_of f) };
 
-    ghost needs = { λ f source. source ≡ f.channel.now.source.id };
+    ghost needs = { λ f source. source ≡ source_of (channel_of f) };
 
-    ghost gives = { λ f. Gives P.holds M.then E.then f.channel.now f.pass };
+    ghost gives = { λ f. Gives P.holds M.then E.then (channel_of f) (pass_of f) };
 
     #[tactic(auto, using(crate::proofs::Made::has_received_polled))]
     fn poll(&mut self, cx: &mut Context<'_>) -> Poll<Self::Output>
-        requires { MayPoll P.holds M.then E.then self.old.channel.now self.old.pass }
-        ensures empty { OnPending result (IfSome self.old.pass
+        requires { MayPoll P.holds M.then E.then (channel_of self.old) (pass_of self.old) }
+        ensures empty { OnPending result (IfSome (pass_of self.old)
             (λ p. LearnedOf IsEmpty (Fitted P.holds (view p)))) }
         ensures value { IfReady result
-            (Gives P.holds M.then E.then self.old.channel.now self.old.pass) }
+            (Gives P.holds M.then E.then (channel_of self.old) (pass_of self.old)) }
         ensures given_up { IfReady result (λ out. OnErr out.1 (HasMadeWith receive_given_up out.0)) }
         ensures again { OnPending result
-            (MayPoll P.holds M.then E.then self.new.channel.now self.new.pass) }
+            (MayPoll P.holds M.then E.then (channel_of self.new) (pass_of self.new)) }
         ensures same { OnPending result ((x : _)
-            → Gives P.holds M.then E.then self.new.channel.now self.new.pass x
-            → Gives P.holds M.then E.then self.old.channel.now self.old.pass x) }
-        ensures stays { OnPending result ((self.new.channel.now ≡ self.old.channel.now)
-            × IsBack self.old.channel.now self.old.pass self.new.pass) }
+            → Gives P.holds M.then E.then (channel_of self.new) (pass_of self.new) x
+            → Gives P.holds M.then E.then (channel_of self.old) (pass_of self.old) x) }
+        ensures stays { OnPending result ((channel_of self.new ≡ channel_of self.old)
+            × IsBack (channel_of self.old) (pass_of self.old) (pass_of self.new)) }
         ensures registered { OnPending result
-            (Covers cx.new (λ source. source ≡ self.new.channel.now.source.id)) }
-        ensures holds { OnPending result (IsSome self.new.ticket) }
-        ensures gone { IfReady result (λ _. self.new.ticket ≡ None) }
+            (Covers cx.new (λ source. source ≡ source_of (channel_of self.new))) }
+        ensures holds { OnPending result (IsSome (ticket_of self.new)) }
+        ensures gone { IfReady result (λ _. ticket_of self.new ≡ None) }
         ensures kept { Keeps cx.old cx.new }
     {
         let Some(mut pass) = self.pass.take() else {
@@ -132,6 +136,8 @@ impl<T: Drop, V, P: Protocol<T, V>, M: Received<T, V>, E: AtEnd<V>, R: Wait> Fut
 }
 
 impl<T: Drop, V, P: Protocol<T, V>, M, E, R: Wait> RecvAs<'_, '_, T, V, P, M, E, R> {
+    ghost use Rattle.ruled_channel.specs.RecvAs.{channel_of, pass_of, ticket_of};
+
     /// Gives the receive up. It took no message, and its pass is as it was; there is none after a
     /// poll that was ready. A notice that it had goes on to the next one.
     ///
@@ -141,8 +147,8 @@ impl<T: Drop, V, P: Protocol<T, V>, M, E, R: Wait> RecvAs<'_, '_, T, V, P, M, E,
     /// assert!(rt; receive.into_pass().is_some());
     /// ```
     pub fn into_pass(mut self) -> Option<Pass<T, V>>
-        ensures back { IsBack self.entry.channel.now self.entry.pass result }
-        ensures step { IfSome self.entry.ticket (λ ticket. IfSome result
+        ensures back { IsBack (channel_of self.entry) (pass_of self.entry) result }
+        ensures step { IfSome (ticket_of self.entry) (λ ticket. IfSome result
             (λ back. HasMade (receive_given_up (Some ticket)) back)) }
     {
         self.leave()
@@ -150,10 +156,10 @@ impl<T: Drop, V, P: Protocol<T, V>, M, E, R: Wait> RecvAs<'_, '_, T, V, P, M, E,
 
     // Takes its entry out of the list, and gives its pass.
     fn leave(&mut self) -> Option<Pass<T, V>>
-        ensures back { IsBack self.old.channel.now self.old.pass result }
-        ensures step { IfSome self.old.ticket (λ ticket. IfSome result
+        ensures back { IsBack (channel_of self.old) (pass_of self.old) result }
+        ensures step { IfSome (ticket_of self.old) (λ ticket. IfSome result
             (λ back. HasMade (receive_given_up (Some ticket)) back)) }
-        ensures ticket { self.new.ticket ≡ None }
+        ensures ticket { ticket_of self.new ≡ None }
     {
         let Some(mut pass) = self.pass.take() else {
             return None;

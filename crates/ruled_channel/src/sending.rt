@@ -5,7 +5,7 @@ ghost use Rattle.futures.specs.Task.{Covers, Keeps};
 ghost use Rattle.futures.specs.Poll.{IfReady, OnPending};
 ghost use Rattle.ruled_channel.specs.State.{IsFull};
 ghost use Rattle.ruled_channel.specs.Rule.{Sends, Learns};
-ghost use Rattle.ruled_channel.specs.Passes.{IsPassOf, LearnedOf, key_of, number, view};
+ghost use Rattle.ruled_channel.specs.Passes.{IsPassOf, LearnedOf, key_of, number, source_of, view};
 ghost use Rattle.ruled_channel.specs.Steps.{HasMade, HasMadeWith, send_given_up};
 ghost use Rattle.ruled_channel.specs.Sending.{MaySend, GivesSent, AreBack};
 
@@ -46,6 +46,8 @@ pub struct SendAs<'r, 'c, T: Drop, V, P: Protocol<T, V>, M, L, R: Wait> {
 }
 
 impl<T: Drop, V, P: Protocol<T, V>> RuledChannel<T, V, P> {
+    ghost use Rattle.ruled_channel.specs.SendAs.{channel_of, parts_of};
+
     /// Puts a message last, in a task, which sleeps while the channel is full and open. The step of
     /// the rule is made by the poll that is ready.
     ///
@@ -70,8 +72,8 @@ impl<T: Drop, V, P: Protocol<T, V>> RuledChannel<T, V, P> {
         requires rule { Sends (P.holds (key_of self.now)) (number pass) (view pass) message M.then }
         requires lesson { Learns (P.holds (key_of self.now)) (number pass) (view pass)
             (L.fact (view pass)) }
-        ensures { MaySend P.holds M.then L.fact result.channel.now result.parts
-            × (result.parts ≡ Some (pass, message)) × (result.channel.now ≡ self.now) }
+        ensures { MaySend P.holds M.then L.fact (channel_of result) (parts_of result)
+            × (parts_of result ≡ Some (pass, message)) × (channel_of result ≡ self.now) }
     {
         SendAs {
             rt,
@@ -86,31 +88,33 @@ impl<T: Drop, V, P: Protocol<T, V>> RuledChannel<T, V, P> {
 
 impl<T: Drop, V, P: Protocol<T, V>, M: Sent<T, V>, L: Lesson<T, V>, R: Wait> Future
     for SendAs<'_, '_, T, V, P, M, L, R> {
+    ghost use Rattle.ruled_channel.specs.SendAs.{channel_of, parts_of, ticket_of};
+
     type Output = (Pass<T, V>, Result<Result<(), SendError<T>>, NoMemory<T>>);
 
-    ghost can_poll = { λ f. MaySend P.holds M.then L.fact f.channel.now f.parts };
+    ghost can_poll = { λ f. MaySend P.holds M.then L.fact (channel_of f) (parts_of f) };
 
-    ghost needs = { λ f source. source ≡ f.channel.now.source.id };
+    ghost needs = { λ f source. source ≡ source_of (channel_of f) };
 
-    ghost gives = { λ f. GivesSent M.then L.fact f.channel.now f.parts };
+    ghost gives = { λ f. GivesSent M.then L.fact (channel_of f) (parts_of f) };
 
     #[tactic(auto, using(crate::proofs::Made::has_sent, crate::proofs::Made::is_turned_back))]
     fn poll(&mut self, cx: &mut Context<'_>) -> Poll<Self::Output>
-        requires { MaySend P.holds M.then L.fact self.old.channel.now self.old.parts }
-        ensures full { OnPending result (IfSome self.old.parts
+        requires { MaySend P.holds M.then L.fact (channel_of self.old) (parts_of self.old) }
+        ensures full { OnPending result (IfSome (parts_of self.old)
             (λ h. LearnedOf IsFull (L.fact (view h.0)))) }
         ensures value { IfReady result
-            (GivesSent M.then L.fact self.old.channel.now self.old.parts) }
+            (GivesSent M.then L.fact (channel_of self.old) (parts_of self.old)) }
         ensures given_up { IfReady result (λ out. OnErr out.1 (HasMadeWith send_given_up out.0)) }
         ensures again { OnPending result
-            (MaySend P.holds M.then L.fact self.new.channel.now self.new.parts) }
+            (MaySend P.holds M.then L.fact (channel_of self.new) (parts_of self.new)) }
         ensures same { OnPending result ((x : _)
-            → GivesSent M.then L.fact self.new.channel.now self.new.parts x
-            → GivesSent M.then L.fact self.old.channel.now self.old.parts x) }
+            → GivesSent M.then L.fact (channel_of self.new) (parts_of self.new) x
+            → GivesSent M.then L.fact (channel_of self.old) (parts_of self.old) x) }
         ensures registered { OnPending result
-            (Covers cx.new (λ source. source ≡ self.new.channel.now.source.id)) }
-        ensures holds { OnPending result (IsSome self.new.ticket) }
-        ensures gone { IfReady result (λ _. self.new.ticket ≡ None) }
+            (Covers cx.new (λ source. source ≡ source_of (channel_of self.new))) }
+        ensures holds { OnPending result (IsSome (ticket_of self.new)) }
+        ensures gone { IfReady result (λ _. ticket_of self.new ≡ None) }
         ensures kept { Keeps cx.old cx.new }
     {
         let Some((mut pass, message)) = self.parts.take() else {
@@ -134,6 +138,8 @@ impl<T: Drop, V, P: Protocol<T, V>, M: Sent<T, V>, L: Lesson<T, V>, R: Wait> Fut
 }
 
 impl<T: Drop, V, P: Protocol<T, V>, M, L, R: Wait> SendAs<'_, '_, T, V, P, M, L, R> {
+    ghost use Rattle.ruled_channel.specs.SendAs.{channel_of, parts_of, ticket_of};
+
     /// Gives the send up. Its message was not sent, and comes back with its pass, which is as it
     /// was; there are none after a poll that was ready. A notice that it had goes on to the next
     /// one.
@@ -144,8 +150,8 @@ impl<T: Drop, V, P: Protocol<T, V>, M, L, R: Wait> SendAs<'_, '_, T, V, P, M, L,
     /// assert!(rt; matches!(send.into_parts(), Some((_, 5))));
     /// ```
     pub fn into_parts(mut self) -> Option<(Pass<T, V>, T)>
-        ensures back { AreBack self.entry.channel.now self.entry.parts result }
-        ensures step { IfSome self.entry.ticket (λ ticket. IfSome result
+        ensures back { AreBack (channel_of self.entry) (parts_of self.entry) result }
+        ensures step { IfSome (ticket_of self.entry) (λ ticket. IfSome result
             (λ back. HasMade (send_given_up (Some ticket)) back.0)) }
     {
         self.leave()
@@ -153,10 +159,10 @@ impl<T: Drop, V, P: Protocol<T, V>, M, L, R: Wait> SendAs<'_, '_, T, V, P, M, L,
 
     // Takes its entry out of the list, and gives its pass and its message.
     fn leave(&mut self) -> Option<(Pass<T, V>, T)>
-        ensures back { AreBack self.old.channel.now self.old.parts result }
-        ensures step { IfSome self.old.ticket (λ ticket. IfSome result
+        ensures back { AreBack (channel_of self.old) (parts_of self.old) result }
+        ensures step { IfSome (ticket_of self.old) (λ ticket. IfSome result
             (λ back. HasMade (send_given_up (Some ticket)) back.0)) }
-        ensures ticket { self.new.ticket ≡ None }
+        ensures ticket { ticket_of self.new ≡ None }
     {
         let Some((mut pass, message)) = self.parts.take() else {
             return None;

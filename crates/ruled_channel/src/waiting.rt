@@ -13,7 +13,7 @@ ghost use Rattle.channel_core.specs.Tickets.{left};
 ghost use Rattle.ruled_channel.specs.declared.mark.Mark.{Mark};
 ghost use Rattle.ruled_channel.specs.State.{IsEmpty};
 ghost use Rattle.ruled_channel.specs.Rule.{Sends, Receives, Ends, Learns, Fitted};
-ghost use Rattle.ruled_channel.specs.Passes.{IsPassOf, IsSamePass, LearnedOf, Refuses, IfFull, UnlessFull, WantsToSend, key_of, number, view};
+ghost use Rattle.ruled_channel.specs.Passes.{IsPassOf, IsSamePass, LearnedOf, Refuses, IfFull, UnlessFull, WantsToSend, key_of, number, source_of, view};
 ghost use Rattle.ruled_channel.specs.Steps.{HasMade, closed_left, found, made, receive_given_up, send_given_up, woken};
 
 use crate::channel::RuledChannel;
@@ -45,7 +45,7 @@ impl<T: Drop, V, P: Protocol<T, V>> RuledChannel<T, V, P> {
         ensures rung { OnReady result
             (bell.new ≡ bell.old ++ (polled_receive ticket.old core.old).rung) }
         ensures finished { OnReady result (ticket.new ≡ None) }
-        ensures waits { OnWait result ((w : Mark) × W.waits_by cx.new self.now.source.id w
+        ensures waits { OnWait result ((w : Mark) × W.waits_by cx.new (source_of self.now) w
             × RecvWaits ticket.old core.old w ticket.new core.new) }
         ensures keeps { W.keeps cx.old cx.new }
         ensures silent { OnWait result (bell.new ≡ bell.old) }
@@ -74,7 +74,7 @@ impl<T: Drop, V, P: Protocol<T, V>> RuledChannel<T, V, P> {
         bell: &mut Ringer<'_, R>,
     ) -> Result<(), OutOfMemory>
         requires { recv_poll (oldest core.old) core.old.closed ≡ Pending }
-        ensures waits { OnOk result ((w : Mark) × W.waits_by cx.new self.now.source.id w
+        ensures waits { OnOk result ((w : Mark) × W.waits_by cx.new (source_of self.now) w
             × RecvWaits ticket.old core.old w ticket.new core.new) }
         ensures keeps { W.keeps cx.old cx.new }
         ensures silent { bell.new ≡ bell.old }
@@ -102,7 +102,7 @@ impl<T: Drop, V, P: Protocol<T, V>> RuledChannel<T, V, P> {
         ensures rung { OnReady result
             (bell.new ≡ bell.old ++ (polled_stream ticket.old core.old).rung) }
         ensures finished { OnReady result (ticket.new ≡ None) }
-        ensures waits { OnWait result ((w : Mark) × W.waits_by cx.new self.now.source.id w
+        ensures waits { OnWait result ((w : Mark) × W.waits_by cx.new (source_of self.now) w
             × NextWaits ticket.old core.old w ticket.new core.new) }
         ensures keeps { W.keeps cx.old cx.new }
         ensures silent { OnWait result (bell.new ≡ bell.old) }
@@ -136,7 +136,7 @@ impl<T: Drop, V, P: Protocol<T, V>> RuledChannel<T, V, P> {
         ensures rung { OnReady result
             (bell.new ≡ bell.old ++ (polled_send message.old ticket.old core.old).rung) }
         ensures finished { OnReady result (ticket.new ≡ None) }
-        ensures waits { OnWait result ((w : Mark) × W.waits_by cx.new self.now.source.id w
+        ensures waits { OnWait result ((w : Mark) × W.waits_by cx.new (source_of self.now) w
             × SendWaits message.old ticket.old core.old w ticket.new core.new) }
         ensures kept { OnWait result (message.new ≡ message.old) }
         ensures keeps { W.keeps cx.old cx.new }
@@ -172,7 +172,7 @@ impl<T: Drop, V, P: Protocol<T, V>> RuledChannel<T, V, P> {
         bell: &mut Ringer<'_, R>,
     ) -> Result<(), OutOfMemory>
         requires { send_poll message.old core.old.closed (is_channel_full core.old) ≡ Pending }
-        ensures waits { OnOk result ((w : Mark) × W.waits_by cx.new self.now.source.id w
+        ensures waits { OnOk result ((w : Mark) × W.waits_by cx.new (source_of self.now) w
             × SendWaits message.old ticket.old core.old w ticket.new core.new) }
         ensures kept { message.new ≡ message.old }
         ensures keeps { W.keeps cx.old cx.new }
@@ -201,7 +201,7 @@ impl<T: Drop, V, P: Protocol<T, V>> RuledChannel<T, V, P> {
           closeds = left ticket.old core.old.closeds;
         }) }
         ensures finished { OnReady result (ticket.new ≡ None) }
-        ensures waits { OnWait result ((w : Mark) × W.waits_by cx.new self.now.source.id w
+        ensures waits { OnWait result ((w : Mark) × W.waits_by cx.new (source_of self.now) w
             × ClosedWaits ticket.old core.old w ticket.new core.new) }
         ensures keeps { W.keeps cx.old cx.new }
         ensures kept { core.new ≡ record core.old { closeds = core.new.closeds } }
@@ -269,7 +269,7 @@ impl<T: Drop, V, P: Protocol<T, V>> RuledChannel<T, V, P> {
         ensures step { IfOk result (λ answer. UnlessFull answer ((ticket.new ≡ None)
             × HasMade (polled_send (Some message) ticket.old) pass.new)) }
         ensures waits { IfOk result (λ answer. IfErr answer (λ error. IfFull error
-            ((w : Mark) × W.waits_by cx.new self.now.source.id w × IsSome ticket.new
+            ((w : Mark) × W.waits_by cx.new (source_of self.now) w × IsSome ticket.new
             × SendWaits (Some message) ticket.old (found pass.new) w ticket.new (made pass.new)
             × (woken pass.new ≡ [])))) }
         ensures keeps { W.keeps cx.old cx.new }
@@ -352,7 +352,7 @@ impl<T: Drop, V, P: Protocol<T, V>> RuledChannel<T, V, P> {
             × HasMade (polled_receive ticket.old) pass.new) }
         ensures empty { OnWait result ((view pass.new ≡ view pass.old)
             × LearnedOf IsEmpty (Fitted P.holds (view pass.old))) }
-        ensures waits { OnWait result ((w : Mark) × W.waits_by cx.new self.now.source.id w
+        ensures waits { OnWait result ((w : Mark) × W.waits_by cx.new (source_of self.now) w
             × IsSome ticket.new × RecvWaits ticket.old (found pass.new) w ticket.new (made pass.new)
             × (woken pass.new ≡ [])) }
         ensures keeps { W.keeps cx.old cx.new }
@@ -431,7 +431,7 @@ impl<T: Drop, V, P: Protocol<T, V>> RuledChannel<T, V, P> {
             × HasMade (polled_stream ticket.old) pass.new) }
         ensures empty { OnWait result ((view pass.new ≡ view pass.old)
             × LearnedOf IsEmpty (Fitted P.holds (view pass.old))) }
-        ensures waits { OnWait result ((w : Mark) × W.waits_by cx.new self.now.source.id w
+        ensures waits { OnWait result ((w : Mark) × W.waits_by cx.new (source_of self.now) w
             × IsSome ticket.new × NextWaits ticket.old (found pass.new) w ticket.new (made pass.new)
             × (woken pass.new ≡ [])) }
         ensures keeps { W.keeps cx.old cx.new }
@@ -496,7 +496,7 @@ impl<T: Drop, V, P: Protocol<T, V>> RuledChannel<T, V, P> {
             ≡ closed_poll ((found pass.new).receivers == 0)) }
         ensures step { OnReady result ((ticket.new ≡ None)
             × HasMade (closed_left ticket.old) pass.new) }
-        ensures waits { OnWait result ((w : Mark) × W.waits_by cx.new self.now.source.id w
+        ensures waits { OnWait result ((w : Mark) × W.waits_by cx.new (source_of self.now) w
             × IsSome ticket.new × ClosedWaits ticket.old (found pass.new) w ticket.new (made pass.new)
             × (woken pass.new ≡ [])) }
         ensures keeps { W.keeps cx.old cx.new }

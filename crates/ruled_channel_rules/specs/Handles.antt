@@ -1,6 +1,6 @@
 -- What a clause says of a channel whose messages all arrive, and of its handles.
 use Rattle.std.specs.Prelude.{◌≡◌, ℕ, Bool, true, List, [], ◌∷◌, Option}
-use Rattle.ruled_channel.specs.Passes.{IsPassOf, view}
+use Rattle.ruled_channel.specs.Passes.{IsPassOf, capacity_of as ruled_capacity, view}
 use Rattle.ruled_channel_rules.specs.declared.log.Log.{Log}
 use Rattle.ruled_channel_rules.specs.declared.handles.Channel.{Channel}
 use Rattle.ruled_channel_rules.specs.declared.handles.Hub.{Hub}
@@ -15,7 +15,7 @@ module _ {T : Type 0} where
 
   -- how many messages a channel can hold
   abbrev pub capacity_of : Channel T → Option ℕ
-  capacity_of c = c.ruled.capacity
+  capacity_of c = ruled_capacity c.ruled
 
   -- what a sender has sent, in order
   abbrev pub sent_by : Sender T → List T

@@ -4,5 +4,9 @@ pub mod Whole
 pub mod Handles
 pub mod Sending
 pub mod Receiving
+pub mod Recv
+pub mod Send
 pub mod SendingEach
 pub mod Collecting
+pub mod SendEach
+pub mod Collect

@@ -1,9 +1,9 @@
 //! Receives as futures, which own their receiver and give it back.
-ghost use Rattle.std.specs.Prelude.{◌≡◌, IfSome, IfNone, IsSomeAnd};
+ghost use Rattle.std.specs.Prelude.{◌≡◌, IfSome, IfNone};
 ghost use Rattle.futures.specs.Task.{Covers, Keeps};
 ghost use Rattle.futures.specs.Poll.{IfReady, OnPending};
 ghost use Rattle.ruled_channel_rules.specs.Handles.{IsReceiverOf};
-ghost use Rattle.ruled_channel_rules.specs.Receiving.{MayReceive, TellsReceived, IsAsItWas};
+ghost use Rattle.ruled_channel_rules.specs.Receiving.{TellsReceived, IsAsItWas};
 
 use crate::handles::{Channel, Receiver};
 use crate::log::{Log, Whole};
@@ -34,6 +34,8 @@ pub struct Recv<'r, 'c, T: Drop, R: Wait> {
 }
 
 impl<T: Drop> Receiver<T> {
+    ghost use Rattle.ruled_channel_rules.specs.Recv.{MayPoll, channel_of, receiver_of};
+
     /// Takes the oldest message, in a task, which sleeps while there is none.
     ///
     /// It gives the receiver, and with it a message, [`RecvError`] if the channel is closed and
@@ -50,9 +52,8 @@ impl<T: Drop> Receiver<T> {
     /// ```
     pub fn recv<'r, 'c, R: Wait>(self, rt: &'r R, channel: &'c Channel<T>) -> Recv<'r, 'c, T, R>
         requires own { IsReceiverOf channel.now self }
-        ensures may { IsSomeAnd result.inner (λ b. MayReceive result.channel.now
-            result.receiver.value b.channel.now b.pass) }
-        ensures of { (result.channel.now ≡ channel.now) × (result.receiver.value ≡ self) }
+        ensures may { MayPoll result }
+        ensures of { (channel_of result ≡ channel.now) × (receiver_of result ≡ self) }
     {
         let receiver = Snapshot::of(&self);
         let Receiver { pass } = self;
@@ -65,30 +66,27 @@ impl<T: Drop> Receiver<T> {
 }
 
 impl<T: Drop, R: Wait> Future for Recv<'_, '_, T, R> {
+    ghost use Rattle.ruled_channel_rules.specs.Recv.{MayPoll, channel_of, receiver_of, waits_at};
+
     type Output = (Receiver<T>, Result<Result<T, RecvError>, OutOfMemory>);
 
-    ghost can_poll = { λ f. IsSomeAnd f.inner (λ b. MayReceive f.channel.now f.receiver.value
-        b.channel.now b.pass) };
+    ghost can_poll = { λ f. MayPoll f };
 
-    ghost needs = { λ f source. IsSomeAnd f.inner (λ b. source ≡ b.channel.now.source.id) };
+    ghost needs = { λ f. waits_at f };
 
-    ghost gives = { λ f. TellsReceived f.channel.now f.receiver.value };
+    ghost gives = { λ f. TellsReceived (channel_of f) (receiver_of f) };
 
     fn poll(&mut self, cx: &mut Context<'_>) -> Poll<Self::Output>
-        requires { IsSomeAnd self.old.inner (λ b. MayReceive self.old.channel.now
-            self.old.receiver.value b.channel.now b.pass) }
+        requires { MayPoll self.old }
         ensures value { IfReady result
-            (TellsReceived self.old.channel.now self.old.receiver.value) }
-        ensures again { OnPending result (IsSomeAnd self.new.inner
-            (λ b. MayReceive self.new.channel.now self.new.receiver.value
-            b.channel.now b.pass)) }
+            (TellsReceived (channel_of self.old) (receiver_of self.old)) }
+        ensures again { OnPending result (MayPoll self.new) }
         ensures same { OnPending result ((x : _)
-            → TellsReceived self.new.channel.now self.new.receiver.value x
-            → TellsReceived self.old.channel.now self.old.receiver.value x) }
-        ensures registered { OnPending result (Covers cx.new
-            (λ source. IsSomeAnd self.new.inner (λ b. source ≡ b.channel.now.source.id))) }
-        ensures stays { (self.new.channel.now ≡ self.old.channel.now)
-            × (self.new.receiver.value ≡ self.old.receiver.value) }
+            → TellsReceived (channel_of self.new) (receiver_of self.new) x
+            → TellsReceived (channel_of self.old) (receiver_of self.old) x) }
+        ensures registered { OnPending result (Covers cx.new (waits_at self.new)) }
+        ensures stays { (channel_of self.new ≡ channel_of self.old)
+            × (receiver_of self.new ≡ receiver_of self.old) }
         ensures kept { Keeps cx.old cx.new }
     {
         let Some(mut inner) = self.inner.take() else {
@@ -105,6 +103,8 @@ impl<T: Drop, R: Wait> Future for Recv<'_, '_, T, R> {
 }
 
 impl<T: Drop, R: Wait> Recv<'_, '_, T, R> {
+    ghost use Rattle.ruled_channel_rules.specs.Recv.{MayPoll, channel_of, receiver_of};
+
     /// Gives up a receive that was not ready yet: its receiver, which is as it was.
     ///
     /// ```
@@ -116,10 +116,9 @@ impl<T: Drop, R: Wait> Recv<'_, '_, T, R> {
     /// assert_eq!(rt; receiver.recv_blocking(&rt, &channel)?, Ok(1));
     /// ```
     pub fn give_up(&mut self) -> Receiver<T>
-        requires may { IsSomeAnd self.old.inner (λ b. MayReceive self.old.channel.now
-            self.old.receiver.value b.channel.now b.pass) }
-        ensures own { IsReceiverOf self.old.channel.now result }
-        ensures same { IsAsItWas self.old.receiver.value result }
+        requires may { MayPoll self.old }
+        ensures own { IsReceiverOf (channel_of self.old) result }
+        ensures same { IsAsItWas (receiver_of self.old) result }
     {
         let Some(inner) = self.inner.take() else {
             unreachable!()
@@ -154,7 +153,7 @@ pub struct Collect<'r, 'c, T: Drop, R: Wait> {
 }
 
 impl<T: Drop> Receiver<T> {
-    ghost use Rattle.ruled_channel_rules.specs.Collecting.{MayCollect};
+    ghost use Rattle.ruled_channel_rules.specs.Collect.{MayPoll, channel_of, list_of, receiver_of};
 
     /// Receives messages, in a task, as `recv_all` does: until the channel is closed and empty, or
     /// memory is refused, and then it closes the channel. It gives the receiver, and the list with
@@ -178,10 +177,9 @@ impl<T: Drop> Receiver<T> {
         list: Vec<T>,
     ) -> Collect<'r, 'c, T, R>
         requires own { IsReceiverOf channel.now self }
-        ensures may { MayCollect result.channel.now result.receiver.value result.list.value.items
-            result.parts }
-        ensures of { (result.channel.now ≡ channel.now) × (result.receiver.value ≡ self)
-            × (result.list.value ≡ list) }
+        ensures may { MayPoll result }
+        ensures of { (channel_of result ≡ channel.now) × (receiver_of result ≡ self)
+            × (list_of result ≡ list) }
     {
         let receiver = Snapshot::of(&self);
         let first = Snapshot::of(&list);
@@ -199,15 +197,16 @@ impl<T: Drop> Receiver<T> {
 type Collected<T> = (Receiver<T>, Vec<T>, Result<(), OutOfMemory>);
 
 impl<T: Drop, R: Wait> Future for Collect<'_, '_, T, R> {
-    ghost use Rattle.ruled_channel_rules.specs.Collecting.{MayCollect, TellsCollected, waits_at};
+    ghost use Rattle.ruled_channel_rules.specs.Collecting.{TellsCollected};
+    ghost use Rattle.ruled_channel_rules.specs.Collect.{MayPoll, channel_of, list_of, receiver_of, waits_at};
 
     type Output = Collected<T>;
 
-    ghost can_poll = { λ f. MayCollect f.channel.now f.receiver.value f.list.value.items f.parts };
+    ghost can_poll = { λ f. MayPoll f };
 
-    ghost needs = { λ f. waits_at f.parts };
+    ghost needs = { λ f. waits_at f };
 
-    ghost gives = { λ f. TellsCollected f.channel.now f.receiver.value f.list.value.items };
+    ghost gives = { λ f. TellsCollected (channel_of f) (receiver_of f) (list_of f).items };
 
     fn poll(&mut self, cx: &mut Context<'_>) -> Poll<Self::Output> {
         for _ in 0..BUDGET {
@@ -220,7 +219,8 @@ impl<T: Drop, R: Wait> Future for Collect<'_, '_, T, R> {
 }
 
 impl<T: Drop, R: Wait> Collect<'_, '_, T, R> {
-    ghost use Rattle.ruled_channel_rules.specs.Collecting.{MayCollect, TellsCollected, HasGot, waits_at};
+    ghost use Rattle.ruled_channel_rules.specs.Collecting.{TellsCollected, HasGot};
+    ghost use Rattle.ruled_channel_rules.specs.Collect.{MayPoll, channel_of, list_of, receiver_of, waits_at};
 
     /// Gives it up before it was ready: its receiver, and the list with what came.
     ///
@@ -233,9 +233,8 @@ impl<T: Drop, R: Wait> Collect<'_, '_, T, R> {
     /// drop(receiver);
     /// ```
     pub fn give_up(&mut self) -> (Receiver<T>, Vec<T>)
-        requires may { MayCollect self.old.channel.now self.old.receiver.value
-            self.old.list.value.items self.old.parts }
-        ensures { HasGot self.old.channel.now self.old.receiver.value self.old.list.value.items
+        requires may { MayPoll self.old }
+        ensures { HasGot (channel_of self.old) (receiver_of self.old) (list_of self.old).items
             result.0 result.1.items }
     {
         let Some((mut receive, all)) = self.parts.take() else {
@@ -247,18 +246,15 @@ impl<T: Drop, R: Wait> Collect<'_, '_, T, R> {
     // Polls the receive that waits, and begins the next one after a message.
     #[tactic(auto, using(crate::proofs::Lists::one_got))]
     fn advance(&mut self, cx: &mut Context<'_>) -> Poll<Option<Collected<T>>>
-        requires { MayCollect self.old.channel.now self.old.receiver.value
-            self.old.list.value.items self.old.parts }
-        ensures done { IfReady result (λ done. IfSome done (TellsCollected self.old.channel.now
-            self.old.receiver.value self.old.list.value.items)) }
-        ensures goes_on { IfReady result (λ done. IfNone done (MayCollect self.old.channel.now
-            self.old.receiver.value self.old.list.value.items self.new.parts)) }
-        ensures again { OnPending result (MayCollect self.old.channel.now
-            self.old.receiver.value self.old.list.value.items self.new.parts) }
-        ensures registered { OnPending result (Covers cx.new (waits_at self.new.parts)) }
-        ensures stays { (self.new.channel.now ≡ self.old.channel.now)
-            × (self.new.receiver.value ≡ self.old.receiver.value)
-            × (self.new.list.value ≡ self.old.list.value) }
+        requires { MayPoll self.old }
+        ensures done { IfReady result (λ done. IfSome done (TellsCollected (channel_of self.old)
+            (receiver_of self.old) (list_of self.old).items)) }
+        ensures goes_on { IfReady result (λ done. IfNone done (MayPoll self.new)) }
+        ensures again { OnPending result (MayPoll self.new) }
+        ensures registered { OnPending result (Covers cx.new (waits_at self.new)) }
+        ensures stays { (channel_of self.new ≡ channel_of self.old)
+            × (receiver_of self.new ≡ receiver_of self.old)
+            × (list_of self.new ≡ list_of self.old) }
         ensures kept { Keeps cx.old cx.new }
     {
         let Some((mut receive, mut all)) = self.parts.take() else {
@@ -285,10 +281,10 @@ impl<T: Drop, R: Wait> Collect<'_, '_, T, R> {
 
     // Memory was refused: nobody is to wait to send.
     fn refuse(&self, mut receiver: Receiver<T>, all: Vec<T>) -> Collected<T>
-        requires { HasGot self.now.channel.now self.now.receiver.value self.now.list.value.items
+        requires { HasGot (channel_of self.now) (receiver_of self.now) (list_of self.now).items
             receiver all.items }
-        ensures { TellsCollected self.now.channel.now self.now.receiver.value
-            self.now.list.value.items result }
+        ensures { TellsCollected (channel_of self.now) (receiver_of self.now)
+            (list_of self.now).items result }
     {
         receiver.close(self.rt, self.channel);
         (receiver, all, Err(OutOfMemory))

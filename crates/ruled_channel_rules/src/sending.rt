@@ -1,9 +1,9 @@
 //! Sends as futures, which own their sender and give it back.
-ghost use Rattle.std.specs.Prelude.{◌≡◌, true, false, IfSome, IfNone, IsSomeAnd};
+ghost use Rattle.std.specs.Prelude.{◌≡◌, true, false, IfSome, IfNone};
 ghost use Rattle.futures.specs.Task.{Covers, Keeps};
 ghost use Rattle.futures.specs.Poll.{IfReady, OnPending};
 ghost use Rattle.ruled_channel_rules.specs.Handles.{IsSenderOf};
-ghost use Rattle.ruled_channel_rules.specs.Sending.{Comes, MaySend, TellsSent, IsAsItWas};
+ghost use Rattle.ruled_channel_rules.specs.Sending.{Comes, TellsSent, IsAsItWas};
 
 use crate::handles::{Channel, Sender};
 use crate::log::{Log, Whole};
@@ -43,6 +43,8 @@ pub struct Send<'r, 'c, T: Drop, R: Wait> {
 }
 
 impl<T: Drop> Sender<T> {
+    ghost use Rattle.ruled_channel_rules.specs.Send.{MayPoll, channel_of, message_of, sender_of};
+
     /// Sends a message, in a task, which sleeps while the channel is full.
     ///
     /// It gives the sender, and with it the message in a [`SendError`] if the channel is closed, or
@@ -64,10 +66,9 @@ impl<T: Drop> Sender<T> {
         message: T,
     ) -> Send<'r, 'c, T, R>
         requires own { IsSenderOf channel.now self }
-        ensures may { IsSomeAnd result.inner (λ b. MaySend result.channel.now result.sender.value
-            result.message.value b.channel.now b.parts) }
-        ensures of { (result.channel.now ≡ channel.now) × (result.sender.value ≡ self)
-            × (result.message.value ≡ message) }
+        ensures may { MayPoll result }
+        ensures of { (channel_of result ≡ channel.now) × (sender_of result ≡ self)
+            × (message_of result ≡ message) }
     {
         let sender = Snapshot::of(&self);
         let first = Snapshot::of(&message);
@@ -84,31 +85,28 @@ impl<T: Drop> Sender<T> {
 }
 
 impl<T: Drop, R: Wait> Future for Send<'_, '_, T, R> {
+    ghost use Rattle.ruled_channel_rules.specs.Send.{MayPoll, channel_of, message_of, sender_of, waits_at};
+
     type Output = (Sender<T>, SendResult<T>);
 
-    ghost can_poll = { λ f. IsSomeAnd f.inner (λ b. MaySend f.channel.now f.sender.value
-        f.message.value b.channel.now b.parts) };
+    ghost can_poll = { λ f. MayPoll f };
 
-    ghost needs = { λ f source. IsSomeAnd f.inner (λ b. source ≡ b.channel.now.source.id) };
+    ghost needs = { λ f. waits_at f };
 
-    ghost gives = { λ f. TellsSent f.channel.now f.sender.value f.message.value };
+    ghost gives = { λ f. TellsSent (channel_of f) (sender_of f) (message_of f) };
 
     fn poll(&mut self, cx: &mut Context<'_>) -> Poll<Self::Output>
-        requires { IsSomeAnd self.old.inner (λ b. MaySend self.old.channel.now
-            self.old.sender.value self.old.message.value b.channel.now b.parts) }
+        requires { MayPoll self.old }
         ensures value { IfReady result
-            (TellsSent self.old.channel.now self.old.sender.value self.old.message.value) }
-        ensures again { OnPending result (IsSomeAnd self.new.inner
-            (λ b. MaySend self.new.channel.now self.new.sender.value self.new.message.value
-            b.channel.now b.parts)) }
+            (TellsSent (channel_of self.old) (sender_of self.old) (message_of self.old)) }
+        ensures again { OnPending result (MayPoll self.new) }
         ensures same { OnPending result ((x : _)
-            → TellsSent self.new.channel.now self.new.sender.value self.new.message.value x
-            → TellsSent self.old.channel.now self.old.sender.value self.old.message.value x) }
-        ensures registered { OnPending result (Covers cx.new
-            (λ source. IsSomeAnd self.new.inner (λ b. source ≡ b.channel.now.source.id))) }
-        ensures stays { (self.new.channel.now ≡ self.old.channel.now)
-            × (self.new.sender.value ≡ self.old.sender.value)
-            × (self.new.message.value ≡ self.old.message.value) }
+            → TellsSent (channel_of self.new) (sender_of self.new) (message_of self.new) x
+            → TellsSent (channel_of self.old) (sender_of self.old) (message_of self.old) x) }
+        ensures registered { OnPending result (Covers cx.new (waits_at self.new)) }
+        ensures stays { (channel_of self.new ≡ channel_of self.old)
+            × (sender_of self.new ≡ sender_of self.old)
+            × (message_of self.new ≡ message_of self.old) }
         ensures kept { Keeps cx.old cx.new }
     {
         let Some(mut inner) = self.inner.take() else {
@@ -125,6 +123,8 @@ impl<T: Drop, R: Wait> Future for Send<'_, '_, T, R> {
 }
 
 impl<T: Drop, R: Wait> Send<'_, '_, T, R> {
+    ghost use Rattle.ruled_channel_rules.specs.Send.{MayPoll, channel_of, message_of, sender_of};
+
     /// Gives up a send that was not ready yet: its sender, which is as it was, and its message.
     ///
     /// ```
@@ -135,11 +135,10 @@ impl<T: Drop, R: Wait> Send<'_, '_, T, R> {
     /// drop(sender);
     /// ```
     pub fn give_up(&mut self) -> (Sender<T>, T)
-        requires may { IsSomeAnd self.old.inner (λ b. MaySend self.old.channel.now
-            self.old.sender.value self.old.message.value b.channel.now b.parts) }
-        ensures own { IsSenderOf self.old.channel.now result.0 }
-        ensures same { IsAsItWas self.old.sender.value result.0 }
-        ensures message { result.1 ≡ self.old.message.value }
+        requires may { MayPoll self.old }
+        ensures own { IsSenderOf (channel_of self.old) result.0 }
+        ensures same { IsAsItWas (sender_of self.old) result.0 }
+        ensures message { result.1 ≡ message_of self.old }
     {
         let Some(inner) = self.inner.take() else {
             unreachable!()
@@ -152,9 +151,9 @@ impl<T: Drop, R: Wait> Send<'_, '_, T, R> {
 
     // The answer of the send below. One that was refused learns that the channel is closed.
     fn answer(&self, mut sender: Sender<T>, sent: SendResult<T>) -> (Sender<T>, SendResult<T>)
-        requires { Comes self.now.channel.now self.now.sender.value self.now.message.value
+        requires { Comes (channel_of self.now) (sender_of self.now) (message_of self.now)
             (sender, sent) }
-        ensures { TellsSent self.now.channel.now self.now.sender.value self.now.message.value
+        ensures { TellsSent (channel_of self.now) (sender_of self.now) (message_of self.now)
             result }
     {
         if let Ok(Err(_)) = &sent {
@@ -204,7 +203,7 @@ pub enum Turn<S, F, M> {
 type SendEachResult<T> = (Sender<T>, VecDeque<T>, SendResult<T>);
 
 impl<T: Drop> Sender<T> {
-    ghost use Rattle.ruled_channel_rules.specs.SendingEach.{MaySendEach};
+    ghost use Rattle.ruled_channel_rules.specs.SendEach.{MayPoll, channel_of, closes_at_end, messages_of, sender_of};
 
     /// Sends messages, in a task, as `send_all` does: until one can't be sent, as the channel is
     /// closed or memory was refused. It gives the sender, the messages after that one, and the
@@ -227,11 +226,10 @@ impl<T: Drop> Sender<T> {
         messages: VecDeque<T>,
     ) -> SendEach<'r, 'c, T, R>
         requires own { IsSenderOf channel.now self }
-        ensures may { MaySendEach result.channel.now result.sender.value
-            result.messages.value.items result.turn }
-        ensures of { (result.channel.now ≡ channel.now) × (result.sender.value ≡ self)
-            × (result.messages.value ≡ messages) }
-        ensures open { result.closes ≡ false }
+        ensures may { MayPoll result }
+        ensures of { (channel_of result ≡ channel.now) × (sender_of result ≡ self)
+            × (messages_of result ≡ messages) }
+        ensures open { closes_at_end result ≡ false }
     {
         self.each(rt, channel, messages, false)
     }
@@ -257,11 +255,10 @@ impl<T: Drop> Sender<T> {
         messages: VecDeque<T>,
     ) -> SendEach<'r, 'c, T, R>
         requires own { IsSenderOf channel.now self }
-        ensures may { MaySendEach result.channel.now result.sender.value
-            result.messages.value.items result.turn }
-        ensures of { (result.channel.now ≡ channel.now) × (result.sender.value ≡ self)
-            × (result.messages.value ≡ messages) }
-        ensures closes { result.closes ≡ true }
+        ensures may { MayPoll result }
+        ensures of { (channel_of result ≡ channel.now) × (sender_of result ≡ self)
+            × (messages_of result ≡ messages) }
+        ensures closes { closes_at_end result ≡ true }
     {
         self.each(rt, channel, messages, true)
     }
@@ -275,11 +272,10 @@ impl<T: Drop> Sender<T> {
         closes: bool,
     ) -> SendEach<'r, 'c, T, R>
         requires own { IsSenderOf channel.now self }
-        ensures may { MaySendEach result.channel.now result.sender.value
-            result.messages.value.items result.turn }
-        ensures of { (result.channel.now ≡ channel.now) × (result.sender.value ≡ self)
-            × (result.messages.value ≡ messages) }
-        ensures closes { result.closes ≡ closes }
+        ensures may { MayPoll result }
+        ensures of { (channel_of result ≡ channel.now) × (sender_of result ≡ self)
+            × (messages_of result ≡ messages) }
+        ensures closes { closes_at_end result ≡ closes }
     {
         let sender = Snapshot::of(&self);
         let all = Snapshot::of(&messages);
@@ -296,7 +292,8 @@ impl<T: Drop> Sender<T> {
 
 impl<T: Drop, R: Wait> SendEach<'_, '_, T, R> {
     ghost use Rattle.std.specs.Prelude.{option_to_list, ◌++◌};
-    ghost use Rattle.ruled_channel_rules.specs.SendingEach.{MaySendEach, HasSentBut, TellsSentEach, waits_at};
+    ghost use Rattle.ruled_channel_rules.specs.SendingEach.{HasSentBut, TellsSentEach};
+    ghost use Rattle.ruled_channel_rules.specs.SendEach.{MayPoll, channel_of, closes_at_end, messages_of, sender_of, waits_at};
 
     /// Gives it up before it was ready: its sender, the message that waited to be sent, if one did,
     /// and the messages after it.
@@ -310,10 +307,9 @@ impl<T: Drop, R: Wait> SendEach<'_, '_, T, R> {
     /// drop(sender);
     /// ```
     pub fn give_up(&mut self) -> (Sender<T>, Option<T>, VecDeque<T>)
-        requires may { MaySendEach self.old.channel.now self.old.sender.value
-            self.old.messages.value.items self.old.turn }
-        ensures { HasSentBut self.old.channel.now self.old.sender.value
-            self.old.messages.value.items (option_to_list result.1 ++ result.2.items) result.0 }
+        requires may { MayPoll self.old }
+        ensures { HasSentBut (channel_of self.old) (sender_of self.old)
+            (messages_of self.old).items (option_to_list result.1 ++ result.2.items) result.0 }
     {
         match mem::replace(&mut self.turn, Turn::Over) {
             Turn::Next(sender, rest) => (sender, None, rest),
@@ -328,20 +324,17 @@ impl<T: Drop, R: Wait> SendEach<'_, '_, T, R> {
     // Makes one step: begins the next send, or polls the one that waits.
     #[tactic(auto, using(crate::proofs::Lists::one_sent, crate::proofs::Lists::all_sent))]
     fn advance(&mut self, cx: &mut Context<'_>) -> Poll<Option<SendEachResult<T>>>
-        requires { MaySendEach self.old.channel.now self.old.sender.value
-            self.old.messages.value.items self.old.turn }
+        requires { MayPoll self.old }
         ensures done { IfReady result (λ done. IfSome done (λ out.
-            TellsSentEach self.old.channel.now self.old.sender.value
-            self.old.messages.value.items false out)) }
-        ensures goes_on { IfReady result (λ done. IfNone done (MaySendEach self.old.channel.now
-            self.old.sender.value self.old.messages.value.items self.new.turn)) }
-        ensures again { OnPending result (MaySendEach self.old.channel.now
-            self.old.sender.value self.old.messages.value.items self.new.turn) }
-        ensures registered { OnPending result (Covers cx.new (waits_at self.new.turn)) }
-        ensures stays { (self.new.channel.now ≡ self.old.channel.now)
-            × (self.new.sender.value ≡ self.old.sender.value)
-            × (self.new.messages.value ≡ self.old.messages.value)
-            × (self.new.closes ≡ self.old.closes) }
+            TellsSentEach (channel_of self.old) (sender_of self.old)
+            (messages_of self.old).items false out)) }
+        ensures goes_on { IfReady result (λ done. IfNone done (MayPoll self.new)) }
+        ensures again { OnPending result (MayPoll self.new) }
+        ensures registered { OnPending result (Covers cx.new (waits_at self.new)) }
+        ensures stays { (channel_of self.new ≡ channel_of self.old)
+            × (sender_of self.new ≡ sender_of self.old)
+            × (messages_of self.new ≡ messages_of self.old)
+            × (closes_at_end self.new ≡ closes_at_end self.old) }
         ensures kept { Keeps cx.old cx.new }
     {
         match mem::replace(&mut self.turn, Turn::Over) {
@@ -372,16 +365,17 @@ impl<T: Drop, R: Wait> SendEach<'_, '_, T, R> {
 }
 
 impl<T: Drop, R: Wait> Future for SendEach<'_, '_, T, R> {
-    ghost use Rattle.ruled_channel_rules.specs.SendingEach.{MaySendEach, TellsSentEach, waits_at};
+    ghost use Rattle.ruled_channel_rules.specs.SendingEach.{TellsSentEach};
+    ghost use Rattle.ruled_channel_rules.specs.SendEach.{MayPoll, channel_of, closes_at_end, messages_of, sender_of, waits_at};
 
     type Output = SendEachResult<T>;
 
-    ghost can_poll = { λ f. MaySendEach f.channel.now f.sender.value f.messages.value.items f.turn };
+    ghost can_poll = { λ f. MayPoll f };
 
-    ghost needs = { λ f. waits_at f.turn };
+    ghost needs = { λ f. waits_at f };
 
-    ghost gives = { λ f. TellsSentEach f.channel.now f.sender.value f.messages.value.items
-        f.closes };
+    ghost gives = { λ f. TellsSentEach (channel_of f) (sender_of f) (messages_of f).items
+        (closes_at_end f) };
 
     fn poll(&mut self, cx: &mut Context<'_>) -> Poll<Self::Output> {
         for _ in 0..BUDGET {
