@@ -110,12 +110,11 @@ impl<T: Drop, V, P: Protocol<T, V>> RuledChannel<T, V, P> {
             × (ticket.new ≡ ticket.old)) }
         ensures wanted { OnErr result (next_poll (oldest core.old) core.old.closed ≡ Pending) }
     {
-        let polled = core.poll_next_with(ticket, &mut None, bell, &mut None)?;
-        if let Poll::Ready(next) = polled {
-            return Ok(Poll::Ready(next));
+        if core.is_empty() && !core.is_closed() {
+            let mark = waiter.mark(bell.runtime(), self.alloc, &self.source, cx)?;
+            return core.poll_next(ticket, mark, bell);
         }
-        let mark = waiter.mark(bell.runtime(), self.alloc, &self.source, cx)?;
-        core.poll_next(ticket, mark, bell)
+        core.poll_next_with(ticket, &mut None, bell, &mut None)
     }
 
     #[tactic(auto, using(crate::proofs::Logging::logs, crate::proofs::Logging::logs_if_ready))]
@@ -207,12 +206,11 @@ impl<T: Drop, V, P: Protocol<T, V>> RuledChannel<T, V, P> {
         ensures kept { core.new ≡ record core.old { closeds = core.new.closeds } }
         ensures unchanged { OnErr result ((core.new ≡ core.old) × (ticket.new ≡ ticket.old)) }
     {
-        let polled = core.poll_closed_with(ticket, &mut None, &mut None)?;
-        if let Poll::Ready(()) = polled {
-            return Ok(Poll::Ready(()));
+        if core.receiver_count() > 0 {
+            let mark = waiter.mark(rt, self.alloc, &self.source, cx)?;
+            return core.poll_closed(ticket, mark);
         }
-        let mark = waiter.mark(rt, self.alloc, &self.source, cx)?;
-        core.poll_closed(ticket, mark)
+        core.poll_closed_with(ticket, &mut None, &mut None)
     }
 }
 
