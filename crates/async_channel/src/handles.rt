@@ -3,6 +3,7 @@ ghost use Rattle.std.specs.Prelude.{◌≡◌, ◌<◌, ◌↔◌, ◌≢◌, Is
 ghost use Rattle.std.specs.Arc.{arc_value};
 ghost use Rattle.channel_model.specs.Errors.{message_of};
 ghost use Rattle.identity.specs.Stamps.{next_stamp};
+ghost use Rattle.ruled_channel.specs.Passes.{capacity_of, source_of};
 ghost use Rattle.async_channel.specs.Operations.{AreEndsOf, handle_of};
 
 use crate::link::{Link, Shared};
@@ -46,13 +47,14 @@ pub struct Sender<T: Drop, R: Wait + Clone + Drop> {
 /// The tag, and the source that tasks wait for.
 impl<T: Drop, R: Wait + Clone + Drop> Model for Sender<T, R> {
     ghost use Rattle.std.specs.Arc.{arc_value};
+    ghost use Rattle.ruled_channel.specs.Passes.{source_of};
     ghost use Rattle.async_channel.specs.Operations.{HandleView};
 
     ghost Value = { HandleView };
 
     ghost view = { λ handle. record {
       tag = handle.tag;
-      source = (arc_value handle.link.shared).channel.source.id;
+      source = source_of (arc_value handle.link.shared).channel;
     } };
 }
 
@@ -90,13 +92,14 @@ pub struct Receiver<T: Drop, R: Wait + Clone + Drop> {
 /// The tag, the source that tasks wait for, and the key of the stream's entry.
 impl<T: Drop, R: Wait + Clone + Drop> Model for Receiver<T, R> {
     ghost use Rattle.std.specs.Arc.{arc_value};
+    ghost use Rattle.ruled_channel.specs.Passes.{source_of};
     ghost use Rattle.async_channel.specs.Operations.{ReceiverView};
 
     ghost Value = { ReceiverView };
 
     ghost view = { λ handle. record {
       tag = handle.tag;
-      source = (arc_value handle.link.shared).channel.source.id;
+      source = source_of (arc_value handle.link.shared).channel;
       ticket = handle.ticket;
     } };
 }
@@ -132,10 +135,8 @@ pub fn bounded<T: Drop, R: Wait + Clone + Drop>(
     if maker.is_spent() {
         return Err(MakeError::NoStamps);
     }
-    match bounded_with(alloc, cap) {
-        Ok((channel, _pass)) => ends(rt, channel, maker),
-        Err(OutOfMemory) => Err(MakeError::OutOfMemory),
-    }
+    let (channel, _pass) = bounded_with(alloc, cap)?;
+    ends(rt, channel, maker)
 }
 
 /// Creates an unbounded channel, which can hold any number of messages.
@@ -168,10 +169,8 @@ pub fn unbounded<T: Drop, R: Wait + Clone + Drop>(
     if maker.is_spent() {
         return Err(MakeError::NoStamps);
     }
-    match unbounded_with(alloc) {
-        Ok((channel, _pass)) => ends(rt, channel, maker),
-        Err(OutOfMemory) => Err(MakeError::OutOfMemory),
-    }
+    let (channel, _pass) = unbounded_with(alloc)?;
+    ends(rt, channel, maker)
 }
 
 // Both sides of a channel, whose tag has its capacity. The stamp is given after everything that may
@@ -184,13 +183,11 @@ fn ends<T: Drop, R: Wait + Clone + Drop>(
     requires { IsSome maker.old }
     ensures spent { result ≢ Err MakeError.NoStamps }
     ensures unchanged { OnErr result (maker.new ≡ maker.old) }
-    ensures tags { IfOk result (λ ends. AreEndsOf ends.0 ends.1 maker.old channel.capacity) }
+    ensures tags { IfOk result (λ ends. AreEndsOf ends.0 ends.1 maker.old (capacity_of channel)) }
     ensures rises { IfOk result (λ _. maker.new ≡ next_stamp maker.old) }
 {
     let capacity = channel.capacity();
-    let Ok((sending, receiving)) = links(rt, channel) else {
-        return Err(MakeError::OutOfMemory);
-    };
+    let (sending, receiving) = links(rt, channel)?;
     let stamp = maker.draw().unwrap();
     let tag = Tag::new(stamp, capacity);
     Ok((Sender { tag, link: sending }, Receiver::new(tag, receiving)))
@@ -206,7 +203,7 @@ fn links<T: Drop, R: Wait + Clone + Drop>(
     let alloc = channel.alloc();
     let link = Link {
         shared: Arc::new(alloc, Shared { channel }).map_err(|_| OutOfMemory)?,
-        rt: rt.clone().map_err(|_| OutOfMemory)?,
+        rt: rt.clone()?,
     };
     let other = link.try_clone()?;
     Ok((link, other))
@@ -369,9 +366,7 @@ impl<T: Drop, R: Wait + Clone + Drop> Sender<T, R> {
     pub fn try_clone(&self) -> Result<Sender<T, R>, CloneError>
         ensures { IfOk result (λ sender. sender ≡ self.now) }
     {
-        let Ok(link) = self.link.try_clone() else {
-            return Err(CloneError::OutOfMemory);
-        };
+        let link = self.link.try_clone()?;
         let (channel, mut pass) = self.link.channel();
         if !channel.add_sender_as::<Unruled, R>(&self.link.rt, &mut pass) {
             return Err(CloneError::TooMany);
@@ -429,7 +424,7 @@ impl<T: Drop, R: Wait + Clone + Drop> Receiver<T, R> {
     pub(crate) fn new(tag: Tag, link: Link<T, R>) -> Receiver<T, R>
         ensures { result ≡ record {
           tag = tag;
-          source = (arc_value link.shared).channel.source.id;
+          source = source_of (arc_value link.shared).channel;
           ticket = None;
         } }
     {
@@ -581,9 +576,7 @@ impl<T: Drop, R: Wait + Clone + Drop> Receiver<T, R> {
     pub fn try_clone(&self) -> Result<Receiver<T, R>, CloneError>
         ensures { IfOk result (λ receiver. receiver ≡ record self.now { ticket = None }) }
     {
-        let Ok(link) = self.link.try_clone() else {
-            return Err(CloneError::OutOfMemory);
-        };
+        let link = self.link.try_clone()?;
         let (channel, mut pass) = self.link.channel();
         if !channel.add_receiver_as::<Unruled, R>(&self.link.rt, &mut pass) {
             return Err(CloneError::TooMany);

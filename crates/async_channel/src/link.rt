@@ -57,8 +57,8 @@ impl<T: Drop, R: Clone + Drop> Link<T, R> {
         ensures { IfOk result (λ link. arc_value link.shared ≡ arc_value self.now.shared) }
     {
         Ok(Link {
-            shared: Arc::try_clone(&self.shared).map_err(|_| OutOfMemory)?,
-            rt: self.rt.clone().map_err(|_| OutOfMemory)?,
+            shared: Arc::try_clone(&self.shared)?,
+            rt: self.rt.clone()?,
         })
     }
 }

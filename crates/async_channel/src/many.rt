@@ -3,7 +3,7 @@
 //! A call moves its messages in rounds. A round is one step under the lock, which nobody comes in
 //! between, and moves at most [`ROUND_LIMIT`] messages: so a batch of a million keeps nobody out for
 //! long. Between two rounds other calls may come in.
-ghost use Rattle.std.specs.Prelude.{◌≡◌, ◌+◌, ◌≤◌, drop, length, take};
+ghost use Rattle.std.specs.Prelude.{◌≡◌, ◌+◌, ◌≤◌, Ok, [], drop, length, take};
 ghost use Rattle.channel_core.specs.Batches.{moved_count};
 
 use crate::handles::{Receiver, Sender};
@@ -62,6 +62,7 @@ impl<T: Drop, R: Wait + Clone + Drop> Sender<T, R> {
     ) -> Result<Result<usize, TrySendError<()>>, OutOfMemory>
         ensures within { moved_count result ≤ length from.old.items }
         ensures rest { from.new.items ≡ drop (moved_count result) from.old.items }
+        ensures none { result ≡ Ok (Ok 0) → from.old.items ≡ [] }
     {
         let rounds = from.len() / ROUND_LIMIT;
         let mut sent = match self.send_round(from)? {
@@ -84,6 +85,7 @@ impl<T: Drop, R: Wait + Clone + Drop> Sender<T, R> {
     ) -> Result<Result<usize, TrySendError<()>>, OutOfMemory>
         ensures within { moved_count result ≤ length from.old.items }
         ensures rest { from.new.items ≡ drop (moved_count result) from.old.items }
+        ensures none { result ≡ Ok (Ok 0) → from.old.items ≡ [] }
     {
         let (channel, mut pass) = self.link.channel();
         channel.try_send_many(&self.link.rt, &mut pass, from, ROUND_LIMIT)

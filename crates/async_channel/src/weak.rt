@@ -34,13 +34,14 @@ pub struct WeakSender<T, R> {
 /// The tag, and the source that tasks wait for.
 impl<T, R> Model for WeakSender<T, R> {
     ghost use Rattle.std.specs.Arc.{arc_value};
+    ghost use Rattle.ruled_channel.specs.Passes.{source_of};
     ghost use Rattle.async_channel.specs.Operations.{HandleView};
 
     ghost Value = { HandleView };
 
     ghost view = { λ handle. record {
       tag = handle.tag;
-      source = (arc_value handle.link.shared).channel.source.id;
+      source = source_of (arc_value handle.link.shared).channel;
     } };
 }
 
@@ -67,13 +68,14 @@ pub struct WeakReceiver<T, R> {
 /// The tag, and the source that tasks wait for.
 impl<T, R> Model for WeakReceiver<T, R> {
     ghost use Rattle.std.specs.Arc.{arc_value};
+    ghost use Rattle.ruled_channel.specs.Passes.{source_of};
     ghost use Rattle.async_channel.specs.Operations.{HandleView};
 
     ghost Value = { HandleView };
 
     ghost view = { λ handle. record {
       tag = handle.tag;
-      source = (arc_value handle.link.shared).channel.source.id;
+      source = source_of (arc_value handle.link.shared).channel;
     } };
 }
 
@@ -94,9 +96,7 @@ impl<T: Drop, R: Wait + Clone + Drop> WeakSender<T, R> {
     pub fn upgrade(&self) -> Result<Option<Sender<T, R>>, CloneError>
         ensures { IfOk result (λ upgraded. IfSome upgraded (λ sender. sender ≡ self.now)) }
     {
-        let Ok(link) = self.link.try_clone() else {
-            return Err(CloneError::OutOfMemory);
-        };
+        let link = self.link.try_clone()?;
         let (channel, mut pass) = self.link.channel();
         match channel.upgrade_sender_as::<Unruled, R>(&self.link.rt, &mut pass) {
             Upgrade::Closed => Ok(None),
@@ -159,9 +159,7 @@ impl<T: Drop, R: Wait + Clone + Drop> WeakReceiver<T, R> {
         ensures { IfOk result
             (λ upgraded. IfSome upgraded (λ receiver. receiver ≡ receiver_at self.now)) }
     {
-        let Ok(link) = self.link.try_clone() else {
-            return Err(CloneError::OutOfMemory);
-        };
+        let link = self.link.try_clone()?;
         let (channel, mut pass) = self.link.channel();
         match channel.upgrade_receiver_as::<Unruled, R>(&self.link.rt, &mut pass) {
             Upgrade::Closed => Ok(None),

@@ -229,10 +229,7 @@ impl Waiter<Context<'_>> for Marker {
         if !register(rt, slot, source, cx) {
             return Err(OutOfMemory);
         }
-        match Arc::try_clone(slot) {
-            Ok(other) => Ok(Mark::Task(other)),
-            Err(_) => Err(OutOfMemory),
-        }
+        Ok(Mark::Task(Arc::try_clone(slot)?))
     }
 }
 
@@ -297,9 +294,6 @@ impl Waiter<()> for Sleeper {
         };
         let other = Arc::try_clone(&cell);
         self.cell = Some(cell);
-        match other {
-            Ok(cell) => Ok(Mark::Thread(cell)),
-            Err(_) => Err(OutOfMemory),
-        }
+        Ok(Mark::Thread(other?))
     }
 }
