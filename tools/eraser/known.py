@@ -4,8 +4,8 @@
 CRATES = {'event_list': None, 'channel_model': None, 'channel_core': None, 'channel_run': 'vamorilesh_run'}
 # Modules that a cfg alone wants, and their names with them.
 CONDITIONS = {'channel_model::step': 'vamorilesh_run'}
-# Modules in which no line runs.
-LEFT_OUT = {'channel_model::laws'}
+# Modules of which no erased line runs.
+LEFT_OUT = {'channel_model::conversions', 'channel_model::laws'}
 # Modules whose files the crate names itself, so that a user never meets a type under the path of its
 # proved source.
 NAMED = {'channel_model::errors': 'crate::errors'}

@@ -5,7 +5,6 @@
 ghost use Rattle.std.specs.Prelude.{◌≡◌, Some, codes};
 ghost use Rattle.channel_model.specs.Errors.{message_of, was_full, was_closed, try_send_text, try_send_debug, was_empty, was_ended, try_recv_text, try_recv_debug, make_text, make_debug, clone_text, clone_debug};
 
-use std::alloc::AllocError;
 use std::error::Error;
 use std::fmt;
 
@@ -276,34 +275,6 @@ impl fmt::Debug for OutOfMemory {
 }
 
 impl Error for OutOfMemory {}
-
-impl From<AllocError> for OutOfMemory {
-    fn from(_refused: AllocError) -> OutOfMemory {
-        OutOfMemory
-    }
-}
-
-impl From<OutOfMemory> for MakeError {
-    ghost use Rattle.std.specs.Prelude.{◌≡◌};
-    ghost use Rattle.channel_model.specs.declared.errors.MakeError.TheVariants.{OutOfMemory};
-
-    ghost from_gives = { λ _ error. error ≡ OutOfMemory };
-
-    fn from(_refused: OutOfMemory) -> MakeError {
-        MakeError::OutOfMemory
-    }
-}
-
-impl From<OutOfMemory> for CloneError {
-    ghost use Rattle.std.specs.Prelude.{◌≡◌};
-    ghost use Rattle.channel_model.specs.declared.errors.CloneError.TheVariants.{OutOfMemory};
-
-    ghost from_gives = { λ _ error. error ≡ OutOfMemory };
-
-    fn from(_refused: OutOfMemory) -> CloneError {
-        CloneError::OutOfMemory
-    }
-}
 
 impl<T> fmt::Display for NoMemory<T> {
     ghost output = { λ _. Some (codes "out of memory") };

@@ -7,6 +7,7 @@
 //! about.
 #![tactic(auto)]
 
+mod conversions;
 mod errors;
 pub mod laws;
 mod step;
