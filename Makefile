@@ -16,6 +16,7 @@ help:
 	@echo 'make oldest builds the Rust crate with the compiler of Debian 12'
 	@echo 'make check  proves every crate, lowest first, over what earlier checks kept'
 	@echo 'make pages  checks what needs no proof: the pages, and the places of wrong bodies'
+	@echo 'make programs and make rust-scripts run the built programs on scripts, refused memory and all'
 	@echo 'make facts  writes the tables of the pages that come from the sources'
 	@echo 'make bench  measures the waiting list, the handles, the parallel map, scripts, runs and orders,'
 	@echo '            and writes it into docs/figures.txt'
