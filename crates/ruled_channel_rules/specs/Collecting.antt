@@ -3,6 +3,8 @@ use Rattle.std.specs.Prelude.{◌≡◌, ℕ, true, List, Option, Result, OnOk, 
 use Rattle.std.specs.declared.alloc.Global.{Global}
 use Rattle.std.specs.declared.vec.Vec.{Vec}
 use Rattle.channel_model.specs.declared.errors.OutOfMemory.{OutOfMemory}
+use Rattle.ruled_channel.specs.Passes.{source_of}
+use Rattle.ruled_channel.specs.RecvAs.{channel_of as channel_below, pass_of}
 use Rattle.ruled_channel_rules.specs.declared.handles.Channel.{Channel}
 use Rattle.ruled_channel_rules.specs.declared.handles.Receiver.{Receiver}
 use Rattle.ruled_channel_rules.specs.declared.receiving.Recv.{Recv}
@@ -31,9 +33,9 @@ module _ {T : Type 0} where
     MayCollect channel r list parts = IsSomeAnd parts
         (λ h. HasGot channel r list h.0.receiver.value h.1.items × (h.0.channel.now ≡ channel)
         × IsSomeAnd h.0.inner
-        (λ b. MayReceive channel h.0.receiver.value b.channel.now b.pass))
+        (λ b. MayReceive channel h.0.receiver.value (channel_below b) (pass_of b)))
 
     -- the sources that it waits for
     abbrev pub waits_at : Option (Recv T R × Vec T Global) → ℕ → Type 0
     waits_at parts source = IsSomeAnd parts
-        (λ h. IsSomeAnd h.0.inner (λ b. source ≡ b.channel.now.source.id))
+        (λ h. IsSomeAnd h.0.inner (λ b. source ≡ source_of (channel_below b)))

@@ -4,6 +4,8 @@ use Rattle.std.specs.declared.alloc.Global.{Global}
 use Rattle.std.specs.declared.collections.VecDeque.{VecDeque}
 use Rattle.channel_model.specs.declared.errors.NoMemory.{NoMemory}
 use Rattle.channel_model.specs.declared.errors.SendError.{SendError}
+use Rattle.ruled_channel.specs.Passes.{source_of}
+use Rattle.ruled_channel.specs.SendAs.{channel_of as channel_below, parts_of}
 use Rattle.ruled_channel_rules.specs.declared.handles.Channel.{Channel}
 use Rattle.ruled_channel_rules.specs.declared.handles.Sender.{Sender}
 use Rattle.ruled_channel_rules.specs.declared.sending.Send.{Send}
@@ -44,10 +46,10 @@ module _ {T : Type 0} where
         HasSentBut channel s messages (f.message.value ∷ rest.items) f.sender.value
         × (f.channel.now ≡ channel)
         × IsSomeAnd f.inner
-        (λ b. MaySend channel f.sender.value f.message.value b.channel.now b.parts)
+        (λ b. MaySend channel f.sender.value f.message.value (channel_below b) (parts_of b))
     MaySendEach channel s messages Over = ⊥
 
     -- the sources that it waits for
     abbrev pub waits_at : Turn (Sender T) (Send T R) (VecDeque T Global) → ℕ → Type 0
-    waits_at (Wait f rest) source = IsSomeAnd f.inner (λ b. source ≡ b.channel.now.source.id)
+    waits_at (Wait f rest) source = IsSomeAnd f.inner (λ b. source ≡ source_of (channel_below b))
     waits_at _ source = ⊥
