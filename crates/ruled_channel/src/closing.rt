@@ -1,11 +1,13 @@
 //! The wait for the last receiver, as a future.
-ghost use Rattle.std.specs.Prelude.{◌≡◌, IfSome, IsSome, Some, None};
+ghost use Rattle.std.specs.Prelude.{◌≡◌, [], IfSome, IsSome, Some, None};
 ghost use Rattle.std.specs.Option.{ForSome};
 ghost use Rattle.futures.specs.Task.{Covers, Keeps};
 ghost use Rattle.futures.specs.Poll.{IfReady, OnPending};
+ghost use Rattle.channel_core.specs.Channel.{ClosedWaits};
+ghost use Rattle.ruled_channel.specs.declared.mark.Mark.{Mark};
 ghost use Rattle.ruled_channel.specs.Passes.{IsPassOf, source_of};
 ghost use Rattle.ruled_channel.specs.Receiving.{IsBack};
-ghost use Rattle.ruled_channel.specs.Steps.{HasMade, closed_left};
+ghost use Rattle.ruled_channel.specs.Steps.{HasMade, closed_left, found, made, woken};
 ghost use Rattle.ruled_channel.specs.Closing.{MayWait, GivesBack};
 
 use crate::channel::RuledChannel;
@@ -81,16 +83,22 @@ impl<T: Drop, V, P: Protocol<T, V>, R: Wait> Future for UntilClosed<'_, '_, T, V
 
     ghost needs = { λ f source. source ≡ source_of (channel_of f) };
 
-    ghost gives = { λ f. GivesBack (channel_of f) (pass_of f) };
+    ghost gives = { λ f. GivesBack P.holds (channel_of f) (pass_of f) };
 
     #[tactic(auto, using(crate::proofs::Made::no_receiver))]
     fn poll(&mut self, cx: &mut Context<'_>) -> Poll<Self::Output>
         requires { MayWait (channel_of self.old) (pass_of self.old) }
-        ensures value { IfReady result (GivesBack (channel_of self.old) (pass_of self.old)) }
+        ensures value { IfReady result
+            (GivesBack P.holds (channel_of self.old) (pass_of self.old)) }
+        ensures step { IfReady result
+            (λ out. HasMade (closed_left (ticket_of self.old)) out.0) }
+        ensures waits { OnPending result (IfSome (pass_of self.new) (λ p. (w : Mark)
+            × ClosedWaits (ticket_of self.old) (found p) w (ticket_of self.new) (made p)
+            × (woken p ≡ []))) }
         ensures again { OnPending result (MayWait (channel_of self.new) (pass_of self.new)) }
         ensures same { OnPending result ((x : _)
-            → GivesBack (channel_of self.new) (pass_of self.new) x
-            → GivesBack (channel_of self.old) (pass_of self.old) x) }
+            → GivesBack P.holds (channel_of self.new) (pass_of self.new) x
+            → GivesBack P.holds (channel_of self.old) (pass_of self.old) x) }
         ensures registered { OnPending result
             (Covers cx.new (λ source. source ≡ source_of (channel_of self.new))) }
         ensures holds { OnPending result (IsSome (ticket_of self.new)) }

@@ -1,12 +1,14 @@
 //! A receive as a future.
-ghost use Rattle.std.specs.Prelude.{◌≡◌, IfSome, IsSome, OnErr, Some, None};
+ghost use Rattle.std.specs.Prelude.{◌≡◌, [], IfSome, IsSome, OnErr, OnOk, Some, None};
 ghost use Rattle.std.specs.Option.{ForSome};
 ghost use Rattle.futures.specs.Task.{Covers, Keeps};
 ghost use Rattle.futures.specs.Poll.{IfReady, OnPending};
+ghost use Rattle.channel_core.specs.Channel.{RecvWaits, polled_receive};
+ghost use Rattle.ruled_channel.specs.declared.mark.Mark.{Mark};
 ghost use Rattle.ruled_channel.specs.State.{IsEmpty};
 ghost use Rattle.ruled_channel.specs.Rule.{Receives, Ends, Fitted};
 ghost use Rattle.ruled_channel.specs.Passes.{IsPassOf, LearnedOf, key_of, number, source_of, view};
-ghost use Rattle.ruled_channel.specs.Steps.{HasMade, HasMadeWith, receive_given_up};
+ghost use Rattle.ruled_channel.specs.Steps.{HasMade, found, made, receive_given_up, woken};
 ghost use Rattle.ruled_channel.specs.Receiving.{MayPoll, Gives, IsBack};
 
 use crate::channel::RuledChannel;
@@ -102,7 +104,13 @@ impl<T: Drop, V, P: Protocol<T, V>, M: Received<T, V>, E: AtEnd<V>, R: Wait> Fut
             (λ p. LearnedOf IsEmpty (Fitted P.holds (view p)))) }
         ensures value { IfReady result
             (Gives P.holds M.then E.then (channel_of self.old) (pass_of self.old)) }
-        ensures given_up { IfReady result (λ out. OnErr out.1 (HasMadeWith receive_given_up out.0)) }
+        ensures step { IfReady result
+            (λ out. OnOk out.1 (HasMade (polled_receive (ticket_of self.old)) out.0)) }
+        ensures given_up { IfReady result
+            (λ out. OnErr out.1 (HasMade (receive_given_up (ticket_of self.old)) out.0)) }
+        ensures waits { OnPending result (IfSome (pass_of self.new) (λ p. (w : Mark)
+            × RecvWaits (ticket_of self.old) (found p) w (ticket_of self.new) (made p)
+            × (woken p ≡ []))) }
         ensures again { OnPending result
             (MayPoll P.holds M.then E.then (channel_of self.new) (pass_of self.new)) }
         ensures same { OnPending result ((x : _)

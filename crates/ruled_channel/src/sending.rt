@@ -1,12 +1,14 @@
 //! A send as a future.
-ghost use Rattle.std.specs.Prelude.{◌≡◌, IfSome, IsSome, OnErr, Some, None};
+ghost use Rattle.std.specs.Prelude.{◌≡◌, [], IfSome, IsSome, OnErr, OnOk, Some, None};
 ghost use Rattle.std.specs.Option.{ForSome};
 ghost use Rattle.futures.specs.Task.{Covers, Keeps};
 ghost use Rattle.futures.specs.Poll.{IfReady, OnPending};
+ghost use Rattle.channel_core.specs.Channel.{SendWaits, polled_send};
+ghost use Rattle.ruled_channel.specs.declared.mark.Mark.{Mark};
 ghost use Rattle.ruled_channel.specs.State.{IsFull};
 ghost use Rattle.ruled_channel.specs.Rule.{Sends, Learns};
 ghost use Rattle.ruled_channel.specs.Passes.{IsPassOf, LearnedOf, key_of, number, source_of, view};
-ghost use Rattle.ruled_channel.specs.Steps.{HasMade, HasMadeWith, send_given_up};
+ghost use Rattle.ruled_channel.specs.Steps.{HasMade, found, made, send_given_up, woken};
 ghost use Rattle.ruled_channel.specs.Sending.{MaySend, GivesSent, AreBack};
 
 use crate::channel::RuledChannel;
@@ -105,7 +107,14 @@ impl<T: Drop, V, P: Protocol<T, V>, M: Sent<T, V>, L: Lesson<T, V>, R: Wait> Fut
             (λ h. LearnedOf IsFull (L.fact (view h.0)))) }
         ensures value { IfReady result
             (GivesSent M.then L.fact (channel_of self.old) (parts_of self.old)) }
-        ensures given_up { IfReady result (λ out. OnErr out.1 (HasMadeWith send_given_up out.0)) }
+        ensures step { IfReady result (λ out. OnOk out.1 (IfSome (parts_of self.old)
+            (λ h. HasMade (polled_send (Some h.1) (ticket_of self.old)) out.0))) }
+        ensures given_up { IfReady result
+            (λ out. OnErr out.1 (HasMade (send_given_up (ticket_of self.old)) out.0)) }
+        ensures waits { OnPending result (IfSome (parts_of self.new) (λ h. (w : Mark)
+            × SendWaits (Some h.1) (ticket_of self.old) (found h.0) w (ticket_of self.new)
+            (made h.0)
+            × (woken h.0 ≡ []))) }
         ensures again { OnPending result
             (MaySend P.holds M.then L.fact (channel_of self.new) (parts_of self.new)) }
         ensures same { OnPending result ((x : _)

@@ -3,7 +3,7 @@
 //! A poll looks without a mark first. One that is ready needs none, nor memory for it; one that
 //! isn't has changed nothing. Then its mark is made, and left in the core's list under the same
 //! lock, so that whoever tells it finds it. That is out of line, and the look is in its caller.
-ghost use Rattle.std.specs.Prelude.{◌≡◌, ◌==◌, ◌⊎◌, [], ◌++◌, Some, None, IfOk, IfErr, IfSome, IfNone, IsSome, OnOk, OnErr};
+ghost use Rattle.std.specs.Prelude.{◌≡◌, ◌<◌, ◌==◌, ◌⊎◌, [], ◌++◌, Some, None, IfOk, IfErr, IfSome, IfNone, IsSome, OnOk, OnErr};
 ghost use Rattle.futures.specs.Poll.{IfReady};
 ghost use Rattle.futures.specs.declared.task.Poll.TheVariants.{Pending};
 ghost use Rattle.channel_model.specs.Errors.{message_of};
@@ -11,7 +11,7 @@ ghost use Rattle.channel_model.specs.Tables.{OnReady, OnWait, closed_poll, next_
 ghost use Rattle.channel_core.specs.Channel.{ClosedWaits, GrowsWithMessages, NextWaits, RecvWaits, SendWaits, is_channel_full, oldest, polled_receive, polled_send, polled_stream, unchanged};
 ghost use Rattle.channel_core.specs.Tickets.{left};
 ghost use Rattle.ruled_channel.specs.declared.mark.Mark.{Mark};
-ghost use Rattle.ruled_channel.specs.State.{IsEmpty};
+ghost use Rattle.ruled_channel.specs.State.{HasReceivers, IsEmpty};
 ghost use Rattle.ruled_channel.specs.Rule.{Sends, Receives, Ends, Learns, Fitted};
 ghost use Rattle.ruled_channel.specs.Passes.{IsPassOf, IsSamePass, LearnedOf, Refuses, IfFull, UnlessFull, WantsToSend, key_of, number, source_of, view};
 ghost use Rattle.ruled_channel.specs.Steps.{HasMade, closed_left, found, made, receive_given_up, send_given_up, woken};
@@ -205,6 +205,7 @@ impl<T: Drop, V, P: Protocol<T, V>> RuledChannel<T, V, P> {
         ensures keeps { W.keeps cx.old cx.new }
         ensures kept { core.new ≡ record core.old { closeds = core.new.closeds } }
         ensures unchanged { OnErr result ((core.new ≡ core.old) × (ticket.new ≡ ticket.old)) }
+        ensures wanted { OnErr result (0 < core.old.receivers) }
     {
         if core.receiver_count() > 0 {
             let mark = waiter.mark(rt, self.alloc, &self.source, cx)?;
@@ -498,12 +499,14 @@ impl<T: Drop, V, P: Protocol<T, V>> RuledChannel<T, V, P> {
             × IsSome ticket.new × ClosedWaits ticket.old (found pass.new) w ticket.new (made pass.new)
             × (woken pass.new ≡ [])) }
         ensures keeps { W.keeps cx.old cx.new }
+        ensures memory { OnErr result
+            (LearnedOf HasReceivers (Fitted P.holds (view pass.old))) }
         ensures unpolled { OnErr result ((ticket.new ≡ ticket.old) × HasMade unchanged pass.new) }
     {
         let held = self.mutex.lock(rt, &mut pass.lock);
         let core = pass.lock.value_mut(&self.mutex, &held);
         let polled = self.poll_closed(rt, core, ticket, waiter, cx);
-        self.give_back::<Kept<Unruled>, R>(pass, held, Ringer::new(rt));
+        self.give_back::<Kept<Seen<P>>, R>(pass, held, Ringer::new(rt));
         polled
     }
 

@@ -1,6 +1,9 @@
 -- What a clause says of a channel whose messages all arrive, and of its handles.
 use Rattle.std.specs.Prelude.{◌≡◌, ℕ, Bool, true, List, [], ◌∷◌, Option}
+use Rattle.channel_core.specs.Channel.{Channel as CoreChannel}
+use Rattle.ruled_channel.specs.declared.mark.Mark.{Mark}
 use Rattle.ruled_channel.specs.Passes.{IsPassOf, capacity_of as ruled_capacity, view}
+use Rattle.ruled_channel.specs.Steps.{found}
 use Rattle.ruled_channel_rules.specs.declared.log.Log.{Log}
 use Rattle.ruled_channel_rules.specs.declared.handles.Channel.{Channel}
 use Rattle.ruled_channel_rules.specs.declared.handles.Hub.{Hub}
@@ -35,6 +38,13 @@ module _ {T : Type 0} where
   -- whether it found the channel closed and empty
   abbrev pub has_ended : Receiver T → Bool
   has_ended r = (view r.pass).ended
+
+  -- the channel that it found at its last step
+  abbrev pub sender_found : Sender T → CoreChannel T Mark
+  sender_found s = found s.pass
+
+  abbrev pub receiver_found : Receiver T → CoreChannel T Mark
+  receiver_found r = found r.pass
 
   -- how many senders and receivers a hub has made, and what those sent and got that it has back
   abbrev pub known : Hub T → Log T

@@ -1,7 +1,10 @@
 //! The channel, and who sends and receives.
-ghost use Rattle.std.specs.Prelude.{◌≡◌, ◌<◌, ◌≤◌, [], ◌∷◌, ◌++◌, length, ◌||◌, true, false, Some, None, IfOk, IfErr, OnOk, OnErr};
+ghost use Rattle.std.specs.Prelude.{◌≡◌, ◌<◌, ◌≤◌, [], ◌∷◌, ◌++◌, length, ◌||◌, not, true, false, Some, None, IfOk, IfErr, OnOk, OnErr};
 ghost use Rattle.std.specs.Prelude.{IsPermutation};
 ghost use Rattle.std.specs.List.{flat_map};
+ghost use Rattle.channel_model.specs.Tables.{try_recv_answer, try_send_answer};
+ghost use Rattle.channel_core.specs.Channel.{is_channel_full, oldest};
+ghost use Rattle.ruled_channel.specs.Passes.{IfFull};
 ghost use Rattle.ruled_channel_rules.specs.Handles.{IsHubOf, known, capacity_of};
 ghost use Rattle.ruled_channel_rules.specs.Whole.{hub_log};
 
@@ -118,7 +121,7 @@ impl<T: Drop> Channel<T> {
 }
 
 impl<T: Drop> Sender<T> {
-    ghost use Rattle.ruled_channel_rules.specs.Handles.{IsSenderOf, sent_by, sender_closed};
+    ghost use Rattle.ruled_channel_rules.specs.Handles.{IsSenderOf, sent_by, sender_closed, sender_found};
     ghost use Rattle.ruled_channel_rules.specs.Sending.{found_closed, was_refused};
     ghost use Rattle.channel_model.specs.Errors.{message_of};
     ghost use Rattle.ruled_channel_rules.specs.SendingEach.{TellsSentAll};
@@ -186,6 +189,9 @@ impl<T: Drop> Sender<T> {
         ensures memory { IfErr result
             (λ error. (error.0 ≡ message) × (sent_by self.new ≡ sent_by self.old)) }
         ensures closed { sender_closed self.new ≡ (found_closed result || sender_closed self.old) }
+        ensures full { IfOk result (λ answer. IfErr answer (λ error. IfFull error
+            (answer ≡ try_send_answer (sender_found self.new).closed
+            (is_channel_full (sender_found self.new)) message))) }
     {
         let ruled = &channel.ruled;
         let answer = ruled.try_send_as::<Whole, Unruled, R>(rt, &mut self.pass, message)?;
@@ -243,13 +249,14 @@ impl<T: Drop> Sender<T> {
         ensures same { sent_by self.new ≡ sent_by self.old }
         ensures closed { sender_closed self.new ≡ true }
         ensures again { sender_closed self.old ≡ true → result ≡ false }
+        ensures reply { result ≡ not (sender_found self.new).closed }
     {
         channel.ruled.close_as::<Whole, R>(rt, &mut self.pass)
     }
 }
 
 impl<T: Drop> Receiver<T> {
-    ghost use Rattle.ruled_channel_rules.specs.Handles.{IsReceiverOf, got_by, has_ended, receiver_closed};
+    ghost use Rattle.ruled_channel_rules.specs.Handles.{IsReceiverOf, got_by, has_ended, receiver_closed, receiver_found};
     ghost use Rattle.ruled_channel_rules.specs.Receiving.{IsAsItWas, FoundNone, HasAdded};
 
     /// Takes the oldest message, and waits while there is none. The inner error says that the
@@ -299,6 +306,8 @@ impl<T: Drop> Receiver<T> {
             (λ message. got_by self.new ≡ got_by self.old ++ message ∷ []) }
         ensures refused { IfErr result (FoundNone self.old self.new) }
         ensures closed { receiver_closed self.new ≡ receiver_closed self.old }
+        ensures reply { result
+            ≡ try_recv_answer (oldest (receiver_found self.new)) (receiver_found self.new).closed }
     {
         let ruled = &channel.ruled;
         ruled.try_recv_as::<Whole, Whole, Unruled, R>(rt, &mut self.pass)
@@ -363,6 +372,7 @@ impl<T: Drop> Receiver<T> {
         ensures closed { receiver_closed self.new ≡ true }
         ensures again { receiver_closed self.old ≡ true → result ≡ false }
         ensures ended { has_ended self.old ≡ true → result ≡ false }
+        ensures reply { result ≡ not (receiver_found self.new).closed }
     {
         channel.ruled.close_as::<Whole, R>(rt, &mut self.pass)
     }
