@@ -6,31 +6,43 @@ use Rattle.channel_model.specs.declared.errors.SendError.{SendError}
 use Rattle.channel_model.specs.declared.errors.OutOfMemory.{OutOfMemory}
 use Rattle.async_channel.specs.Tags.{TagView}
 
--- A sender or a weak handle: its tag, and the name of the source that tasks wait for at its
--- channel.
+-- A sender or a weak handle: its tag, the name of the source that tasks wait for at its channel, and
+-- how many messages that can hold, if there is a bound.
 pub record HandleView : Type 0 where
   pub tag : TagView
   pub source : ℕ
+  pub holds : Option ℕ
 
 -- A receiver: also the key of the entry by which its stream waits, if it does.
 pub record ReceiverView : Type 0 where
   pub tag : TagView
   pub source : ℕ
+  pub holds : Option ℕ
   pub ticket : Option ℕ
 
 -- a receiver whose stream doesn't wait, of the handle's channel
 abbrev pub receiver_at : HandleView → ReceiverView
-receiver_at handle = record { tag = handle.tag; source = handle.source; ticket = None }
+receiver_at handle = record {
+  tag = handle.tag;
+  source = handle.source;
+  holds = handle.holds;
+  ticket = None;
+}
 
 -- a receiver without its stream
 abbrev pub handle_of : ReceiverView → HandleView
-handle_of receiver = record { tag = receiver.tag; source = receiver.source }
+handle_of receiver = record {
+  tag = receiver.tag;
+  source = receiver.source;
+  holds = receiver.holds;
+}
 
 -- Both ends of a channel have the number drawn, and the capacity asked for.
 pub record AreEndsOf (sender : HandleView) (receiver : ReceiverView)
     (drawn asked : Option ℕ) : Type 0 where
   pub is_drawn : drawn ≡ Some sender.tag.stamp
   pub is_asked : sender.tag.capacity ≡ asked
+  pub is_held : sender.holds ≡ asked
   pub is_same : receiver ≡ receiver_at sender
 
 -- A send: its message until it is finished, the name of the source that its task waits for, and

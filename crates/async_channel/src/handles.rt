@@ -47,7 +47,7 @@ pub struct Sender<T: Drop, R: Wait + Clone + Drop> {
 /// The tag, and the source that tasks wait for.
 impl<T: Drop, R: Wait + Clone + Drop> Model for Sender<T, R> {
     ghost use Rattle.std.specs.Arc.{arc_value};
-    ghost use Rattle.ruled_channel.specs.Passes.{source_of};
+    ghost use Rattle.ruled_channel.specs.Passes.{capacity_of, source_of};
     ghost use Rattle.async_channel.specs.Operations.{HandleView};
 
     ghost Value = { HandleView };
@@ -55,6 +55,7 @@ impl<T: Drop, R: Wait + Clone + Drop> Model for Sender<T, R> {
     ghost view = { λ handle. record {
       tag = handle.tag;
       source = source_of (arc_value handle.link.shared).channel;
+      holds = capacity_of (arc_value handle.link.shared).channel;
     } };
 }
 
@@ -92,7 +93,7 @@ pub struct Receiver<T: Drop, R: Wait + Clone + Drop> {
 /// The tag, the source that tasks wait for, and the key of the stream's entry.
 impl<T: Drop, R: Wait + Clone + Drop> Model for Receiver<T, R> {
     ghost use Rattle.std.specs.Arc.{arc_value};
-    ghost use Rattle.ruled_channel.specs.Passes.{source_of};
+    ghost use Rattle.ruled_channel.specs.Passes.{capacity_of, source_of};
     ghost use Rattle.async_channel.specs.Operations.{ReceiverView};
 
     ghost Value = { ReceiverView };
@@ -100,6 +101,7 @@ impl<T: Drop, R: Wait + Clone + Drop> Model for Receiver<T, R> {
     ghost view = { λ handle. record {
       tag = handle.tag;
       source = source_of (arc_value handle.link.shared).channel;
+      holds = capacity_of (arc_value handle.link.shared).channel;
       ticket = handle.ticket;
     } };
 }
@@ -198,7 +200,8 @@ fn links<T: Drop, R: Wait + Clone + Drop>(
     rt: &R,
     channel: RuledChannel<T, (), Unruled>,
 ) -> Result<(Link<T, R>, Link<T, R>), OutOfMemory>
-    ensures { IfOk result (λ links. arc_value links.0.shared ≡ arc_value links.1.shared) }
+    ensures one { IfOk result (λ links. arc_value links.0.shared ≡ arc_value links.1.shared) }
+    ensures given { IfOk result (λ links. (arc_value links.0.shared).channel ≡ channel) }
 {
     let alloc = channel.alloc();
     let link = Link {
@@ -425,6 +428,7 @@ impl<T: Drop, R: Wait + Clone + Drop> Receiver<T, R> {
         ensures { result ≡ record {
           tag = tag;
           source = source_of (arc_value link.shared).channel;
+          holds = capacity_of (arc_value link.shared).channel;
           ticket = None;
         } }
     {

@@ -34,7 +34,7 @@ pub struct WeakSender<T, R> {
 /// The tag, and the source that tasks wait for.
 impl<T, R> Model for WeakSender<T, R> {
     ghost use Rattle.std.specs.Arc.{arc_value};
-    ghost use Rattle.ruled_channel.specs.Passes.{source_of};
+    ghost use Rattle.ruled_channel.specs.Passes.{capacity_of, source_of};
     ghost use Rattle.async_channel.specs.Operations.{HandleView};
 
     ghost Value = { HandleView };
@@ -42,6 +42,7 @@ impl<T, R> Model for WeakSender<T, R> {
     ghost view = { λ handle. record {
       tag = handle.tag;
       source = source_of (arc_value handle.link.shared).channel;
+      holds = capacity_of (arc_value handle.link.shared).channel;
     } };
 }
 
@@ -68,7 +69,7 @@ pub struct WeakReceiver<T, R> {
 /// The tag, and the source that tasks wait for.
 impl<T, R> Model for WeakReceiver<T, R> {
     ghost use Rattle.std.specs.Arc.{arc_value};
-    ghost use Rattle.ruled_channel.specs.Passes.{source_of};
+    ghost use Rattle.ruled_channel.specs.Passes.{capacity_of, source_of};
     ghost use Rattle.async_channel.specs.Operations.{HandleView};
 
     ghost Value = { HandleView };
@@ -76,6 +77,7 @@ impl<T, R> Model for WeakReceiver<T, R> {
     ghost view = { λ handle. record {
       tag = handle.tag;
       source = source_of (arc_value handle.link.shared).channel;
+      holds = capacity_of (arc_value handle.link.shared).channel;
     } };
 }
 
