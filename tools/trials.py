@@ -5,11 +5,13 @@ in the crate. `is_local` says that it changes nothing else, and `written_into` a
 text with the change, or None if it has no place there. The libraries are those that `rt ci` or
 `rt check` built.
 
-One run tries changes of several functions. It leaves a change open if its function is only said to
-call one that isn't proved, or if stored answers, which cite the text of their function, don't fit.
-What is open is tried again, together and without those answers, and each by itself once a turn
-settles nothing. If all goals that aren't proved without its answers are those that had one,
-`breaks_a_proof` is set: the prover may find none for a change that keeps to the contract, either.
+One run tries many changes. Each stands in a copy of its function, so that whatever a function calls
+is right. A method of a trait can have no copy, and is changed itself. A run leaves a change open if
+its function is only said to call one that isn't proved, or if stored answers, which cite the text of
+their function, don't fit. What is open is tried again, together and without those answers, and each
+by itself once a turn settles nothing. If all goals that aren't proved without its answers are those
+that had one, `breaks_a_proof` is set: the prover may find none for a change that keeps to the
+contract, either.
 """
 import importlib.machinery
 import importlib.util
@@ -30,7 +32,9 @@ CALLS = re.compile(r'it calls .*|which (?:is|are) not proved')
 # How many run side by side, whatever crates they are of.
 TURNS = threading.BoundedSemaphore(len(os.sched_getaffinity(0)))
 # How many changes a run tries at most, so that no run takes much longer than others.
-MOST = 16
+MOST = 32
+# Where the answers of a function are stored, among its proofs.
+ANSWERS = 'Answers.antt'
 
 
 class Refused(Exception):
@@ -38,12 +42,42 @@ class Refused(Exception):
 
 
 class Tried:
-    """What is found out of a change."""
+    """A change, as it is tried, and what is found out."""
 
-    # The file of answers that it doesn't fit, in its crate.
-    answers = ''
+    # Its function in the sources.
+    call = None
+    # What the name of its copy ends in, if it has one.
+    ending = ''
+    # Whether stored answers don't fit it.
+    is_unfit = False
     # Whether nothing isn't proved but goals that had one of these.
     breaks_a_proof = False
+
+    @property
+    def tried(self):
+        """The function that has the change, as the prover names its end."""
+        return self.function + self.ending
+
+    def put_into(self, lines, right):
+        """Puts the change into the lines of its file, which are right up to its function's end."""
+        wrong, name = self.written_into(right).split('\n'), self.call.name
+        first, last = self.call.line - 1, self.call.last
+        changed = '\n'.join(wrong[first : last + len(wrong) - len(right.split('\n'))])
+        named = re.sub(rf'\bfn {name}\b', f'fn {name}{self.ending}', changed, count=1)
+        lines[last if self.ending else first : last] = named.split('\n')
+
+    def put_proofs(self, proofs):
+        """Gives its copy what is stored for its function, but for answers that don't fit."""
+        *owner, name = self.function.split('::')
+        for folder in [it for it in proofs.rglob(name) if [*it.parts[-1 - len(owner) : -1]] == owner]:
+            changed = folder.with_name(name + self.ending)
+            if self.ending:
+                shutil.copytree(folder, changed)
+            if self.is_unfit:
+                (changed / ANSWERS).unlink()
+            ends = [f'{folder.parent.name}.{name}{it}.' for it in ('', self.ending)]
+            for file in changed.rglob('*.antt'):
+                file.write_text(file.read_text('utf-8').replace(*ends), 'utf-8')
 
 
 def toolchain():
@@ -56,36 +90,35 @@ def toolchain():
     return module.rtlib
 
 
-def texts_of(changes, folder):
-    """The texts of their files with these changes in them, or None if one has no place there."""
-    texts = {}
-    for change in changes:
-        text = texts.get(change.file) or (folder / change.file).read_text('utf-8')
-        texts[change.file] = change.written_into(text)
-        if texts[change.file] is None:
-            return None
-    return texts
+def text_with(changes, right):
+    """The text of a file with these changes in it."""
+    if not changes[0].is_local:
+        return changes[0].written_into(right)
+    lines = right.split('\n')
+    for change in sorted(changes, key=lambda it: -it.call.last):
+        change.put_into(lines, right)
+    return '\n'.join(lines)
 
 
-def round_of(changes, folder):
+def round_of(changes):
     """As many of the changes as one run can try."""
     taken = {}
     for change in changes:
-        is_new = change.function not in taken and len(taken) < MOST
-        if is_new and texts_of([*taken.values(), change], folder) is not None:
-            taken[change.function] = change
+        if change.tried not in taken and len(taken) < MOST:
+            taken[change.tried] = change
     return [*taken.values()]
 
 
-def rounds_of(changes, folder, is_apart):
+def rounds_of(changes, is_apart):
     """Rounds that try each of the changes once. What changes anything outside of its function is
     tried by itself."""
-    together = [it for it in changes if it.is_local and not is_apart]
-    yield from ([it] for it in changes if it not in together)
+    apart = [it for it in changes if is_apart or not it.is_local]
+    together = [it for it in changes if it not in apart]
     while together:
-        taken = round_of(together, folder)
+        taken = round_of(together)
         yield taken
         together = [it for it in together if it not in taken]
+    yield from ([it] for it in apart)
 
 
 def own_reasons(said):
@@ -115,10 +148,12 @@ class Trial:
         """Copies the crate with the changes in it, and without the answers that don't fit them."""
         for part in filter(lambda it: (self.folder / it).is_dir(), self.rtlib.PARTS):
             shutil.copytree(self.folder / part, room / part)
-        for file, text in texts_of(changes, self.folder).items():
+        for file in {it.file for it in changes}:
+            mine = [it for it in changes if it.file == file]
+            text = text_with(mine, (self.folder / file).read_text('utf-8'))
             (room / file).write_text(text, 'utf-8')
-        for file in {it.answers for it in changes if it.answers}:
-            (room / file).unlink()
+        for change in changes:
+            change.put_proofs(room / 'proofs')
 
     def begun(self, changes):
         """The first run, or None if there was one."""
@@ -144,7 +179,7 @@ class Trial:
         """The same, of a run over what is kept there."""
         with TURNS, tempfile.TemporaryDirectory(prefix='edits-') as room:
             self.copy_into(Path(room), changes)
-            flags = ['--jobs', '1', *(word for it in changes for word in ('--only', it.function))]
+            flags = ['--jobs', '1', *(word for it in changes for word in ('--only', it.tried))]
             words = [*self.crate.words(flags, keeps=False), '--incremental', str(kept)]
             return subprocess.run(
                 [*self.rtlib.guarded(), self.rtlib.RATTLE, 'check', *words],
@@ -155,7 +190,7 @@ class Trial:
     def outcome(self, change, said, is_alone):
         """Whether the change was proved, or None if that is open."""
         verdicts = [it for it in map(VERDICT.match, said.split('\n')) if it]
-        mine = [it for it in verdicts if f'::{it[1]}'.endswith(f'::{change.function}')]
+        mine = [it for it in verdicts if f'::{it[1]}'.endswith(f'::{change.tried}')]
         if len(mine) != 1:
             raise Refused(f'{change.function} is no name of one function')
         name, verdict, why = mine[0].groups()
@@ -163,11 +198,12 @@ class Trial:
             return True
         if verdict == 'could not tell' and is_alone:
             raise Refused('the prover could not tell')
-        answers = f'proofs/{name.replace("::", "/")}/Answers.antt'
-        if change.answers:
-            change.breaks_a_proof = goals_of(why) <= answered(self.folder / answers)
-        elif re.search(rf'^\./{re.escape(answers)}:.*: error', said, re.M):
-            change.answers = answers
+        stored = f'proofs/{name.replace("::", "/")}'
+        if change.is_unfit:
+            right = self.folder / stored.removesuffix(change.ending) / ANSWERS
+            change.breaks_a_proof = goals_of(why) <= answered(right)
+        elif re.search(rf'^\./{re.escape(stored)}/{ANSWERS}:.*: error', said, re.M):
+            change.is_unfit = True
             return None
         return False if verdict != 'could not tell' and (is_alone or own_reasons(why)) else None
 
@@ -186,10 +222,13 @@ class Trial:
 
 def tried_in(crate, changes, rtlib):
     """Each change of a crate, with whether it was proved or what is wrong with it."""
+    for number, change in enumerate(changes):
+        if change.is_local and not change.call.trait:
+            change.ending = f'_changed_{number}'
     with tempfile.TemporaryDirectory(prefix='kept-') as room:
         trial, left, is_apart = Trial(crate, Path(room, 'kept'), rtlib), changes, False
         while left:
-            rounds = [*rounds_of(left, trial.folder, is_apart)]
+            rounds = [*rounds_of(left, is_apart)]
             with ThreadPoolExecutor(len(rounds)) as pool:
                 tried = sum(pool.map(trial.tried, rounds), [])
             yield from (it for it in tried if it[1] is not None)

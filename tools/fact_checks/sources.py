@@ -21,10 +21,11 @@ class Owner:
 
 
 class Call:
-    """A function or method, the line of its first attribute, and the clauses that it ensures."""
+    """A function or method, its first line, which may be an attribute, its last line, and the
+    clauses that it ensures."""
 
-    def __init__(self, path, line, owner, name):
-        self.path, self.line, self.name = path, line, name
+    def __init__(self, path, line, last, owner, name):
+        self.path, self.line, self.last, self.name = path, line, last, name
         self.owner = owner.name if owner else ''
         self.trait = owner.trait if owner else None
         self.arguments = owner.arguments if owner else ''
@@ -80,7 +81,8 @@ class Crate:
             found = FUNCTION.match(line)
             if found and bool(found[1]) == bool(owner):
                 begin = number - len(attributes(lines[: number - 1]))
-                call = Call(path, begin, owner, found[2])
+                rest = itertools.takewhile(lambda it: it != found[1] + '}', lines[number - 1 :])
+                call = Call(path, begin, number + len([*rest]), owner, found[2])
                 call.clauses, call.text = contract(lines[number - 1 :], found[1])
                 self.calls.append(call)
 
