@@ -18,7 +18,7 @@ again for each request, and that one request is refused. Four things may come of
   have moved a part before, and is made again for the rest.
 - ended: it writes a beginning of the same, and ends with status 1 and the line that there is no
   memory. chanrun ends like this; the other one if it is its own memory, and no call's.
-- different: anything else, which is a fault.
+- different: anything else, which is a fault. So is memory that isn't given back at the end.
 
 A line is printed for each row, with how many of its requests came to each. Of the longest scripts
 the first and the last requests are refused. The status is 0 if nothing differed, each row asked for
@@ -47,6 +47,8 @@ ENDS = 50
 # How many further requests of a row by threads are refused, if they are made.
 MORE = 20
 SECONDS = 60
+# What a thread has of its own goes back when it ends, and isn't kept for the next one.
+TUNED = {**os.environ, "GLIBC_TUNABLES": "glibc.pthread.stack_cache_size=0"}
 AGAIN = (1, b"a call was refused memory, and made again\n")
 WITHOUT_MEMORY = [
     (1, line)
@@ -105,7 +107,7 @@ class Sweep:
 
     def run(self, row, number=0, counted=None):
         """One run, of which the request with this number is refused: what it wrote and its end."""
-        environment = dict(os.environ, LD_PRELOAD=str(self.allocator), REFUSED=str(number))
+        environment = dict(TUNED, LD_PRELOAD=str(self.allocator), REFUSED=str(number))
         if counted:
             environment["COUNTED"] = str(counted)
         ran = subprocess.run(
