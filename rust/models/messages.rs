@@ -71,6 +71,11 @@ fn the_last_sender_beside_an_upgrade() {
     });
 }
 
+/// Whether a closed operation is ready at once.
+fn has_ended(s: &Sender<u64>) -> bool {
+    is_ready(&mut Box::pin(s.closed()), caller(s))
+}
+
 #[test]
 fn the_last_receiver_beside_an_upgrade() {
     model(|| {
@@ -78,7 +83,7 @@ fn the_last_receiver_beside_an_upgrade() {
         let weak = r.downgrade();
         let upgrade = move || match weak.upgrade() {
             Some(r) => assert_eq!((s.try_send(1), r.try_recv()), (Ok(()), Ok(1))),
-            None => assert!(s.is_closed() && s.try_send(1).is_err()),
+            None => assert!(s.is_closed() && s.try_send(1).is_err() && has_ended(&s)),
         };
         beside!(upgrade, move || drop(r));
     });
@@ -86,15 +91,18 @@ fn the_last_receiver_beside_an_upgrade() {
 
 #[test]
 fn the_last_receiver_beside_an_upgrade_and_a_closed_operation() {
-    model(|| {
-        let (s, r) = unbounded::<u64>();
-        let weak = r.downgrade();
-        let closed = || {
-            block_on(s.closed());
-            assert!(s.is_closed());
-        };
-        beside!(closed, move || drop(r), move || drop(weak.upgrade()));
-    });
+    for is_closed in [false, true] {
+        model(move || {
+            let (s, r) = unbounded::<u64>();
+            assert!(!is_closed || r.close());
+            let weak = r.downgrade();
+            let closed = || {
+                block_on(s.closed());
+                assert!(s.is_closed());
+            };
+            beside!(closed, move || drop(r), move || drop(weak.upgrade()));
+        });
+    }
 }
 
 #[test]
@@ -129,10 +137,14 @@ fn a_count_of_none_is_seen_with_a_closed_channel() {
         let (s, r) = unbounded::<u64>();
         beside!(|| assert!(r.sender_count() > 0 || r.is_closed()), move || drop(s));
     });
-    model(|| {
-        let (s, r) = unbounded::<u64>();
-        beside!(|| assert!(s.receiver_count() > 0 || s.is_closed()), move || drop(r));
-    });
+    for is_closed in [false, true] {
+        model(move || {
+            let (s, r) = unbounded::<u64>();
+            assert!(!is_closed || r.close());
+            let look = || assert!(s.receiver_count() > 0 || s.is_closed() && has_ended(&s));
+            beside!(look, move || drop(r));
+        });
+    }
 }
 
 #[test]
@@ -263,6 +275,44 @@ fn a_stream_beside_a_send_that_another_receive_takes() {
             }
         };
         beside!(next, move || s.try_send(1).unwrap(), take);
+    });
+}
+
+#[test]
+fn what_another_takes_meanwhile_is_waited_for() {
+    let are_at_the_end: [fn(&mut Receiver<u64>, &mut Context<'_>) -> bool; 2] = [
+        |r, context| Pin::new(&mut r.recv()).poll(context) == Poll::Ready(Err(RecvError)),
+        |r, context| Pin::new(r).poll_next(context) == Poll::Ready(None),
+    ];
+    for is_at_the_end in are_at_the_end {
+        model(move || {
+            let (s, r) = unbounded();
+            let (mut receiver, other, waker) = (r.clone(), r.clone(), caller(&s));
+            let look = move || {
+                assert!(!is_at_the_end(&mut receiver, &mut Context::from_waker(&waker)));
+            };
+            let take = move || {
+                let _ = other.try_recv();
+            };
+            beside!(|| s.try_send(1).unwrap(), look, take);
+            drop(r);
+        });
+    }
+    model(|| {
+        let (s, r) = bounded(1);
+        s.try_send(0).unwrap();
+        let (sender, other, waker) = (s.clone(), s.clone(), caller(&s));
+        let look = move || {
+            let (mut send, context) = (sender.send(1), &mut Context::from_waker(&waker));
+            // A poll of a send that has finished would panic.
+            let _ = Pin::new(&mut send).poll(context).is_ready()
+                || Pin::new(&mut send).poll(context).is_ready();
+        };
+        let fill = move || {
+            let _ = other.try_send(2);
+        };
+        beside!(|| assert!(r.try_recv().is_ok()), look, fill);
+        drop(s);
     });
 }
 

@@ -7,7 +7,7 @@ use std::task::{Context, Poll, Waker};
 
 use futures_core::Stream;
 use loom::model;
-use vamorilesh::{block_on, bounded, unbounded, Sender};
+use vamorilesh::{block_on, bounded, unbounded, Receiver, Sender};
 
 use super::{caller, is_ready, Caller};
 
@@ -84,6 +84,107 @@ fn each_operation_gives_its_wakers_back_without_the_lock() {
         s.try_send(1).unwrap();
         wait_and_give_up(&s, s.send(2));
         wait_and_give_up(&s, s.send_many([2, 3]));
+    });
+}
+
+/// Polls a future, which has to wait.
+fn waits<F: Future>(sender: &Sender<u64>, future: F) -> Pin<Box<F>> {
+    let mut future = Box::pin(future);
+    assert!(!is_ready(&mut future, caller(sender)));
+    future
+}
+
+/// The next message of a stream.
+async fn next(r: &mut Receiver<u64>) -> Option<u64> {
+    poll_fn(|context| Pin::new(&mut *r).poll_next(context)).await
+}
+
+#[test]
+fn each_call_wakes_without_the_lock() {
+    let sends: [fn(&Sender<u64>); 7] = [
+        |s| assert!(s.try_send(1).is_ok()),
+        |s| assert!(s.force_send(1).is_ok()),
+        |s| assert!(s.send_blocking(1).is_ok()),
+        |s| assert!(s.try_send_many(&mut [1].into()).is_ok()),
+        |s| assert!(s.send_many_blocking([1]).is_ok()),
+        |s| assert!(block_on(s.send_many([1])).is_ok()),
+        |s| assert!(s.close()),
+    ];
+    for send in sends {
+        model(move || {
+            let (s, r) = bounded(1);
+            let mut stream = r.clone();
+            let _others = (waits(&s, r.recv()), waits(&s, next(&mut stream)));
+            send(&s);
+        });
+    }
+    let receives: [fn(&mut Receiver<u64>); 7] = [
+        |r| assert!(r.try_recv().is_ok()),
+        |r| assert!(r.recv_blocking().is_ok()),
+        |r| assert!(block_on(Box::pin(next(r))).is_some()),
+        |r| assert!(r.try_recv_many(&mut Vec::new(), 2).is_ok()),
+        |r| assert!(r.recv_many_blocking(&mut Vec::new(), 2) > 0),
+        |r| assert!(block_on(r.recv_many(&mut Vec::new(), 2)) > 0),
+        |r| assert!(r.close()),
+    ];
+    for receive in receives {
+        model(move || {
+            let (s, mut r) = bounded(1);
+            assert!(s.try_send(0).is_ok());
+            let _other = waits(&s, s.send(1));
+            receive(&mut r);
+        });
+    }
+}
+
+#[test]
+fn each_operation_that_waited_wakes_without_the_lock() {
+    model(|| {
+        let (s, r) = bounded(1);
+        let (mut stream, mut into) = (r.clone(), Vec::new());
+        let mut receives: [Pin<Box<dyn Future<Output = bool>>>; 3] = [
+            waits(&s, async { r.recv().await.is_ok() }),
+            waits(&s, async { r.recv_many(&mut into, 1).await > 0 }),
+            waits(&s, async { next(&mut stream).await.is_some() }),
+        ];
+        for receive in &mut receives {
+            assert!(s.try_send(1).is_ok());
+            let _other = waits(&s, s.send(2));
+            assert!(is_ready(receive, caller(&s)));
+        }
+    });
+    model(|| {
+        let (s, r) = bounded(1);
+        assert!(s.try_send(1).is_ok());
+        let mut sends: [Pin<Box<dyn Future<Output = bool>>>; 2] = [
+            waits(&s, async { s.send(2).await.is_ok() }),
+            waits(&s, async { s.send_many([3]).await.is_ok() }),
+        ];
+        for send in &mut sends {
+            assert!(r.try_recv().is_ok());
+            let _other = waits(&s, r.recv());
+            assert!(is_ready(send, caller(&s)));
+        }
+    });
+}
+
+#[test]
+fn what_is_given_up_wakes_without_the_lock() {
+    model(|| {
+        let (s, r) = bounded(1);
+        let (first, _second) = (waits(&s, r.recv()), waits(&s, r.recv()));
+        assert!(s.try_send(1).is_ok());
+        drop(first);
+        let (first, _second) = (waits(&s, s.send(1)), waits(&s, s.send(1)));
+        assert!(r.try_recv().is_ok());
+        drop(first);
+        let _closed = waits(&s, s.closed());
+        drop(r);
+    });
+    model(|| {
+        let (s, r) = bounded(1);
+        let _other = waits(&s, r.recv());
+        drop(s);
     });
 }
 

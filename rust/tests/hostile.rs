@@ -9,7 +9,7 @@ use std::panic::{self, catch_unwind, AssertUnwindSafe};
 use std::pin::Pin;
 use std::ptr;
 use std::sync::atomic::{AtomicUsize, Ordering};
-use std::sync::Arc;
+use std::sync::{mpsc, Arc};
 use std::task::{Context, Poll, RawWaker, RawWakerVTable, Wake, Waker};
 use std::thread;
 use std::time::Duration;
@@ -22,6 +22,8 @@ thread_local! {
     /// The channel that a [`copied`] waker of this thread calls.
     static CALLED: RefCell<Option<(Sender<u64>, Receiver<u64>)>> = const { RefCell::new(None) };
     static COPIES: Cell<usize> = const { Cell::new(0) };
+    /// Whether it sends a message by the next copy.
+    static SENDS: Cell<bool> = const { Cell::new(false) };
 }
 
 /// A waker that calls the channel whenever it is copied.
@@ -30,12 +32,34 @@ fn copied(_: *const ()) -> RawWaker {
     CALLED.with(|called| {
         if let Some((s, r)) = called.borrow().as_ref() {
             let _ = (s.len(), r.is_closed(), s.downgrade().upgrade());
+            if SENDS.with(Cell::take) {
+                assert_eq!(s.try_send(4), Ok(()));
+            }
         }
     });
     RawWaker::new(ptr::null(), &TABLE)
 }
 
-static TABLE: RawWakerVTable = RawWakerVTable::new(copied, |_| {}, |_| {}, |_| {});
+/// Each copy calls the channel also when it is dropped.
+fn dropped(_: *const ()) {
+    CALLED.with(|called| {
+        if let Some((s, _)) = called.borrow().as_ref() {
+            drop(s.downgrade().upgrade());
+        }
+    });
+}
+
+static TABLE: RawWakerVTable = RawWakerVTable::new(copied, |_| {}, |_| {}, dropped);
+
+/// Fails if these calls don't end: one that comes under the lock waits for ever.
+fn ends(calls: impl FnOnce() + Send + 'static) {
+    let (tell, told) = mpsc::channel();
+    thread::spawn(move || {
+        calls();
+        tell.send(())
+    });
+    assert_eq!(told.recv_timeout(Duration::from_secs(10)), Ok(()));
+}
 
 /// Polls a future once, and answers whether it was ready and how often its waker was copied.
 fn poll_copied<F: Future + Unpin>(future: &mut F) -> (bool, usize) {
@@ -47,18 +71,25 @@ fn poll_copied<F: Future + Unpin>(future: &mut F) -> (bool, usize) {
 }
 
 #[test]
-fn a_waker_may_call_the_channel_when_it_is_copied() {
-    let (s, r) = bounded(1);
-    CALLED.with(|called| called.replace(Some((s.clone(), r.clone()))));
-    let mut receive = r.recv();
-    assert_eq!(poll_copied(&mut receive), (false, 1));
-    assert_eq!((poll_copied(&mut s.send(1)), poll_copied(&mut receive)), ((true, 0), (true, 0)));
-    assert_eq!(s.try_send(2), Ok(()));
-    let mut send = s.send(3);
-    assert_eq!((poll_copied(&mut send), poll_copied(&mut send)), ((false, 1), (false, 0)));
-    assert_eq!((r.try_recv(), poll_copied(&mut send)), (Ok(2), (true, 0)));
-    assert_eq!(poll_copied(&mut s.closed()), (false, 1));
-    CALLED.with(RefCell::take);
+fn a_waker_may_call_the_channel_when_it_is_copied_or_dropped() {
+    ends(|| {
+        let (s, r) = bounded(1);
+        CALLED.with(|called| called.replace(Some((s.clone(), r.clone()))));
+        let mut receive = r.recv();
+        assert_eq!(poll_copied(&mut receive), (false, 1));
+        assert_eq!(poll_copied(&mut s.send(1)), (true, 0));
+        assert_eq!(poll_copied(&mut receive), (true, 0));
+        assert_eq!(s.try_send(2), Ok(()));
+        let mut send = s.send(3);
+        assert_eq!((poll_copied(&mut send), poll_copied(&mut send)), ((false, 1), (false, 0)));
+        assert_eq!((r.try_recv(), poll_copied(&mut send)), (Ok(2), (true, 0)));
+        assert_eq!(poll_copied(&mut s.closed()), (false, 1));
+        assert_eq!(r.try_recv(), Ok(3));
+        // What comes while it is copied makes the copy needless.
+        SENDS.with(|sends| sends.set(true));
+        assert_eq!(poll_copied(&mut r.recv()), (true, 1));
+        CALLED.with(RefCell::take);
+    });
 }
 
 #[test]
@@ -151,10 +182,15 @@ fn what_goes_by_a_panic_is_given_up_like_all_else() {
         assert!(support::poll_with(&mut first, &log.waker(1)).is_pending());
         assert!(support::poll_with(&mut second, &log.waker(2)).is_pending());
         assert_eq!((s.try_send(7), log.take()), (Ok(()), vec![1]));
+        let mut stream = r.clone();
+        assert_eq!(r.try_recv(), Ok(7));
+        let waker = log.waker(3);
+        assert!(Pin::new(&mut stream).poll_next(&mut Context::from_waker(&waker)).is_pending());
         panic!("with a notice");
     };
     assert!(catch_unwind(AssertUnwindSafe(panics)).is_err());
     assert_eq!((s.sender_count(), s.receiver_count(), log.take()), (1, 1, vec![2]));
+    assert_eq!((s.try_send(8), log.take()), (Ok(()), vec![]));
 }
 
 /// A waker that panics when it is woken, and when it is dropped if it says so.

@@ -10,6 +10,7 @@ use std::sync::atomic::{AtomicUsize, Ordering};
 use std::sync::Arc;
 use std::task::{Context, Poll, Wake, Waker};
 use std::thread;
+use std::time::Duration;
 
 use futures_lite::future::{block_on, poll_once};
 use futures_lite::Stream;
@@ -98,6 +99,7 @@ fn try_send_many_into_a_closed_channel_sends_nothing() {
 
 #[test]
 fn large_batches_go_in_and_out_whole_and_in_order() {
+    assert_eq!(ROUND_LIMIT, 128);
     for count in [ROUND_LIMIT - 1, ROUND_LIMIT, ROUND_LIMIT + 1, 10 * ROUND_LIMIT] {
         for (s, r) in [bounded(count), unbounded()] {
             let (mut from, mut into) = (numbers(count), Vec::new());
@@ -114,6 +116,7 @@ fn batches_of_messages_without_size() {
     let (s, r) = bounded(200);
     let mut from: VecDeque<()> = std::iter::repeat(()).take(300).collect();
     assert_eq!((s.try_send_many(&mut from), from.len()), (Ok(200), 100));
+    assert_eq!((s.try_send_many(&mut from), from.len()), (Err(TrySendError::Full(())), 100));
     let mut into = Vec::new();
     assert_eq!((r.try_recv_many(&mut into, 150), into.len()), (Ok(150), 150));
     assert_eq!(block_on(r.recv_many(&mut into, 150)), 50);
@@ -124,7 +127,7 @@ fn futures_that_can_go_on_answer_at_once() {
     let (s, r) = bounded(4);
     let mut into = Vec::new();
     block_on(async {
-        assert_eq!(r.recv_many(&mut into, 0).await, 0);
+        assert_eq!(poll_once(r.recv_many(&mut into, 0)).await, Some(0));
         assert_eq!(s.send_many(0..3).await, Ok(()));
         assert_eq!(s.send_many([]).await, Ok(()));
         assert_eq!(r.recv_many(&mut into, 2).await, 2);
@@ -462,7 +465,16 @@ fn a_waker_that_panics_loses_no_message_of_a_batch() {
     assert!(poll_with(&mut send, &fails).is_pending());
     let mut into = Vec::new();
     assert!(catch_unwind(AssertUnwindSafe(|| r.try_recv_many(&mut into, 2))).is_err());
-    assert_eq!((into, r.len()), (vec![0, 1], 0));
+    assert_eq!((&into, r.len()), (&vec![0, 1], 0));
+    let mut receive = Box::pin(r.recv());
+    assert!(poll_with(&mut receive, &fails).is_pending());
+    let mut many = s.send_many(numbers(3));
+    assert!(catch_unwind(AssertUnwindSafe(|| block_on(poll_once(&mut many)))).is_err());
+    assert_eq!((many.sent(), many.into_unsent(), s.len()), (2, [2].into(), 2));
+    let mut send = Box::pin(s.send(9));
+    assert!(poll_with(&mut send, &fails).is_pending());
+    assert!(catch_unwind(AssertUnwindSafe(|| block_on(r.recv_many(&mut into, 2)))).is_err());
+    assert_eq!((into, r.len()), (vec![0, 1, 0, 1], 0));
 }
 
 #[test]
@@ -549,6 +561,8 @@ fn a_thread_that_sends_many_gets_the_rest_back_once_the_channel_is_closed() {
         while r.len() < 2 {
             thread::yield_now();
         }
+        // So that it blocks most likely.
+        thread::sleep(Duration::from_millis(20));
         r.close();
         let left = send.join().unwrap().unwrap_err().into_inner();
         assert!(r.try_iter().chain(left).eq(1..9));

@@ -5,8 +5,11 @@ mod support;
 
 use std::alloc::{GlobalAlloc, Layout, System};
 use std::cell::Cell;
+use std::future::Future;
 use std::pin::{pin, Pin};
 use std::task::{Context, Waker};
+use std::thread;
+use std::time::Duration;
 
 use futures_core::Stream;
 use support::{poll_pinned, poll_with, Count};
@@ -96,6 +99,41 @@ fn a_channel_gives_all_its_memory_back() {
         assert!(ws.upgrade().is_none() && wr.upgrade().is_none());
     }
     assert_eq!(taken().0, before);
+}
+
+#[test]
+fn a_channel_gives_all_its_memory_back_whoever_waited() {
+    let waker = Waker::from(Count::new());
+    let mut context = Context::from_waker(&waker);
+    let before = taken().0;
+    let (s, mut r) = bounded(1);
+    for is_given_up in [true, false] {
+        let mut receive = r.recv();
+        assert!(Pin::new(&mut receive).poll(&mut context).is_pending());
+        if !is_given_up {
+            s.try_send(Box::new(0)).unwrap();
+            assert!(Pin::new(&mut receive).poll(&mut context).is_ready());
+        }
+    }
+    assert!(Pin::new(&mut r.recv_many(&mut Vec::new(), 2)).poll(&mut context).is_pending());
+    assert!(Pin::new(&mut s.closed()).poll(&mut context).is_pending());
+    assert!(Pin::new(&mut r).poll_next(&mut context).is_pending());
+    s.try_send(Box::new(1)).unwrap();
+    assert!(Pin::new(&mut s.send(Box::new(2))).poll(&mut context).is_pending());
+    assert!(Pin::new(&mut s.send_many([Box::new(3)])).poll(&mut context).is_pending());
+    assert!(Pin::new(&mut r).poll_next(&mut context).is_ready());
+    assert!(Pin::new(&mut r).poll_next(&mut context).is_pending());
+    drop((s, r));
+    assert_eq!(taken().0, before);
+}
+
+#[test]
+fn a_list_that_takes_many_batches_asks_for_memory_seldom() {
+    let (s, r) = unbounded();
+    (0..10_000_u64).for_each(|message| s.try_send(message).unwrap());
+    let (mut into, before) = (Vec::new(), taken().1);
+    while r.try_recv_many(&mut into, 10).is_ok() {}
+    assert!(taken().1 - before <= 20);
 }
 
 #[test]
@@ -248,6 +286,28 @@ fn a_list_in_which_one_of_many_still_waits_holds_little() {
         assert!(taken().0 - before <= 2 * FEW_KB);
         drop(stays);
     }
+}
+
+#[test]
+fn a_thread_that_blocks_again_and_again_asks_for_no_memory() {
+    let ((s, r), (back_s, back_r)) = (bounded(1), bounded(1));
+    let other = thread::spawn(move || {
+        while let Ok(message) = r.recv_blocking() {
+            // So that the first thread waits most likely.
+            thread::sleep(Duration::from_millis(10));
+            back_s.send_blocking(message).unwrap();
+        }
+    });
+    let round = |message: u64| {
+        s.send_blocking(message).unwrap();
+        assert_eq!(back_r.recv_blocking(), Ok(message));
+    };
+    (0..5).for_each(round);
+    let before = taken();
+    (0..5).for_each(round);
+    assert_eq!(taken(), before);
+    drop(s);
+    other.join().unwrap();
 }
 
 #[test]

@@ -351,22 +351,24 @@ fn an_unpark_that_comes_during_a_blocking_call_is_its_callers() {
     assert!(waiting.join().unwrap() < Duration::from_secs(10));
 }
 
-/// Returns once the thread of this name sleeps and goes on doing so. It fails if the thread works for
-/// half a second.
+/// Returns once the thread of this name sleeps, and nothing wakes it for a while. It fails if that
+/// doesn't come in ten seconds.
 #[cfg(target_os = "linux")]
 fn await_sleep(thread: &std::path::Path) {
-    let sleeps = || {
-        let stat = std::fs::read_to_string(thread.join("stat")).unwrap();
-        // Behind its name, which is in brackets, stand its state and, later, its hundredths of a
-        // second.
-        let parts: Vec<_> = stat.rsplit(") ").next().unwrap().split(' ').collect();
-        let times = parts[11..13].iter().map(|time| time.parse::<u64>().unwrap());
-        assert!(times.sum::<u64>() < 50, "it doesn't sleep");
-        parts[0] == "S"
+    let look = || {
+        let status = std::fs::read_to_string(thread.join("status")).unwrap();
+        // Its state, and how often it gave its processor up.
+        let is_wanted = |line: &&str| line.starts_with("State") || line.starts_with("voluntary");
+        status.lines().filter(is_wanted).collect::<String>()
     };
-    while !(0..50).all(|_| sleeps()) {
+    for _ in 0..500 {
+        let before = look();
         let_others_run();
+        if before.contains("sleeping") && before == look() {
+            return;
+        }
     }
+    panic!("it doesn't sleep");
 }
 
 #[cfg(target_os = "linux")]

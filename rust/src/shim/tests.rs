@@ -75,6 +75,15 @@ fn a_value_keeps_its_key_while_room_goes_back() {
 }
 
 #[test]
+fn a_slab_gives_the_key_that_was_left_last_whatever_moved_before() {
+    let mut slab = slab_of(&[7; 4 * KEPT]);
+    assert!((0..3 * KEPT).all(|key| slab.try_remove(key) == Some(7)));
+    let last = [8, 9].map(|value| slab.insert_reserved(value))[1];
+    assert_eq!((slab.try_remove(3 * KEPT), slab.try_remove(last)), (Some(7), Some(9)));
+    assert_eq!(slab.insert_reserved(10), last);
+}
+
+#[test]
 fn a_slab_keeps_a_little_room() {
     let mut slab = slab_of(&[7; KEPT]);
     let before = slab.capacity();
