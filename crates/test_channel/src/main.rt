@@ -21,6 +21,8 @@ mod maps;
 mod operation;
 mod others;
 mod pair;
+mod plain;
+mod ready;
 mod records;
 mod refused;
 mod rows;

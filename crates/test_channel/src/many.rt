@@ -14,7 +14,7 @@ use std::random::RandomSource;
 use std::sync::Wait;
 
 /// A channel. At capacity 0 it is unbounded.
-fn channel<R: Wait + Clone + Drop + AllocGlobal>(
+pub fn channel<R: Wait + Clone + Drop + AllocGlobal>(
     rt: &R,
     capacity: usize,
 ) -> Result<(Sender<u64, R>, Receiver<u64, R>)> {

@@ -1,7 +1,7 @@
 //! Rows that no script has. A call that is refused memory is made again, and the row goes on as if
 //! nothing had been.
 use crate::blocked::Call;
-use crate::{blocked, lists, many, maps, records};
+use crate::{blocked, lists, many, maps, plain, ready, records};
 use anyhow::Result;
 use std::alloc::AllocGlobal;
 use std::random::RandomSource;
@@ -16,17 +16,20 @@ enum Row {
     /// So many messages are received by one future.
     ReceiveMany(usize),
     Recorder,
+    /// What is ready at once, and then what waits.
+    Ready,
     /// At a capacity, so many messages go from one future to another in one task.
     List(usize, usize),
     /// By two threads.
     Blocked(Call),
+    Plain(plain::Call),
     /// By so many workers.
     Map(usize),
     MapInChunks(usize),
 }
 
 /// All rows, by their names.
-const ROWS: [(&str, Row); 15] = [
+const ROWS: [(&str, Row); 19] = [
     ("a send of many that waits", Row::SendMany(2, 5, 3)),
     (
         "a send of many without a capacity",
@@ -35,9 +38,16 @@ const ROWS: [(&str, Row); 15] = [
     ("a receive of many", Row::ReceiveMany(2)),
     ("a receive of many in rounds", Row::ReceiveMany(300)),
     ("the recorder's calls", Row::Recorder),
+    ("what is ready at once", Row::Ready),
     ("an empty list by name", Row::List(1, 0)),
     ("a list by name", Row::List(1, 1000)),
     ("a long list by name", Row::List(1024, 100_000)),
+    ("a blocked send", Row::Plain(plain::Call::Send)),
+    ("a blocked receive", Row::Plain(plain::Call::Receive)),
+    (
+        "a blocked receive of many",
+        Row::Plain(plain::Call::ReceiveMany),
+    ),
     ("a blocked send by name", Row::Blocked(Call::Send)),
     ("a blocked receive by name", Row::Blocked(Call::Receive)),
     (
@@ -60,8 +70,10 @@ impl Row {
             Row::SendMany(capacity, count, polls) => many::send(rt, capacity, count, polls),
             Row::ReceiveMany(count) => many::receive(rt, count),
             Row::Recorder => records::calls(rt),
+            Row::Ready => ready::polls(rt),
             Row::List(capacity, count) => lists::relay(rt, capacity, count),
             Row::Blocked(call) => blocked::make_call(rt, call),
+            Row::Plain(call) => plain::make_call(rt, call),
             Row::Map(workers) => maps::map(rt, false, workers),
             Row::MapInChunks(workers) => maps::map(rt, true, workers),
         }

@@ -10,6 +10,8 @@ mod ends;
 #[cfg(test)]
 mod hostile;
 #[cfg(test)]
+mod kept;
+#[cfg(test)]
 mod large;
 #[cfg(test)]
 mod lists;

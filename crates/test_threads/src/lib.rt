@@ -8,6 +8,14 @@ mod blocked;
 #[cfg(test)]
 mod books;
 #[cfg(test)]
+mod counted;
+#[cfg(test)]
+mod each_way;
+#[cfg(test)]
+mod held;
+#[cfg(test)]
+mod left;
+#[cfg(test)]
 mod lists;
 #[cfg(test)]
 mod locks;

@@ -1,6 +1,7 @@
 //! Whole lists, sent and received by handles under the rule by name.
 ghost use Rattle.ruled_channel_rules.specs.Handles.{IsHubOf, IsSenderOf, IsReceiverOf};
 
+use futures::executor::block_on;
 use futures::task::Poll;
 use futures::test::MockTask;
 use ruled_channel_rules::{Channel, Hub, OutOfMemory, bounded, unbounded};
@@ -111,16 +112,41 @@ fn a_collect_that_waits_takes_room_for_one_message(rt: HostRuntime) -> Result<()
 
 #[test]
 fn a_receive_of_all_takes_room_for_what_comes(rt: HostRuntime) -> Result<(), Fail> {
-    let (channel, mut hub) = bounded(rt.alloc(), MANY as usize).expect(&rt, "a channel");
-    let (mut sender, mut receiver) = (hub.sender(&channel), hub.receiver(&channel));
-    assert_eq!(rt; sender.send_blocking(&rt, &channel, 1), Ok(Ok(())));
-    sender.close(&rt, &channel);
-    let mut list = Vec::new(rt.alloc());
-    // one message, and one that might come
-    list.try_reserve(2)?;
-    let room = list.capacity();
-    assert_eq!(rt; receiver.recv_all(&rt, &channel, &mut list), Ok(()));
-    assert!(rt; list.as_slice() == [1].as_slice() && list.capacity() == room);
+    // What is in the list before, and then.
+    let rows: [(&[u32], &[u32]); 2] = [(&[], &[1]), (&[7, 8], &[7, 8, 1])];
+    for (before, all) in rows {
+        let (channel, mut hub) = bounded(rt.alloc(), MANY as usize).expect(&rt, "a channel");
+        let (mut sender, mut receiver) = (hub.sender(&channel), hub.receiver(&channel));
+        assert_eq!(rt; sender.send_blocking(&rt, &channel, 1), Ok(Ok(())));
+        sender.close(&rt, &channel);
+        let mut list = Vec::from_slice(rt.alloc(), before)?;
+        // one message, and one that might come
+        list.try_reserve(2)?;
+        let room = list.capacity();
+        assert_eq!(rt; receiver.recv_all(&rt, &channel, &mut list), Ok(()));
+        assert!(rt; list.as_slice() == all && list.capacity() == room);
+    }
+    Ok(())
+}
+
+#[test]
+fn a_list_grows_by_more_than_a_message(rt: HostRuntime) -> Result<(), Fail> {
+    for is_collected in [false, true] {
+        let (channel, mut hub) = unbounded(rt.alloc()).expect(&rt, "a channel");
+        let (mut sender, mut receiver) = (hub.sender(&channel), hub.receiver(&channel));
+        let mut messages = numbers(rt.alloc(), 1000)?;
+        assert_eq!(rt; sender.send_all(&rt, &channel, &mut messages), Ok(Ok(())));
+        sender.close(&rt, &channel);
+        let mut list = Vec::new(rt.alloc());
+        if is_collected {
+            let (_receiver, all, _received) = block_on(&rt, receiver.collect(&rt, &channel, list))?;
+            list = all;
+        } else {
+            assert_eq!(rt; receiver.recv_all(&rt, &channel, &mut list), Ok(()));
+        }
+        // one more might have come
+        assert!(rt; list.len() == 1000 && list.capacity() > 1001);
+    }
     Ok(())
 }
 

@@ -154,8 +154,8 @@ impl Job<u64, u64> for Turns {
 #[test]
 fn one_worker_goes_from_input_to_input(rt: HostRuntime) -> Result<(), Fail> {
     let a = rt.alloc();
-    // 6,450 inputs are in chunks of 201. None ask for no stamp.
-    for count in [0, 1, 3, 64, 6_450] {
+    // 6,450 inputs are in chunks of 201, and 300,000 in those of 8,192. None ask for no stamp.
+    for count in [0, 1, 3, 64, 6_450, 300_000] {
         let turns = Turns {
             calls: AtomicU64::new(0),
             is_wrong: AtomicBool::new(false),
@@ -307,6 +307,41 @@ fn no_more_workers_than_the_caller_says(rt: HostRuntime) -> Result<(), Fail> {
         let map = (6, usize::from(workers), 4, None);
         assert!(rt; maps(&rt, rt.alloc(), map, &gate)?);
         assert!(rt; !gate.too_many.load(Ordering::SeqCst), "{workers}");
+    }
+    Ok(())
+}
+
+#[test]
+fn answers_have_just_their_room(rt: HostRuntime) -> Result<(), Fail> {
+    let (a, maker) = (rt.alloc(), &mut StampMaker::new());
+    for count in [0u64, 1, 1_000] {
+        let inputs = (0..count).collect::<Vec<_>>(a)?;
+        let inputs = inputs.as_slice();
+        let answers = map_all(&rt, a, &Square, &Open, inputs, 2, 4, maker)?;
+        assert_eq!(rt; answers.capacity() as u64, count);
+        let mut pieces = Vec::new(a);
+        for (place, input) in inputs.iter().enumerate() {
+            pieces.push(Piece::make(&Square, place, input))?;
+        }
+        assert_eq!(rt; gather(a, inputs, pieces)?.capacity() as u64, count);
+    }
+    Ok(())
+}
+
+const TEXTS: [(MapError, &str); 6] = [
+    (MapError::OutOfMemory, "out of memory"),
+    (MapError::NoStamps, "no stamp is left"),
+    (MapError::NoThread, "a worker couldn't be started"),
+    (Stranger(3), "a piece for place 3 isn't of its input"),
+    (Doubled(4), "place 4 has two pieces"),
+    (Missing(5), "place 5 has no piece"),
+];
+
+#[test]
+fn errors_have_their_texts(rt: HostRuntime) -> Result<(), Fail> {
+    for (error, text) in TEXTS {
+        let written = format!(in rt.alloc(); "{error}")?;
+        assert_eq!(rt; written.as_str(), text);
     }
     Ok(())
 }

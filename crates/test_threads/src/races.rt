@@ -3,6 +3,7 @@
 //! A call that takes the lock twice leaves a moment between, in which the other thread may come. A
 //! round sees it only then, so a test makes many rounds. A right call passes each of them, however
 //! the threads run.
+use crate::batch::numbers_from;
 use crate::meeting::Meeting;
 use crate::waiting::{TURNS, channel};
 use async_channel::{Receiver, Sender, TryRecvError, WeakReceiver, WeakSender};
@@ -38,6 +39,19 @@ enum Deed {
     SendAndGiveUp,
     /// Sends by its sender or an upgraded one.
     Send,
+    /// Sends, whatever the channel holds.
+    Force,
+    /// Takes the message 1, if the other one doesn't.
+    Take,
+    TakeMany,
+    TakeNext,
+    TakeByPoll,
+    TakeManyByPoll,
+    TakeFromStream,
+    /// Sends, if there is room.
+    SendMany,
+    SendByPoll,
+    SendManyByPoll,
     Close,
     /// Upgrades a weak handle until the channel is closed. What it got keeps the channel open.
     Upgrade,
@@ -48,6 +62,8 @@ enum Deed {
     /// Receives the message 1 before the end.
     TryRecv,
     TryRecvMany,
+    RecvBlocking,
+    RecvManyBlocking,
     Recv,
     RecvMany,
     Next,
@@ -96,6 +112,18 @@ impl<R: Wait + Clone + Drop> Own<R> {
         }
     }
 
+    /// Whether a message goes in by a batch or a poll.
+    fn sends_one(&self, deed: Deed, alloc: Global, task: &MockTask) -> bool {
+        let (Some(s), Ok(mut from)) = (&self.sender, numbers_from(alloc, 7, 1)) else {
+            return false;
+        };
+        match deed {
+            Deed::SendMany => s.try_send_many(&mut from) == Ok(Ok(1)),
+            Deed::SendByPoll => task.poll(&mut s.send(7)) == Poll::Ready(Ok(Ok(()))),
+            _ => matches!(&task.poll(&mut s.send_many(from)), Poll::Ready(Ok(Ok(())))),
+        }
+    }
+
     fn closes(&self) -> bool {
         match (&self.sender, &self.receiver) {
             (Some(s), _) => s.close(),
@@ -122,6 +150,13 @@ impl<R: Wait + Clone + Drop> Own<R> {
                 Some(is_well)
             }
             Deed::Send => Some(self.sends(7)),
+            Deed::Force => Some(match &self.sender {
+                Some(s) => matches!(&s.force_send(7), Ok(Ok(_))),
+                None => false,
+            }),
+            Deed::SendMany | Deed::SendByPoll | Deed::SendManyByPoll => {
+                Some(self.sends_one(deed, alloc, task))
+            }
             Deed::Close => Some(self.closes()),
             Deed::Upgrade => self.upgrades(),
             Deed::Count => self.counts(),
@@ -142,6 +177,18 @@ fn learns<R: Wait + Clone + Drop>(
 ) -> Option<bool> {
     let mut into = Vec::new(alloc);
     match deed {
+        Deed::Take => Some(r.try_recv() == Ok(1)),
+        Deed::TakeMany => Some(r.try_recv_many(&mut into, 2) == Ok(Ok(1))),
+        Deed::TakeNext => Some(r.try_iter().next() == Some(1)),
+        Deed::TakeByPoll => Some(task.poll(&mut r.recv()) == Poll::Ready(Ok(Ok(1)))),
+        Deed::TakeManyByPoll => {
+            Some(task.poll(&mut r.recv_many(&mut into, 2)) == Poll::Ready(Ok(1)))
+        }
+        Deed::TakeFromStream => {
+            Some(task.enter(|cx| r.poll_next(cx)) == Poll::Ready(Some(Ok(1))))
+        }
+        Deed::RecvBlocking => Some(r.recv_blocking() == Ok(Ok(1))),
+        Deed::RecvManyBlocking => Some(r.recv_many_blocking(&mut into, 2) == Ok(Ok(1))),
         Deed::IsTerminated if r.is_terminated() => Some(false),
         Deed::IsTerminated => r.is_closed().then_some(true),
         Deed::TryRecv => match r.try_recv() {
@@ -178,7 +225,21 @@ fn own_of_both<R: Wait + Clone + Drop + AllocGlobal>(
 ) -> Result<(Own<R>, Own<R>), Fail> {
     let (s, r) = channel(rt, Some(1))?;
     let copy = match deed {
-        Deed::Send => Some(s.try_clone()?),
+        Deed::Send | Deed::Force | Deed::SendMany | Deed::SendByPoll | Deed::SendManyByPoll => {
+            Some(s.try_clone()?)
+        }
+        _ => None,
+    };
+    let other = match deed {
+        Deed::Take
+        | Deed::TakeMany
+        | Deed::TakeNext
+        | Deed::TakeByPoll
+        | Deed::TakeManyByPoll
+        | Deed::TakeFromStream => {
+            drop(s.try_send(1));
+            Some(r.try_clone()?)
+        }
         _ => None,
     };
     let (weak_sender, weak_receiver) = (s.downgrade()?, r.downgrade()?);
@@ -191,6 +252,7 @@ fn own_of_both<R: Wait + Clone + Drop + AllocGlobal>(
     } else {
         first.receiver = Some(r);
         second.sender = Some(s);
+        second.receiver = other;
         second.weak_receiver = Some(weak_receiver);
     }
     Ok((first, second))
@@ -302,6 +364,63 @@ fn the_end_of_calls_comes_behind_the_last_message(rt: HostRuntime) -> Result<(),
             (true, Deed::SendAndGiveUp, Deed::IsTerminated, 2),
             (true, Deed::SendAndGiveUp, Deed::TryRecv, 2),
             (true, Deed::SendAndGiveUp, Deed::TryRecvMany, 2),
+        ],
+    )
+}
+
+#[test]
+fn the_end_of_blocking_calls_comes_behind_the_last_message(rt: HostRuntime) -> Result<(), Fail> {
+    go_well(
+        &rt,
+        &[
+            (true, Deed::SendAndGiveUp, Deed::RecvBlocking, 2),
+            (true, Deed::SendAndGiveUp, Deed::RecvManyBlocking, 2),
+        ],
+    )
+}
+
+#[test]
+fn a_receive_that_comes_too_late_waits_for_nothing(rt: HostRuntime) -> Result<(), Fail> {
+    go_well(
+        &rt,
+        &[
+            (false, Deed::Take, Deed::Take, 1),
+            (false, Deed::TakeMany, Deed::TakeMany, 1),
+            (false, Deed::TakeNext, Deed::TakeNext, 1),
+        ],
+    )
+}
+
+#[test]
+fn a_polled_receive_that_comes_too_late_is_pending(rt: HostRuntime) -> Result<(), Fail> {
+    go_well(
+        &rt,
+        &[
+            (false, Deed::TakeByPoll, Deed::TakeByPoll, 1),
+            (false, Deed::TakeManyByPoll, Deed::TakeManyByPoll, 1),
+            (false, Deed::TakeFromStream, Deed::TakeFromStream, 1),
+        ],
+    )
+}
+
+#[test]
+fn a_send_that_comes_too_late_waits_for_nothing(rt: HostRuntime) -> Result<(), Fail> {
+    go_well(
+        &rt,
+        &[
+            (true, Deed::Force, Deed::Force, 2),
+            (true, Deed::SendMany, Deed::SendMany, 1),
+        ],
+    )
+}
+
+#[test]
+fn a_polled_send_that_comes_too_late_is_pending(rt: HostRuntime) -> Result<(), Fail> {
+    go_well(
+        &rt,
+        &[
+            (true, Deed::SendByPoll, Deed::SendByPoll, 1),
+            (true, Deed::SendManyByPoll, Deed::SendManyByPoll, 1),
         ],
     )
 }

@@ -1,57 +1,12 @@
 //! What a refused copy of a runtime leaves, and what goes with a handle.
+use crate::counted::{Copies, Counted, count};
 use async_channel::{
     CloneError, OutOfMemory, Receiver, Sender, StampMaker, WeakReceiver, WeakSender, unbounded,
 };
-use std::alloc::AllocError;
 use std::process::Abort;
 use std::sync::Wait;
 use std::sync::atomic::{AtomicU64, Ordering};
 use std::test::Fail;
-
-/// How many copies may still be made, and how many live.
-struct Copies<'a> {
-    left: &'a AtomicU64,
-    live: &'a AtomicU64,
-}
-
-impl Clone for Copies<'_> {
-    fn clone(&self) -> Result<Self, AllocError> {
-        let left = self.left.load(Ordering::SeqCst);
-        if left == 0 {
-            return Err(AllocError);
-        }
-        self.left.store(left.wrapping_sub(1), Ordering::SeqCst);
-        self.live.fetch_add(1, Ordering::SeqCst);
-        Ok(Copies {
-            left: self.left,
-            live: self.live,
-        })
-    }
-}
-
-impl Drop for Copies<'_> {
-    fn drop(self) {
-        let Copies { left: _, live } = self;
-        live.fetch_sub(1, Ordering::SeqCst);
-    }
-}
-
-/// A message that counts how many like it live.
-struct Counted<'a>(&'a AtomicU64);
-
-impl Counted<'_> {
-    fn new(live: &AtomicU64) -> Counted<'_> {
-        live.fetch_add(1, Ordering::SeqCst);
-        Counted(live)
-    }
-}
-
-impl Drop for Counted<'_> {
-    fn drop(self) {
-        let Counted(live) = self;
-        live.fetch_sub(1, Ordering::SeqCst);
-    }
-}
 
 /// Whether each call that makes a handle is refused.
 fn are_refused<T: Drop, R: Wait + Clone + Drop>(
@@ -68,10 +23,6 @@ fn are_refused<T: Drop, R: Wait + Clone + Drop>(
         && matches!(&r.downgrade(), Err(OutOfMemory))
         && matches!(&weak_s.try_clone(), Err(OutOfMemory))
         && matches!(&weak_r.try_clone(), Err(OutOfMemory))
-}
-
-fn count(live: &AtomicU64) -> u64 {
-    live.load(Ordering::SeqCst)
 }
 
 /// Copies weak handles and upgrades them, and looks at how many copies of the runtime live then.
@@ -141,5 +92,23 @@ fn what_goes_with_a_handle(rt: HostRuntime) -> Result<(), Fail> {
     assert_eq!(rt; (count(&live), count(&messages)), (2, 1));
     refuses_and_gives_up(&runtime, &left, &live, s, r)?;
     assert_eq!(rt; (count(&live), count(&messages)), (0, 0));
+    Ok(())
+}
+
+#[test]
+fn a_refused_channel_leaves_nothing(rt: HostRuntime) -> Result<(), Fail> {
+    // each end has a copy of the runtime
+    for copies in 0..3 {
+        let (left, live) = (AtomicU64::new(copies), AtomicU64::new(0));
+        let counted = Copies {
+            left: &left,
+            live: &live,
+        };
+        let runtime = (rt, counted);
+        let made = unbounded::<u64, _>(&runtime, rt.alloc(), &mut StampMaker::new());
+        assert_eq!(rt; made.is_ok(), copies == 2);
+        drop(made);
+        assert_eq!(rt; count(&live), 0);
+    }
     Ok(())
 }

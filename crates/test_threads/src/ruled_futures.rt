@@ -76,3 +76,106 @@ fn operations_wait_by_one_entry(rt: HostRuntime) -> Result<(), Fail> {
     assert_eq!(rt; channel.who_waits(&rt, &mut pass, Group::Sends).waiting, 0);
     Ok(())
 }
+
+/// Tells the operation of a group that has waited longest.
+fn tell<R: Wait>(rt: &R, channel: &Channel, pass: &mut Pass, group: Group)
+    requires { IsPassOf channel.now pass.old }
+    ensures { IsPassOf channel.now pass.new }
+{
+    match group {
+        Group::Sends => drop(channel.try_recv_as::<Unruled, Unruled, Unruled, R>(rt, pass)),
+        _ => drop(channel.try_send_as::<Unruled, Unruled, R>(rt, pass, 1)),
+    }
+}
+
+/// Whether the second of two operations that wait is told if the first, once it was told, is
+/// dropped, and isn't if that one goes on. No other entry stays in their list.
+fn wait_in_turn<R, F>(
+    rt: &R,
+    channel: &Channel,
+    pass: &mut Pass,
+    group: Group,
+    operations: (F, F),
+    drops: bool,
+) -> Result<bool, Fail>
+where
+    R: Wait + RandomSource + AllocGlobal,
+    F: Future + Drop,
+    F::Output: Drop,
+    requires own { IsPassOf channel.now pass.old }
+    requires poll { F.can_poll operations.0 × F.can_poll operations.1 }
+    ensures { IsPassOf channel.now pass.new }
+{
+    let (task, other) = (MockTask::new(rt)?, MockTask::new(rt)?);
+    let (first, second) = operations;
+    let Err(first) = poll_once(first, &task) else {
+        return Ok(false);
+    };
+    let Err(second) = poll_once(second, &other) else {
+        return Ok(false);
+    };
+    tell(rt, channel, pass, group);
+    if !task.is_woken() || other.is_woken() {
+        return Ok(false);
+    }
+    if drops {
+        drop(first);
+    } else if poll_once(first, &task).is_err() {
+        return Ok(false);
+    }
+    let (seen, is_told) = (channel.who_waits(rt, pass, group), other.is_woken());
+    // This drops its waker, which wakes its task.
+    drop(second);
+    Ok(is_told == drops && (seen.waiting, seen.told) == (1, usize::from(drops)))
+}
+
+#[test]
+fn who_is_told_goes_on_or_hands_on(rt: HostRuntime) -> Result<(), Fail> {
+    for drops in [false, true] {
+        let Ok((channel, mut pass)) = bounded_with::<u32, (), Unruled>(rt.alloc(), 1) else {
+            return Err(AllocError.into());
+        };
+        let receives = (
+            channel.recv_as::<Unruled, Unruled, _>(&rt, channel.pass()),
+            channel.recv_as::<Unruled, Unruled, _>(&rt, channel.pass()),
+        );
+        assert!(rt;
+            wait_in_turn(&rt, &channel, &mut pass, Group::Receives, receives, drops)?,
+            "receives, {drops}"
+        );
+        drop(channel.try_send_as::<Unruled, Unruled, _>(&rt, &mut pass, 1));
+        let sends = (
+            channel.send_as::<Unruled, Unruled, _>(&rt, channel.pass(), 2),
+            channel.send_as::<Unruled, Unruled, _>(&rt, channel.pass(), 3),
+        );
+        assert!(rt;
+            wait_in_turn(&rt, &channel, &mut pass, Group::Sends, sends, drops)?,
+            "sends, {drops}"
+        );
+    }
+    Ok(())
+}
+
+#[test]
+fn a_wait_for_the_last_receiver_ends_once(rt: HostRuntime) -> Result<(), Fail> {
+    let Ok((channel, mut pass)) = bounded_with::<u32, (), Unruled>(rt.alloc(), 1) else {
+        return Err(AllocError.into());
+    };
+    let (task, other) = (MockTask::new(&rt)?, MockTask::new(&rt)?);
+    let mut first = channel.closed_as(&rt, channel.pass());
+    let mut second = channel.closed_as(&rt, channel.pass());
+    assert!(rt; task.poll(&mut first).is_pending() && other.poll(&mut second).is_pending());
+    assert!(rt; channel.drop_receiver_as::<Unruled, _>(&rt, &mut pass));
+    assert!(rt; task.is_woken() && other.is_woken());
+    assert!(rt; task.poll(&mut first).is_ready());
+    assert_eq!(rt;
+        channel.who_waits(&rt, &mut pass, Group::Closeds).waiting,
+        1
+    );
+    drop(second);
+    assert_eq!(rt;
+        channel.who_waits(&rt, &mut pass, Group::Closeds).waiting,
+        0
+    );
+    Ok(())
+}

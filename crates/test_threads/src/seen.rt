@@ -2,7 +2,7 @@
 use crate::batch::{Way, receives, sends};
 use crate::meeting::{Deed, Sight, are_well};
 use crate::waiting::{channel, numbers};
-use async_channel::{Group, ROUND_LIMIT, Receiver, Sender, WeakSender};
+use async_channel::{Group, ROUND_LIMIT, Receiver, Sender, WeakReceiver, WeakSender};
 use futures::Stream;
 use futures::task::Poll;
 use futures::test::MockTask;
@@ -253,5 +253,64 @@ fn a_look_at_who_waits_is_one_step(rt: HostRuntime) -> Result<(), Fail> {
         first: r,
     };
     assert!(rt; are_well(&rt, &mut streams, &alone));
+    Ok(())
+}
+
+/// How often handles are copied, or upgraded.
+const COPIES: u64 = 50_000;
+
+/// Copies handles, and gives each copy up at once. Of a closed channel it upgrades weak ones.
+#[derive(Drop)]
+struct Copies<R: Wait + Clone + Drop> {
+    s: Sender<u64, R>,
+    r: Receiver<u64, R>,
+    weak_s: WeakSender<u64, R>,
+    weak_r: WeakReceiver<u64, R>,
+}
+
+impl<R: Wait + Clone + Drop> Copies<R> {
+    fn copies(&self) -> bool {
+        if self.s.is_closed() {
+            matches!(&self.weak_s.upgrade(), Ok(None)) && matches!(&self.weak_r.upgrade(), Ok(None))
+        } else {
+            self.s.try_clone().is_ok() && self.r.try_clone().is_ok()
+        }
+    }
+}
+
+impl<R: Wait + Clone + Drop> Deed for Copies<R> {
+    fn act(&mut self) -> bool {
+        (0..COPIES).all(|_| self.copies())
+    }
+}
+
+/// A channel has two receivers and one sender, or of each kind so many more.
+#[derive(Drop)]
+struct AtMost<R: Wait + Clone + Drop>(Receiver<u64, R>, usize);
+
+impl<R: Wait + Clone + Drop> Sight for AtMost<R> {
+    fn look(&self) -> bool {
+        let more = self.1;
+        let (senders, receivers) = (self.0.sender_count(), self.0.receiver_count());
+        let most = more.saturating_add(1);
+        (1..=most).contains(&senders) && (2..=most.saturating_add(1)).contains(&receivers)
+    }
+}
+
+#[test]
+fn a_copy_counts_once_and_one_that_comes_too_late_never(rt: HostRuntime) -> Result<(), Fail> {
+    for is_closed in [false, true] {
+        let (s, r) = channel(&rt, None)?;
+        let counts = AtMost(r.try_clone()?, usize::from(!is_closed));
+        let (weak_s, weak_r) = (s.downgrade()?, r.downgrade()?);
+        assert!(rt; !is_closed || s.close());
+        let mut copies = Copies {
+            s,
+            r,
+            weak_s,
+            weak_r,
+        };
+        assert!(rt; are_well(&rt, &mut copies, &counts));
+    }
     Ok(())
 }

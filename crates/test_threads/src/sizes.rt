@@ -1,5 +1,6 @@
 //! A hundred thousand of each that may wait, and of each handle: no limit shows that the contracts
 //! don't tell.
+use crate::batch::numbers_from;
 use crate::waiting::{channel, numbers};
 use Kept::*;
 use async_channel::{
@@ -87,6 +88,13 @@ fn many_wait<R: Wait + Clone + Drop + RandomSource + AllocGlobal + Abort>(
         all.push(waiting(rt, &task, group, &s, &r)?)?;
     }
     assert_eq!(rt; numbers(&weak, group), (MANY, 0));
+    // those of the other groups wait beside them
+    for other in [Group::Receives, Group::Streams, Group::Closeds] {
+        if !matches!(group, Group::Sends) {
+            drop(waiting(rt, &task, other, &s, &r)?);
+        }
+    }
+    assert_eq!(rt; numbers(&weak, group), (MANY, 0));
     // those of the last group are told when no receiver is left
     assert!(rt; matches!(group, Group::Closeds) || s.close());
     drop(r);
@@ -116,6 +124,47 @@ fn streams(rt: HostRuntime) -> Result<(), Fail> {
 #[test]
 fn closed_operations(rt: HostRuntime) -> Result<(), Fail> {
     many_wait(&rt, Group::Closeds)
+}
+
+#[test]
+fn receives_of_many(rt: HostRuntime) -> Result<(), Fail> {
+    let (s, r) = channel::<u64, _>(&rt, None)?;
+    let (task, weak) = (MockTask::new(&rt)?, s.downgrade()?);
+    let (mut lists, mut all) = (Vec::new(rt.alloc()), Vec::new(rt.alloc()));
+    for _ in 0..MANY {
+        lists.push(Vec::new(rt.alloc()))?;
+    }
+    for into in &mut lists {
+        let mut recv = r.recv_many(into, 2);
+        assert!(rt; matches!(&task.poll(&mut recv), Poll::Pending));
+        all.push(recv)?;
+    }
+    assert_eq!(rt; numbers(&weak, Group::Receives), (MANY, 0));
+    assert!(rt; s.close());
+    for recv in &mut all {
+        assert!(rt; matches!(&task.poll(recv), Poll::Ready(Ok(0))));
+    }
+    assert_eq!(rt; numbers(&weak, Group::Receives), (0, 0));
+    Ok(())
+}
+
+#[test]
+fn sends_of_many(rt: HostRuntime) -> Result<(), Fail> {
+    let (s, _r) = channel(&rt, Some(1))?;
+    assert_eq!(rt; s.try_send(1), Ok(Ok(())));
+    let (task, weak, mut all) = (MockTask::new(&rt)?, s.downgrade()?, Vec::new(rt.alloc()));
+    for _ in 0..MANY {
+        let mut send = s.send_many(numbers_from(rt.alloc(), 7, 1)?);
+        assert!(rt; matches!(&task.poll(&mut send), Poll::Pending));
+        all.push(send)?;
+    }
+    assert_eq!(rt; numbers(&weak, Group::Sends), (MANY, 0));
+    assert!(rt; s.close());
+    for send in &mut all {
+        assert!(rt; matches!(&task.poll(send), Poll::Ready(Ok(Err(SendError(_))))));
+    }
+    assert_eq!(rt; numbers(&weak, Group::Sends), (0, 0));
+    Ok(())
 }
 
 /// One of each handle.
@@ -175,7 +224,13 @@ fn strong_and_weak_handles(rt: HostRuntime) -> Result<(), Fail> {
         })?;
     }
     assert_eq!(rt; first.counts(), [(100_001, 100_001); 2]);
+    // whoever waits beside so many handles waits like beside few
+    let task = MockTask::new(&rt)?;
+    for group in [Group::Receives, Group::Streams, Group::Closeds] {
+        drop(waiting(&rt, &task, group, &first.sender, &first.receiver)?);
+    }
     drop(all);
     assert_eq!(rt; first.counts(), [(1, 1); 2]);
+    assert!(rt; !first.sender.is_closed());
     Ok(())
 }
