@@ -6,12 +6,12 @@ text with the change, or None if it has no place there. The libraries are those 
 `rt check` built.
 
 One run tries many changes. Each stands in a copy of its function, so that whatever a function calls
-is right. A method of a trait can have no copy, and is changed itself. A run leaves a change open if
-its function is only said to call one that isn't proved, or if stored answers, which cite the text of
-their function, don't fit. What is open is tried again, together and without those answers, and each
-by itself once a turn settles nothing. If all goals that aren't proved without its answers are those
-that had one, `breaks_a_proof` is set: the prover may find none for a change that keeps to the
-contract, either.
+is right. `main` and a trait's method can have no copy, and are changed themselves. A run leaves a
+change open if its function is only said to call one that isn't proved, or if stored answers, which
+cite the text of their function, don't fit. What is open is tried again, together and without those
+answers, and each by itself once a turn settles nothing. If all goals that aren't proved without its
+answers are those that had one, `breaks_a_proof` is set: the prover may find none for a change that
+keeps to the contract, either.
 """
 import importlib.machinery
 import importlib.util
@@ -223,7 +223,7 @@ class Trial:
 def tried_in(crate, changes, rtlib):
     """Each change of a crate, with whether it was proved or what is wrong with it."""
     for number, change in enumerate(changes):
-        if change.is_local and not change.call.trait:
+        if change.is_local and not change.call.trait and change.call.name != 'main':
             change.ending = f'_changed_{number}'
     with tempfile.TemporaryDirectory(prefix='kept-') as room:
         trial, left, is_apart = Trial(crate, Path(room, 'kept'), rtlib), changes, False
