@@ -33,8 +33,9 @@ CALLS = re.compile(r'it calls .*|which (?:is|are) not proved')
 TURNS = threading.BoundedSemaphore(len(os.sched_getaffinity(0)))
 # How many changes a run tries at most, so that no run takes much longer than others.
 MOST = 32
-# Where the answers of a function are stored, among its proofs.
+# What may be stored for a function, among the proofs, and where its answers are.
 ANSWERS = 'Answers.antt'
+STORED = (ANSWERS, 'Invariants.antt', 'Proof.antt')
 
 
 class Refused(Exception):
@@ -69,12 +70,13 @@ class Tried:
     def put_proofs(self, proofs):
         """Gives its copy what is stored for its function, but for answers that don't fit."""
         *owner, name = self.function.split('::')
-        for folder in [it for it in proofs.rglob(name) if [*it.parts[-1 - len(owner) : -1]] == owner]:
+        stored = {it.parent for file in STORED for it in proofs.rglob(f'{name}/{file}')}
+        for folder in [it for it in stored if [*it.parts[-1 - len(owner) : -1]] == owner]:
             changed = folder.with_name(name + self.ending)
             if self.ending:
                 shutil.copytree(folder, changed)
             if self.is_unfit:
-                (changed / ANSWERS).unlink()
+                (changed / ANSWERS).unlink(missing_ok=True)
             ends = [f'{folder.parent.name}.{name}{it}.' for it in ('', self.ending)]
             for file in changed.rglob('*.antt'):
                 file.write_text(file.read_text('utf-8').replace(*ends), 'utf-8')
