@@ -44,7 +44,7 @@ pub struct Sender<T: Drop, R: Wait + Clone + Drop> {
     pub(crate) link: Link<T, R>,
 }
 
-/// The tag, and the source that tasks wait for.
+/// The tag, the source that tasks wait for, and the capacity.
 impl<T: Drop, R: Wait + Clone + Drop> Model for Sender<T, R> {
     ghost use Rattle.std.specs.Arc.{arc_value};
     ghost use Rattle.ruled_channel.specs.Passes.{capacity_of, source_of};
@@ -90,7 +90,7 @@ pub struct Receiver<T: Drop, R: Wait + Clone + Drop> {
     pub(crate) marker: Marker,
 }
 
-/// The tag, the source that tasks wait for, and the key of the stream's entry.
+/// The tag, the source that tasks wait for, the capacity, and the key of the stream's entry.
 impl<T: Drop, R: Wait + Clone + Drop> Model for Receiver<T, R> {
     ghost use Rattle.std.specs.Arc.{arc_value};
     ghost use Rattle.ruled_channel.specs.Passes.{capacity_of, source_of};

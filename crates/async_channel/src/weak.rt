@@ -31,7 +31,7 @@ pub struct WeakSender<T, R> {
     pub(crate) link: Link<T, R>,
 }
 
-/// The tag, and the source that tasks wait for.
+/// The tag, the source that tasks wait for, and the capacity.
 impl<T, R> Model for WeakSender<T, R> {
     ghost use Rattle.std.specs.Arc.{arc_value};
     ghost use Rattle.ruled_channel.specs.Passes.{capacity_of, source_of};
@@ -66,7 +66,7 @@ pub struct WeakReceiver<T, R> {
     pub(crate) link: Link<T, R>,
 }
 
-/// The tag, and the source that tasks wait for.
+/// The tag, the source that tasks wait for, and the capacity.
 impl<T, R> Model for WeakReceiver<T, R> {
     ghost use Rattle.std.specs.Arc.{arc_value};
     ghost use Rattle.ruled_channel.specs.Passes.{capacity_of, source_of};

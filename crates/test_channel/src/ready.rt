@@ -27,7 +27,7 @@ fn stream<R: Wait + Clone + Drop>(
     Err(anyhow!("a stream was refused memory twice"))
 }
 
-/// Waits for the last receiver where none is left.
+/// Waits for the last receiver if none is left.
 fn is_over<R: Wait + Clone + Drop>(task: &MockTask, s: &Sender<u64, R>) -> bool {
     let mut closed = s.closed();
     matches!(&task.poll(&mut closed), Poll::Ready(Ok(())))
