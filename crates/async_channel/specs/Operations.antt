@@ -11,13 +11,13 @@ use Rattle.async_channel.specs.Tags.{TagView}
 pub record HandleView : Type 0 where
   pub tag : TagView
   pub source : ℕ
-  pub holds : Option ℕ
+  pub capacity : Option ℕ
 
 -- A receiver: also the key of the entry by which its stream waits, if it does.
 pub record ReceiverView : Type 0 where
   pub tag : TagView
   pub source : ℕ
-  pub holds : Option ℕ
+  pub capacity : Option ℕ
   pub ticket : Option ℕ
 
 -- a receiver whose stream doesn't wait, of the handle's channel
@@ -25,7 +25,7 @@ abbrev pub receiver_at : HandleView → ReceiverView
 receiver_at handle = record {
   tag = handle.tag;
   source = handle.source;
-  holds = handle.holds;
+  capacity = handle.capacity;
   ticket = None;
 }
 
@@ -34,7 +34,7 @@ abbrev pub handle_of : ReceiverView → HandleView
 handle_of receiver = record {
   tag = receiver.tag;
   source = receiver.source;
-  holds = receiver.holds;
+  capacity = receiver.capacity;
 }
 
 -- Both ends of a channel have the number drawn, and the capacity asked for.
@@ -42,7 +42,7 @@ pub record AreEndsOf (sender : HandleView) (receiver : ReceiverView)
     (drawn asked : Option ℕ) : Type 0 where
   pub is_drawn : drawn ≡ Some sender.tag.stamp
   pub is_asked : sender.tag.capacity ≡ asked
-  pub is_held : sender.holds ≡ asked
+  pub is_held : sender.capacity ≡ asked
   pub is_same : receiver ≡ receiver_at sender
 
 -- A send: its message until it is finished, the name of the source that its task waits for, and

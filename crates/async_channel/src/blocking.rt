@@ -174,6 +174,7 @@ impl<T: Drop, R: Wait + Clone + Drop> Receiver<T, R> {
         ensures limit { moved_count result ≤ limit }
         ensures kept { take (length into.old.items) into.new.items ≡ into.old.items }
         ensures count { length into.new.items ≡ length into.old.items + moved_count result }
+        ensures none { result ≡ Ok (Ok 0) → limit ≡ 0 }
     {
         if limit == 0 {
             return Ok(Ok(0));
@@ -196,6 +197,7 @@ impl<T: Drop, R: Wait + Clone + Drop> Receiver<T, R> {
         ensures limit { moved_count result ≤ limit }
         ensures kept { take (length into.old.items) into.new.items ≡ into.old.items }
         ensures count { length into.new.items ≡ length into.old.items + moved_count result }
+        ensures none { result ≡ Ok (Ok 0) → limit ≡ 0 }
     {
         if into.try_reserve(1).is_err() {
             return Err(OutOfMemory);

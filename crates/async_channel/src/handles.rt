@@ -55,7 +55,7 @@ impl<T: Drop, R: Wait + Clone + Drop> Model for Sender<T, R> {
     ghost view = { λ handle. record {
       tag = handle.tag;
       source = source_of (arc_value handle.link.shared).channel;
-      holds = capacity_of (arc_value handle.link.shared).channel;
+      capacity = capacity_of (arc_value handle.link.shared).channel;
     } };
 }
 
@@ -101,7 +101,7 @@ impl<T: Drop, R: Wait + Clone + Drop> Model for Receiver<T, R> {
     ghost view = { λ handle. record {
       tag = handle.tag;
       source = source_of (arc_value handle.link.shared).channel;
-      holds = capacity_of (arc_value handle.link.shared).channel;
+      capacity = capacity_of (arc_value handle.link.shared).channel;
       ticket = handle.ticket;
     } };
 }
@@ -428,7 +428,7 @@ impl<T: Drop, R: Wait + Clone + Drop> Receiver<T, R> {
         ensures { result ≡ record {
           tag = tag;
           source = source_of (arc_value link.shared).channel;
-          holds = capacity_of (arc_value link.shared).channel;
+          capacity = capacity_of (arc_value link.shared).channel;
           ticket = None;
         } }
     {

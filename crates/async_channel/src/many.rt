@@ -126,6 +126,7 @@ impl<T: Drop, R: Wait + Clone + Drop> Receiver<T, R> {
         ensures limit { moved_count result ≤ limit }
         ensures kept { take (length into.old.items) into.new.items ≡ into.old.items }
         ensures count { length into.new.items ≡ length into.old.items + moved_count result }
+        ensures none { result ≡ Ok (Ok 0) → limit ≡ 0 }
     {
         let rounds = limit / ROUND_LIMIT;
         let mut taken = match self.recv_round(into, limit)? {
@@ -150,6 +151,7 @@ impl<T: Drop, R: Wait + Clone + Drop> Receiver<T, R> {
         ensures limit { moved_count result ≤ limit }
         ensures kept { take (length into.old.items) into.new.items ≡ into.old.items }
         ensures count { length into.new.items ≡ length into.old.items + moved_count result }
+        ensures none { result ≡ Ok (Ok 0) → limit ≡ 0 }
     {
         let (channel, mut pass) = self.link.channel();
         channel.try_recv_many(&self.link.rt, &mut pass, into, limit.min(ROUND_LIMIT))

@@ -42,7 +42,7 @@ impl<T, R> Model for WeakSender<T, R> {
     ghost view = { λ handle. record {
       tag = handle.tag;
       source = source_of (arc_value handle.link.shared).channel;
-      holds = capacity_of (arc_value handle.link.shared).channel;
+      capacity = capacity_of (arc_value handle.link.shared).channel;
     } };
 }
 
@@ -77,7 +77,7 @@ impl<T, R> Model for WeakReceiver<T, R> {
     ghost view = { λ handle. record {
       tag = handle.tag;
       source = source_of (arc_value handle.link.shared).channel;
-      holds = capacity_of (arc_value handle.link.shared).channel;
+      capacity = capacity_of (arc_value handle.link.shared).channel;
     } };
 }
 

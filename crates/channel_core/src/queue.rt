@@ -1,5 +1,5 @@
 //! The queue of a channel's messages.
-ghost use Rattle.std.specs.Prelude.{◌≡◌, ◌⊎◌, ◌<◌, ◌≤◌, ◌*◌, [], drop, min, length, slice_get, Some, None, IfOk, IfErr, OnOk, OnErr};
+ghost use Rattle.std.specs.Prelude.{◌≡◌, ◌⊎◌, ◌<◌, ◌≤◌, ◌*◌, [], drop, min, length, slice_get, false, IsTrue, Some, None, IfOk, IfErr, OnOk, OnErr};
 ghost use Rattle.std.specs.Option.{option_copied};
 ghost use Rattle.std.specs.VecDeque.{deque_capacity};
 ghost use prog.Memory.{size, capped};
@@ -67,6 +67,9 @@ fn give_room_back<T>(deque: &mut VecDeque<T, Global>)
         ≤ deque_capacity deque.new }
     ensures at_a_quarter { (deque_capacity deque.new ≡ deque_capacity deque.old)
         ⊎ (4 * length deque.old.items ≤ deque_capacity deque.old) }
+    ensures if_large { (deque_capacity deque.new ≡ deque_capacity deque.old)
+        ⊎ ((4 < deque_capacity deque.old)
+        × (4096 < deque_capacity deque.old * capped (size (layout T.row)))) }
 {
     let (used, room) = (deque.len(), deque.capacity());
     if (used == room / 4 || used == 0) && is_large::<T>(room) {
@@ -75,7 +78,12 @@ fn give_room_back<T>(deque: &mut VecDeque<T, Global>)
 }
 
 /// Whether so many messages take more memory than is kept.
-fn is_large<T>(capacity: usize) -> bool {
+fn is_large<T>(capacity: usize) -> bool
+    ensures yes { IsTrue result
+        → (4 < capacity) × (4096 < capacity * capped (size (layout T.row))) }
+    ensures no { result ≡ false
+        → (capacity ≤ 4) ⊎ (capacity * capped (size (layout T.row)) ≤ 4096) }
+{
     KEPT_MESSAGES < capacity && KEPT_BYTES < capacity.saturating_mul(message_size::<T>())
 }
 

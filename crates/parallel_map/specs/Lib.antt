@@ -1,6 +1,7 @@
 pub use Rattle.ruled_channel_rules.specs.Handles
 pub use Rattle.ruled_channel_rules.specs.Whole
 pub mod Chunks
+pub mod Errors
 pub mod Joining
 pub mod Pieces
 pub mod Slots

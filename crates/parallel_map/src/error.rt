@@ -1,5 +1,6 @@
 //! Why a map has no answers.
-ghost use Rattle.std.specs.Prelude.{◌≡◌};
+ghost use Rattle.std.specs.Prelude.{◌≡◌, Some};
+ghost use Rattle.parallel_map.specs.Errors.{map_error_text};
 
 use channel_model::MakeError;
 use std::error::Error;
@@ -33,6 +34,8 @@ pub enum MapError {
 }
 
 impl fmt::Display for MapError {
+    ghost output = { λ error. Some (map_error_text error) };
+
     fn fmt<W: fmt::Write>(&self, f: &mut fmt::Formatter<W>) -> fmt::Result {
         match self {
             MapError::OutOfMemory => write!(f, "out of memory"),

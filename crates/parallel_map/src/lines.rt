@@ -40,6 +40,7 @@ pub fn unbounded_line<T: Drop>(
     ensures spent { (result ≡ Err MakeError.NoStamps) ↔ (maker.old ≡ None) }
     ensures unchanged { OnErr result (maker.new ≡ maker.old) }
     ensures rises { OnOk result (maker.new ≡ next_stamp maker.old) }
+    ensures capacity { IfOk result (λ made. capacity_of made.0 ≡ None) }
     ensures own { IfOk result (λ made. IsHubOf made.0 made.1 × (known made.1 ≡ hub_log 0 0)) }
 {
     if maker.is_spent() {

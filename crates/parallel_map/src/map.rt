@@ -56,6 +56,7 @@ where
     requires count { 0 < count }
     requires way { (cap : ℕ) × (capacity_of task.now.places ≡ Some cap)
         × (task.now.most_out ≡ min (cap + count) (2 ^ 64 - 1)) }
+    requires back { capacity_of task.now.chunks ≡ None }
     ensures all { IfOk result (λ answers. answers.items ≡ map J.answer task.now.inputs.now) }
     ensures refused { IfErr result (λ error.
         (error ≡ MapError.OutOfMemory) ⊎ (error ≡ MapError.NoThread)) }

@@ -376,6 +376,9 @@ impl<T: Drop> RuledChannel<T, (), Unruled> {
             (found pass.new) w ticket.new (made pass.new) × (woken pass.new ≡ [])) }
         ensures keeps { W.keeps cx.old cx.new }
         ensures unpolled { OnErr result ((ticket.new ≡ ticket.old) × HasMade unchanged pass.new) }
+        ensures wanted { OnErr result (GrowsWithMessages (found pass.new)
+            ⊎ (send_poll (slice_get from.old.items 0) (found pass.new).closed
+            (is_channel_full (found pass.new)) ≡ Pending)) }
     {
         let held = self.mutex.lock(rt, &mut pass.lock);
         let mut bell = Ringer::new(rt);
@@ -434,6 +437,9 @@ impl<T: Drop> RuledChannel<T, (), Unruled> {
         ensures keeps { W.keeps cx.old cx.new }
         ensures unpolled { OnErr result ((into.new.items ≡ into.old.items)
             × (ticket.new ≡ ticket.old) × HasMade unchanged pass.new) }
+        ensures wanted { OnErr result
+            ((recv_poll (oldest (found pass.new)) (found pass.new).closed ≡ Pending)
+            ⊎ (vec_capacity into.old < vec_len into.old + taken_count limit (found pass.new))) }
     {
         let held = self.mutex.lock(rt, &mut pass.lock);
         let mut bell = Ringer::new(rt);

@@ -7,4 +7,5 @@ invariant-loop-round g l = record {
   limit : l.taken ≤ l.fn.limit;
   kept : take (length l.fn.into.items) l.into.items ≡ l.fn.into.items;
   count : length l.into.items ≡ length l.fn.into.items + l.taken;
+  none : l.taken ≡ 0 → l.fn.limit ≡ 0;
 }
