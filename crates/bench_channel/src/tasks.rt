@@ -59,12 +59,14 @@ enum Doing<'a, R: Wait + Clone + Drop> {
     Receives(Recv<'a, u64, R>),
 }
 
-/// Sends to one channel and receives from another in turn.
+/// Sends to one channel and receives from another, in turn or one of the two alone.
 #[derive(Drop)]
 struct Player<'a, R: Wait + Clone + Drop> {
     sender: &'a Sender<u64, R>,
     receiver: &'a Receiver<u64, R>,
     doing: Doing<'a, R>,
+    /// Whether it does the other after each.
+    turns: bool,
     left: u64,
 }
 
@@ -81,6 +83,7 @@ fn make_player<'a, R: Wait + Clone + Drop>(
         } else {
             Doing::Receives(receiver.recv())
         },
+        turns: true,
         left: 2 * ROUNDS,
     }
 }
@@ -93,56 +96,20 @@ impl<'a, R: Wait + Clone + Drop> Future for Player<'a, R> {
             if self.left == 0 {
                 return Poll::Ready(());
             }
-            let (sender, receiver) = (self.sender, self.receiver);
-            let left = self.left;
-            let next = match &mut self.doing {
-                Doing::Sends(send) => match send.poll(cx) {
-                    Poll::Ready(_) => Doing::Receives(receiver.recv()),
-                    Poll::Pending => return Poll::Pending,
-                },
-                Doing::Receives(recv) => match recv.poll(cx) {
-                    Poll::Ready(_) => Doing::Sends(sender.send(left)),
-                    Poll::Pending => return Poll::Pending,
-                },
+            let (is_ready, sent) = match &mut self.doing {
+                Doing::Sends(send) => (matches!(&send.poll(cx), Poll::Ready(_)), true),
+                Doing::Receives(recv) => (matches!(&recv.poll(cx), Poll::Ready(_)), false),
             };
-            self.doing = next;
-            self.left = left - 1;
-        }
-        Poll::Ready(())
-    }
-}
-
-/// Does the same again and again: it sends, or it receives.
-#[derive(Drop)]
-struct Member<'a, R: Wait + Clone + Drop> {
-    sender: &'a Sender<u64, R>,
-    receiver: &'a Receiver<u64, R>,
-    doing: Doing<'a, R>,
-    left: u64,
-}
-
-impl<'a, R: Wait + Clone + Drop> Future for Member<'a, R> {
-    type Output = ();
-
-    fn poll(&mut self, cx: &mut Context<'_>) -> Poll<()> {
-        for _ in 0..u64::MAX {
-            if self.left == 0 {
-                return Poll::Ready(());
+            if !is_ready {
+                return Poll::Pending;
             }
             let (sender, receiver) = (self.sender, self.receiver);
-            let left = self.left;
-            let next = match &mut self.doing {
-                Doing::Sends(send) => match send.poll(cx) {
-                    Poll::Ready(_) => Doing::Sends(sender.send(left)),
-                    Poll::Pending => return Poll::Pending,
-                },
-                Doing::Receives(recv) => match recv.poll(cx) {
-                    Poll::Ready(_) => Doing::Receives(receiver.recv()),
-                    Poll::Pending => return Poll::Pending,
-                },
+            self.doing = if sent == self.turns {
+                Doing::Receives(receiver.recv())
+            } else {
+                Doing::Sends(sender.send(self.left))
             };
-            self.doing = next;
-            self.left = left - 1;
+            self.left -= 1;
         }
         Poll::Ready(())
     }
@@ -232,13 +199,14 @@ where
         } else {
             (Doing::Sends(sender.send(0)), TASKS * EACH)
         };
-        let member = Member {
+        let player = Player {
             sender: &sender,
             receiver: &receiver,
             doing,
+            turns: false,
             left,
         };
-        spawned = spawned.wrapping_add(u64::from(spawner.spawn(member).is_ok()));
+        spawned = spawned.wrapping_add(u64::from(spawner.spawn(player).is_ok()));
     }
     pool.run(rt);
     row(
