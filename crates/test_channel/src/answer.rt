@@ -1,4 +1,5 @@
 //! What answers a line.
+use TrySendError::{Closed, Full};
 use anyhow::Result;
 use channel_model::{Notice, Reply, TryRecvError, TrySendError, Who};
 use chanrun::reply_text::{NoticeText, ReplyText, WhoText};
@@ -21,21 +22,8 @@ pub enum Answer {
     Sent(Counted<TrySendError<()>>, usize),
     /// To `IntoMsg`.
     Message(Option<u64>),
-}
-
-/// How a batch that sends ended, and how many are left.
-#[derive(Drop)]
-struct SentText(Counted<TrySendError<()>>, usize);
-
-impl fmt::Display for SentText {
-    fn fmt<W: fmt::Write>(&self, f: &mut fmt::Formatter<W>) -> fmt::Result {
-        let left = self.1;
-        match &self.0 {
-            Ok(count) => write!(f, "ok {count}, {left} left"),
-            Err(TrySendError::Full(())) => write!(f, "full, {left} left"),
-            Err(TrySendError::Closed(())) => write!(f, "closed, {left} left"),
-        }
-    }
+    /// Nothing, since a handle would block, or the run refuses a batch.
+    Skipped,
 }
 
 /// Whether each message is one more than the one before it.
@@ -85,18 +73,10 @@ fn settled_text(alloc: Global, polls: u64, ready: Vec<(Who, Reply<u64>)>) -> Res
     Ok(text)
 }
 
-/// Whether a step wasn't made.
-pub fn is_refused(reply: &Reply<u64>) -> bool {
-    matches!(reply, Reply::Refused(..))
-}
-
 impl Answer {
-    /// Whether the line wasn't made.
-    pub fn is_refused(&self) -> bool {
-        match self {
-            Answer::Replied(reply) => is_refused(reply),
-            _ => false,
-        }
+    /// Whether the line was made.
+    pub fn is_made(&self) -> bool {
+        !matches!(self, Answer::Skipped | Answer::Replied(Reply::Refused(..)))
     }
 
     /// The answer as a row has it.
@@ -108,9 +88,12 @@ impl Answer {
             Answer::Received(received, messages) => {
                 format!(in alloc; "{}", ReceivedText(received, messages))?
             }
-            Answer::Sent(sent, left) => format!(in alloc; "{}", SentText(sent, left))?,
+            Answer::Sent(Ok(count), left) => format!(in alloc; "ok {count}, {left} left")?,
+            Answer::Sent(Err(Full(())), left) => format!(in alloc; "full, {left} left")?,
+            Answer::Sent(Err(Closed(())), left) => format!(in alloc; "closed, {left} left")?,
             Answer::Message(Some(message)) => format!(in alloc; "some {message}")?,
             Answer::Message(None) => format!(in alloc; "none")?,
+            Answer::Skipped => format!(in alloc; "blocks")?,
         })
     }
 }

@@ -15,7 +15,8 @@ use std::time::Duration;
 pub enum Call {
     Send,
     Receive,
-    ReceiveAll,
+    /// By name, it receives until the channel is closed.
+    ReceiveMany,
 }
 
 /// Who shares a channel.
@@ -28,7 +29,7 @@ struct Party<'c> {
 }
 
 /// Gives others so much time that they sleep.
-fn give_time(rt: &impl Clock) {
+pub fn give_time(rt: &impl Clock) {
     sleep(rt, Duration::from_millis(20));
 }
 
@@ -59,7 +60,7 @@ impl<'c> Party<'c> {
                     Err(OutOfMemory) => false,
                     got => return (got == Ok(Ok(1))).then_some(again),
                 },
-                Call::ReceiveAll => self.receiver.recv_all(rt, self.channel, &mut all).is_ok(),
+                Call::ReceiveMany => self.receiver.recv_all(rt, self.channel, &mut all).is_ok(),
             };
             if is_done {
                 return Some(again);
@@ -86,7 +87,7 @@ impl<'c> Party<'c> {
         }
         give_time(rt);
         let is_told = self.tell(rt, call);
-        if let Call::ReceiveAll = call {
+        if let Call::ReceiveMany = call {
             self.sender.close(rt, self.channel);
         }
         is_told
@@ -107,7 +108,7 @@ where
         // It sends what fills the channel.
         let _is_full = other.tell(rt, Call::Receive);
     }
-    let (alloc, all) = (rt.alloc(), matches!(call, Call::ReceiveAll));
+    let (alloc, all) = (rt.alloc(), matches!(call, Call::ReceiveMany));
     // If there is no memory for a thread, the second is called first.
     let (again, is_told) = join(
         rt,

@@ -1,12 +1,13 @@
 //! A channel whose handles and operations have names.
-use crate::answer::{Answer, Counted};
+use crate::answer::Answer;
 use crate::line::{Line, Messages, Way};
+use crate::many::channel;
 use crate::operation::{Kept, Operation, Streamed, Tasks};
 use anyhow::{Result, anyhow};
 use async_channel::inspect::{Waiters, who_waits};
 use async_channel::{
-    Group, NoMemory, OutOfMemory, Receiver, SendError, SendMany, Sender, StampMaker, TryRecvError,
-    TrySendError, WeakReceiver, WeakSender, bounded, unbounded,
+    Group, NoMemory, OutOfMemory, Receiver, SendError, SendMany, Sender, TryRecvError,
+    TrySendError, WeakReceiver, WeakSender,
 };
 use channel_model::{Kind, Refusal, Reply, Side, Step, Who};
 use futures::task::Poll;
@@ -22,14 +23,13 @@ pub struct Waiting {
     pub who: Who,
     pub group: Group,
     /// Whether the task of its last poll was woken since.
-    pub is_woken: bool,
+    pub woken: bool,
 }
 
 /// All that is live. An operation has a copy of its handle.
 #[derive(Drop)]
 pub struct Handles<'a, R: Wait + Clone + Drop> {
     rt: &'a R,
-    alloc: Global,
     senders: BTreeMap<u64, Sender<u64, R>>,
     receivers: BTreeMap<u64, Streamed<R>>,
     weak_senders: BTreeMap<u64, WeakSender<u64, R>>,
@@ -77,31 +77,9 @@ fn refused(NoMemory(back): NoMemory<u64>) -> Reply<u64> {
 pub fn queue(alloc: Global, messages: Messages) -> Result<VecDeque<u64, Global>> {
     let mut queue = VecDeque::new(alloc);
     for place in 0..messages.count {
-        if queue.push_back(messages.first.wrapping_add(place)).is_err() {
-            return Err(anyhow!("memory was refused"));
-        }
+        queue.push_back(messages.first.wrapping_add(place))?;
     }
     Ok(queue)
-}
-
-/// Sends a batch.
-fn sent_many<R: Wait + Clone + Drop>(
-    task: &MockTask,
-    way: Way,
-    sender: &Sender<u64, R>,
-    mut from: VecDeque<u64, Global>,
-) -> Result<Answer> {
-    let count = from.len();
-    let sent = match way {
-        Way::Plain => sender.try_send_many(&mut from)?,
-        Way::Blocking => match sender.send_many_blocking(&mut from) {
-            Ok(Ok(())) => Ok(count),
-            Ok(Err(SendError(()))) => Err(TrySendError::Closed(())),
-            Err(OutOfMemory) => Ok(count.saturating_sub(from.len())),
-        },
-        Way::Polled => return sent_by_poll(task, sender.send_many(from)),
-    };
-    Ok(Answer::Sent(sent, from.len()))
 }
 
 /// What comes of one poll. One that has to wait is given up.
@@ -116,53 +94,24 @@ fn sent_by_poll<R: Wait + Clone + Drop>(
     {
         return Err(anyhow!("a poll that was ready woke its task"));
     }
-    match polled {
-        Poll::Ready(Err(_)) if sent == 0 => Err(anyhow!("memory was refused")),
+    Ok(match polled {
+        Poll::Ready(Err(_)) if sent == 0 => return Err(anyhow!("memory was refused")),
         Poll::Ready(Ok(Err(SendError(left)))) => {
-            Ok(Answer::Sent(Err(TrySendError::Closed(())), left.len()))
+            Answer::Sent(Err(TrySendError::Closed(())), left.len())
         }
-        Poll::Ready(_) => Ok(Answer::Sent(Ok(sent), left)),
-        Poll::Pending if sent == 0 => Ok(Answer::Sent(Err(TrySendError::Full(())), left)),
-        Poll::Pending => Ok(Answer::Sent(Ok(sent), left)),
-    }
-}
-
-/// Receives a batch. An operation that has to wait is given up.
-fn received_many<R: Wait + Clone + Drop>(
-    task: &MockTask,
-    way: Way,
-    receiver: &Receiver<u64, R>,
-    into: &mut Vec<u64>,
-    limit: usize,
-) -> Result<Counted<TryRecvError>> {
-    match way {
-        Way::Plain => Ok(receiver.try_recv_many(into, limit)?),
-        Way::Blocking => {
-            let received = receiver.recv_many_blocking(into, limit)?;
-            Ok(received.map_err(|_| TryRecvError::Closed))
-        }
-        Way::Polled => match task.poll(&mut receiver.recv_many(into, limit)) {
-            Poll::Ready(received) => match received? {
-                0 if limit > 0 => Ok(Err(TryRecvError::Closed)),
-                count => Ok(Ok(count)),
-            },
-            Poll::Pending => Ok(Err(TryRecvError::Empty)),
-        },
-    }
+        Poll::Pending if sent == 0 => Answer::Sent(Err(TrySendError::Full(())), left),
+        _ => Answer::Sent(Ok(sent), left),
+    })
 }
 
 impl<'a, R: Wait + Clone + Drop + RandomSource + AllocGlobal> Handles<'a, R> {
     pub fn new(rt: &'a R, kind: Kind) -> Result<Handles<'a, R>> {
-        let mut maker = StampMaker::new();
         let (s, r) = match kind {
-            Kind::Bounded(capacity) if capacity > 0 => {
-                bounded(rt, rt.alloc(), capacity, &mut maker)?
-            }
-            _ => unbounded(rt, rt.alloc(), &mut maker)?,
+            Kind::Bounded(capacity) => channel(rt, capacity)?,
+            Kind::Unbounded => channel(rt, 0)?,
         };
         let mut handles = Handles {
             rt,
-            alloc: rt.alloc(),
             senders: BTreeMap::new(rt.alloc()),
             receivers: BTreeMap::new(rt.alloc()),
             weak_senders: BTreeMap::new(rt.alloc()),
@@ -176,8 +125,8 @@ impl<'a, R: Wait + Clone + Drop + RandomSource + AllocGlobal> Handles<'a, R> {
     }
 
     fn put_receiver(&mut self, name: u64, receiver: Receiver<u64, R>) -> Result<()> {
-        let streamed = Streamed::new(receiver, Tasks::new(self.rt)?);
-        put(&mut self.receivers, name, streamed)
+        let tasks = Tasks::new(self.rt)?;
+        put(&mut self.receivers, name, Streamed { receiver, tasks })
     }
 
     fn receiver(&self, name: u64) -> Result<&Receiver<u64, R>> {
@@ -185,34 +134,29 @@ impl<'a, R: Wait + Clone + Drop + RandomSource + AllocGlobal> Handles<'a, R> {
     }
 
     fn put_operation(&mut self, op: u64, kept: Kept<'a, R>) -> Result<()> {
-        let operation = Operation::new(kept, Tasks::new(self.rt)?);
-        put(&mut self.operations, op, operation)
+        let tasks = Tasks::new(self.rt)?;
+        put(&mut self.operations, op, Operation { kept, tasks })
     }
 
     /// A sender and a receiver that answer questions, the first of each.
-    pub fn first_sides(&self) -> (Option<u64>, Option<u64>) {
-        (
-            self.senders.keys().next().copied(),
-            self.receivers.keys().next().copied(),
-        )
+    pub fn sides(&self) -> [Option<Side>; 2] {
+        let (sender, receiver) = (self.senders.keys().next(), self.receivers.keys().next());
+        let sender = sender.copied().map(Side::Sender);
+        [sender, receiver.copied().map(Side::Receiver)]
     }
 
     /// All whose tasks may be woken.
     pub fn waiting(&self) -> Result<Vec<Waiting>> {
-        let mut all = Vec::new(self.alloc);
+        let mut all = Vec::new(self.rt.alloc());
         for (op, operation) in self.operations.iter() {
-            all.push(Waiting {
-                who: Who::Op(*op),
-                group: operation.group(),
-                is_woken: operation.is_woken(),
-            })?;
+            let (group, woken) = (operation.group(), operation.tasks.is_woken());
+            let who = Who::Op(*op);
+            all.push(Waiting { who, group, woken })?;
         }
         for (name, streamed) in self.receivers.iter() {
-            all.push(Waiting {
-                who: Who::Receiver(*name),
-                group: Group::Streams,
-                is_woken: streamed.is_woken(),
-            })?;
+            let (group, woken) = (Group::Streams, streamed.tasks.is_woken());
+            let who = Who::Receiver(*name);
+            all.push(Waiting { who, group, woken })?;
         }
         Ok(all)
     }
@@ -238,55 +182,68 @@ impl<'a, R: Wait + Clone + Drop + RandomSource + AllocGlobal> Handles<'a, R> {
 
     /// Makes the call of a line.
     pub fn make(&mut self, line: Line) -> Result<Answer> {
-        match line {
-            Line::One(step) => Ok(Answer::Replied(self.step(step)?)),
-            Line::SendBlocking { sender, message } => {
-                Ok(Answer::Replied(match live(&self.senders, sender)?.send_blocking(message) {
-                    Ok(sent) => Reply::SendPolled(Poll::Ready(sent)),
-                    Err(refusal) => refused(refusal),
-                }))
+        Ok(match line {
+            Line::One(step) => Answer::Replied(self.step(step)?),
+            Line::SendBlocking(sender, message) => {
+                let sent = live(&self.senders, sender)?.send_blocking(message);
+                let polled = sent.map(Poll::Ready);
+                Answer::Replied(polled.map_or_else(refused, Reply::SendPolled))
             }
             Line::RecvBlocking(receiver) => {
                 let received = self.receiver(receiver)?.recv_blocking()?;
-                Ok(Answer::Replied(Reply::RecvPolled(Poll::Ready(received))))
+                Answer::Replied(Reply::RecvPolled(Poll::Ready(received)))
             }
-            Line::IntoMsg(op) => Ok(Answer::Message(taken(&mut self.operations, op)?.into_msg()?)),
-            line => self.make_batch(line),
-        }
+            Line::IntoMsg(op) => Answer::Message(taken(&mut self.operations, op)?.into_msg()?),
+            Line::SendMany(way, sender, messages) => self.send_many(way, sender, messages)?,
+            Line::RecvMany(way, receiver, limit) => self.recv_many(way, receiver, limit)?,
+            Line::TryIter(receiver, limit) => self.take_from_iter(receiver, limit)?,
+            Line::Notice(_) | Line::Settle => return Err(anyhow!("no handle makes it")),
+        })
     }
 
-    fn make_batch(&mut self, line: Line) -> Result<Answer> {
-        match line {
-            Line::SendMany {
-                way,
-                sender,
-                messages,
-            } => {
-                let (sender, from) = (live(&self.senders, sender)?, queue(self.alloc, messages)?);
-                let task = MockTask::new(self.rt)?;
-                sent_many(&task, way, sender, from)
-            }
-            Line::RecvMany {
-                way,
-                receiver,
-                limit,
-            } => {
-                let mut into = Vec::new(self.alloc);
-                let (task, receiver) = (MockTask::new(self.rt)?, self.receiver(receiver)?);
-                let received = received_many(&task, way, receiver, &mut into, limit)?;
-                if into.capacity() / 2 > into.len().saturating_add(8) {
-                    return Err(anyhow!("a batch took more room than it needs"));
-                }
-                Ok(Answer::Received(received, into))
-            }
-            Line::TryIter { receiver, limit } => self.take_from_iter(receiver, limit),
-            _ => Err(anyhow!("it is no batch")),
+    fn send_many(&self, way: Way, sender: u64, messages: Messages) -> Result<Answer> {
+        let sender = live(&self.senders, sender)?;
+        let mut from = queue(self.rt.alloc(), messages)?;
+        let (task, count) = (MockTask::new(self.rt)?, from.len());
+        let sent = match way {
+            Way::Plain => sender.try_send_many(&mut from)?,
+            Way::Blocking => match sender.send_many_blocking(&mut from) {
+                Ok(Ok(())) => Ok(count),
+                Ok(Err(SendError(()))) => Err(TrySendError::Closed(())),
+                Err(OutOfMemory) => Ok(count.saturating_sub(from.len())),
+            },
+            Way::Polled => return sent_by_poll(&task, sender.send_many(from)),
+        };
+        Ok(Answer::Sent(sent, from.len()))
+    }
+
+    /// Receives a batch. An operation that has to wait is given up.
+    fn recv_many(&self, way: Way, receiver: u64, limit: usize) -> Result<Answer> {
+        let mut into = Vec::new(self.rt.alloc());
+        let (task, receiver) = (MockTask::new(self.rt)?, self.receiver(receiver)?);
+        let received = match way {
+            Way::Plain => receiver.try_recv_many(&mut into, limit)?,
+            Way::Blocking => match receiver.recv_many_blocking(&mut into, limit)? {
+                Ok(count) => Ok(count),
+                Err(_) => Err(TryRecvError::Closed),
+            },
+            Way::Polled => match task.poll(&mut receiver.recv_many(&mut into, limit)) {
+                Poll::Ready(received) => match received? {
+                    0 if limit > 0 => Err(TryRecvError::Closed),
+                    count => Ok(count),
+                },
+                Poll::Pending => Err(TryRecvError::Empty),
+            },
+        };
+        if into.capacity() / 2 > into.len().saturating_add(8) {
+            return Err(anyhow!("a batch took more room than it needs"));
         }
+        Ok(Answer::Received(received, into))
     }
 
     /// Takes so many from an iterator over what is there.
     fn take_from_iter(&self, receiver: u64, limit: usize) -> Result<Answer> {
-        let mut came = Vec::new(self.alloc);
+        let mut came = Vec::new(self.rt.alloc());
         came.reserve(limit.min(self.receiver(receiver)?.len()))?;
         let mut messages = self.receiver(receiver)?.try_iter();
         for _ in 0..limit {
@@ -300,44 +257,36 @@ impl<'a, R: Wait + Clone + Drop + RandomSource + AllocGlobal> Handles<'a, R> {
 
     /// Makes a single step.
     fn step(&mut self, step: Step<u64>) -> Result<Reply<u64>> {
-        match step {
-            Step::TrySend(sender, message) => {
-                Ok(match live(&self.senders, sender)?.try_send(message) {
-                    Ok(sent) => Reply::TrySent(sent),
-                    Err(refusal) => refused(refusal),
-                })
-            }
-            Step::ForceSend(sender, message) => {
-                Ok(match live(&self.senders, sender)?.force_send(message) {
-                    Ok(forced) => Reply::Forced(forced),
-                    Err(refusal) => refused(refusal),
-                })
-            }
-            Step::TryRecv(receiver) => Ok(Reply::Received(self.receiver(receiver)?.try_recv())),
-            Step::Poll(op) => self.poll(Who::Op(op)),
-            Step::PollNext(receiver) => self.poll(Who::Receiver(receiver)),
-            Step::IsTerminated(receiver) => {
-                Ok(Reply::Flag(self.receiver(receiver)?.is_terminated()))
-            }
-            Step::Close(side) => Ok(Reply::Flag(ask!(self, side, close))),
-            Step::IsClosed(side) => Ok(Reply::Flag(ask!(self, side, is_closed))),
-            Step::IsEmpty(side) => Ok(Reply::Flag(ask!(self, side, is_empty))),
-            Step::IsFull(side) => Ok(Reply::Flag(ask!(self, side, is_full))),
-            Step::Len(side) => Ok(Reply::Count(ask!(self, side, len))),
-            Step::Capacity(side) => Ok(Reply::Capacity(ask!(self, side, capacity))),
+        Ok(match step {
+            Step::TrySend(sender, message) => live(&self.senders, sender)?
+                .try_send(message)
+                .map_or_else(refused, Reply::TrySent),
+            Step::ForceSend(sender, message) => live(&self.senders, sender)?
+                .force_send(message)
+                .map_or_else(refused, Reply::Forced),
+            Step::TryRecv(receiver) => Reply::Received(self.receiver(receiver)?.try_recv()),
+            Step::Poll(op) => self.poll(Who::Op(op))?,
+            Step::PollNext(receiver) => self.poll(Who::Receiver(receiver))?,
+            Step::IsTerminated(receiver) => Reply::Flag(self.receiver(receiver)?.is_terminated()),
+            Step::Close(side) => Reply::Flag(ask!(self, side, close)),
+            Step::IsClosed(side) => Reply::Flag(ask!(self, side, is_closed)),
+            Step::IsEmpty(side) => Reply::Flag(ask!(self, side, is_empty)),
+            Step::IsFull(side) => Reply::Flag(ask!(self, side, is_full)),
+            Step::Len(side) => Reply::Count(ask!(self, side, len)),
+            Step::Capacity(side) => Reply::Capacity(ask!(self, side, capacity)),
             Step::SenderCount(side) => {
-                Ok(Reply::Count(self.named(ask!(self, side, sender_count), false)))
+                Reply::Count(self.named(ask!(self, side, sender_count), false))
             }
             Step::ReceiverCount(side) => {
-                Ok(Reply::Count(self.named(ask!(self, side, receiver_count), true)))
+                Reply::Count(self.named(ask!(self, side, receiver_count), true))
             }
-            Step::UpgradeSender { of, new } => self.upgrade_sender(of, new),
-            Step::UpgradeReceiver { of, new } => self.upgrade_receiver(of, new),
+            Step::UpgradeSender { of, new } => Reply::Upgraded(self.upgrade_sender(of, new)?),
+            Step::UpgradeReceiver { of, new } => Reply::Upgraded(self.upgrade_receiver(of, new)?),
             step => {
                 self.rename(step)?;
-                Ok(Reply::Done)
+                Reply::Done
             }
-        }
+        })
     }
 
     /// So many receivers, or so many senders, without those that operations have.
@@ -351,22 +300,20 @@ impl<'a, R: Wait + Clone + Drop + RandomSource + AllocGlobal> Handles<'a, R> {
         named
     }
 
-    fn upgrade_sender(&mut self, of: u64, new: u64) -> Result<Reply<u64>> {
-        let upgraded = live(&self.weak_senders, of)?.upgrade()?;
-        let is_raised = upgraded.is_some();
-        if let Some(sender) = upgraded {
-            put(&mut self.senders, new, sender)?;
+    fn upgrade_sender(&mut self, of: u64, new: u64) -> Result<bool> {
+        match live(&self.weak_senders, of)?.upgrade()? {
+            Some(sender) => put(&mut self.senders, new, sender)?,
+            None => return Ok(false),
         }
-        Ok(Reply::Upgraded(is_raised))
+        Ok(true)
     }
 
-    fn upgrade_receiver(&mut self, of: u64, new: u64) -> Result<Reply<u64>> {
-        let upgraded = live(&self.weak_receivers, of)?.upgrade()?;
-        let is_raised = upgraded.is_some();
-        if let Some(receiver) = upgraded {
-            self.put_receiver(new, receiver)?;
+    fn upgrade_receiver(&mut self, of: u64, new: u64) -> Result<bool> {
+        match live(&self.weak_receivers, of)?.upgrade()? {
+            Some(receiver) => self.put_receiver(new, receiver)?,
+            None => return Ok(false),
         }
-        Ok(Reply::Upgraded(is_raised))
+        Ok(true)
     }
 
     /// Makes a name, or gives one up.

@@ -1,7 +1,7 @@
 //! The run that judges: what it answers is what the handles have to answer.
 ghost use Rattle.channel_model.specs.Capacity.{HasPositiveCapacity};
 
-use crate::answer::{Answer, is_refused};
+use crate::answer::Answer;
 use crate::handles::{put, queue};
 use crate::line::{Line, Messages, Way};
 use anyhow::{Result, anyhow};
@@ -17,7 +17,6 @@ use std::collections::BTreeMap;
 #[derive(Drop)]
 pub struct Judge {
     alloc: Global,
-    capacity: Option<usize>,
     run: Run<u64>,
     /// The message of each send, until it is finished.
     unsent: BTreeMap<u64, Option<u64>>,
@@ -36,13 +35,8 @@ impl Judge {
     pub fn new(alloc: Global, kind: Kind) -> Result<Judge>
         requires { HasPositiveCapacity kind }
     {
-        let capacity = match kind {
-            Kind::Bounded(capacity) => Some(capacity),
-            Kind::Unbounded => None,
-        };
         Ok(Judge {
             alloc,
-            capacity,
             run: Run::new(alloc, kind)?,
             unsent: BTreeMap::new(alloc),
         })
@@ -67,30 +61,20 @@ impl Judge {
         self.run.step(question)
     }
 
-    /// What a line answers. There is none if a handle would block, or a batch is refused.
-    pub fn make(&mut self, line: Line) -> Result<Option<Answer>> {
+    /// What a line answers.
+    pub fn make(&mut self, line: Line) -> Result<Answer> {
         match line {
-            Line::One(step) => Ok(Some(Answer::Replied(self.step(step)?))),
-            Line::Notice(who) => Ok(Some(Answer::Noticed(self.notice_of(who)))),
-            Line::Settle => Ok(None),
-            Line::SendBlocking { sender, message } => self.send_blocking(sender, message),
+            Line::One(step) => Ok(Answer::Replied(self.step(step)?)),
+            Line::Notice(who) => Ok(Answer::Noticed(self.notice_of(who))),
+            Line::Settle => Ok(Answer::Skipped),
+            Line::SendBlocking(sender, message) => self.send_blocking(sender, message),
             Line::RecvBlocking(receiver) => self.recv_blocking(receiver),
-            Line::SendMany {
-                way,
-                sender,
-                messages,
-            } => self.send_many(way, sender, messages),
-            Line::RecvMany {
-                way,
-                receiver,
-                limit,
-            } => self.recv_many(way, receiver, limit),
-            Line::TryIter { receiver, limit } => match self.try_recv_many(receiver, limit)? {
-                Some(Answer::Received(_, came)) => {
-                    Ok(Some(Answer::Received(Ok(came.len()), came)))
-                }
-                _ => Ok(None),
-            },
+            Line::SendMany(way, sender, messages) => self.send_many(way, sender, messages),
+            Line::RecvMany(way, receiver, limit) => self.recv_many(way, receiver, limit),
+            Line::TryIter(receiver, limit) => Ok(match self.try_recv_many(receiver, limit)? {
+                Answer::Received(_, came) => Answer::Received(Ok(came.len()), came),
+                other => other,
+            }),
             Line::IntoMsg(op) => self.into_msg(op),
         }
     }
@@ -100,7 +84,7 @@ impl Judge {
         if reply.wants_memory() {
             return Err(anyhow!("memory was refused"));
         }
-        if !is_refused(&reply) {
+        if !matches!(reply, Reply::Refused(..)) {
             self.note(&step, &reply)?;
         }
         Ok(reply)
@@ -128,32 +112,32 @@ impl Judge {
         }
     }
 
-    fn send_blocking(&mut self, sender: u64, message: u64) -> Result<Option<Answer>> {
+    fn send_blocking(&mut self, sender: u64, message: u64) -> Result<Answer> {
         if self.would_block(sender, 1) {
-            return Ok(None);
+            return Ok(Answer::Skipped);
         }
         let sent = match self.step(Step::TrySend(sender, message))? {
             Reply::TrySent(Ok(())) => Ok(()),
             Reply::TrySent(Err(TrySendError::Closed(back))) => Err(SendError(back)),
-            _ => return Ok(None),
+            _ => return Ok(Answer::Skipped),
         };
-        Ok(Some(Answer::Replied(Reply::SendPolled(Poll::Ready(sent)))))
+        Ok(Answer::Replied(Reply::SendPolled(Poll::Ready(sent))))
     }
 
-    fn recv_blocking(&mut self, receiver: u64) -> Result<Option<Answer>> {
+    fn recv_blocking(&mut self, receiver: u64) -> Result<Answer> {
         let received = match self.step(Step::TryRecv(receiver))? {
             Reply::Received(Ok(message)) => Ok(message),
             Reply::Received(Err(TryRecvError::Closed)) => Err(RecvError),
-            _ => return Ok(None),
+            _ => return Ok(Answer::Skipped),
         };
-        Ok(Some(Answer::Replied(Reply::RecvPolled(Poll::Ready(received)))))
+        Ok(Answer::Replied(Reply::RecvPolled(Poll::Ready(received))))
     }
 
     /// The answer, if the handle is live.
-    fn if_live(&mut self, side: Side, answer: Answer) -> Option<Answer> {
+    fn if_live(&mut self, side: Side, answer: Answer) -> Answer {
         match self.ask(Step::Len(side)) {
-            Reply::Count(_) => Some(answer),
-            _ => None,
+            Reply::Count(_) => answer,
+            _ => Answer::Skipped,
         }
     }
 
@@ -161,60 +145,61 @@ impl Judge {
     fn would_block(&mut self, sender: u64, count: u64) -> bool {
         let side = Side::Sender(sender);
         let (is_closed, held) = (self.ask(Step::IsClosed(side)), self.ask(Step::Len(side)));
-        match (self.capacity, is_closed, held) {
-            (Some(capacity), Reply::Flag(false), Reply::Count(held)) => {
-                match usize::try_from(count) {
-                    Ok(count) => capacity.saturating_sub(held) < count,
-                    Err(_) => true,
-                }
+        match (self.ask(Step::Capacity(side)), is_closed, held) {
+            (Reply::Capacity(Some(capacity)), Reply::Flag(false), Reply::Count(held)) => {
+                (capacity.saturating_sub(held) as u64) < count
             }
             _ => false,
         }
     }
 
     /// A batch of sends. Without messages, only a plain one sees that the channel is closed.
-    fn send_many(&mut self, way: Way, sender: u64, messages: Messages) -> Result<Option<Answer>> {
+    fn send_many(&mut self, way: Way, sender: u64, messages: Messages) -> Result<Answer> {
         if way != Way::Plain && messages.count == 0 {
             return Ok(self.if_live(Side::Sender(sender), Answer::Sent(Ok(0), 0)));
         }
         if way == Way::Blocking && self.would_block(sender, messages.count) {
-            return Ok(None);
+            return Ok(Answer::Skipped);
         }
         let mut from = queue(self.alloc, messages)?;
-        let sent = moved(self.run.try_send_many(sender, &mut from, usize::MAX))?;
-        if self.capacity.is_none() && !from.is_empty() && matches!(sent, Some(Ok(_))) {
+        let Some(sent) = moved(self.run.try_send_many(sender, &mut from, usize::MAX))? else {
+            return Ok(Answer::Skipped);
+        };
+        let capacity = self.ask(Step::Capacity(Side::Sender(sender)));
+        if capacity == Reply::Capacity(None) && !from.is_empty() && sent.is_ok() {
             return Err(anyhow!("memory was refused"));
         }
-        Ok(sent.map(|sent| Answer::Sent(sent, from.len())))
+        Ok(Answer::Sent(sent, from.len()))
     }
 
     /// A batch of receives. With room for none, only a plain one sees that there is no message.
-    fn recv_many(&mut self, way: Way, receiver: u64, limit: usize) -> Result<Option<Answer>> {
+    fn recv_many(&mut self, way: Way, receiver: u64, limit: usize) -> Result<Answer> {
         if way != Way::Plain && limit == 0 {
             let nothing = Answer::Received(Ok(0), Vec::new(self.alloc));
             return Ok(self.if_live(Side::Receiver(receiver), nothing));
         }
-        let received = self.try_recv_many(receiver, limit)?;
-        Ok(received.filter(|received| way != Way::Blocking || !is_empty(received)))
+        Ok(match self.try_recv_many(receiver, limit)? {
+            Answer::Received(Err(TryRecvError::Empty), _) if way == Way::Blocking => {
+                Answer::Skipped
+            }
+            answer => answer,
+        })
     }
 
-    fn try_recv_many(&mut self, receiver: u64, limit: usize) -> Result<Option<Answer>> {
+    fn try_recv_many(&mut self, receiver: u64, limit: usize) -> Result<Answer> {
         let mut into = Vec::new(self.alloc);
-        let received = moved(self.run.try_recv_many(receiver, &mut into, limit))?;
-        Ok(received.map(|received| Answer::Received(received, into)))
+        match moved(self.run.try_recv_many(receiver, &mut into, limit))? {
+            Some(received) => Ok(Answer::Received(received, into)),
+            None => Ok(Answer::Skipped),
+        }
     }
 
-    /// A send is given up. There is none if the operation is none.
-    fn into_msg(&mut self, op: u64) -> Result<Option<Answer>> {
+    /// A send is given up. It is skipped if the operation is none.
+    fn into_msg(&mut self, op: u64) -> Result<Answer> {
         let Some(message) = self.unsent.get(&op).copied() else {
-            return Ok(None);
+            return Ok(Answer::Skipped);
         };
         self.step(Step::DropOp(op))?;
-        Ok(Some(Answer::Message(message)))
+        Ok(Answer::Message(message))
     }
-}
-
-/// Whether a batch found an open channel empty.
-fn is_empty(answer: &Answer) -> bool {
-    matches!(answer, Answer::Received(Err(TryRecvError::Empty), _))
 }

@@ -27,12 +27,11 @@ mod records;
 mod refused;
 mod rows;
 mod shortest;
-mod words;
 mod writer;
 
-use crate::pair::make_all;
+use crate::pair::differs;
 use crate::rows::Rows;
-use crate::shortest::shortest;
+use crate::shortest::{print, shortest};
 use crate::writer::script_of;
 use anyhow::{Result, anyhow};
 use std::alloc::AllocGlobal;
@@ -66,15 +65,13 @@ where
 {
     let mut sums = Sums::default();
     for number in 0..count {
-        let script = script_of(rt.alloc(), seed.wrapping_add(number))?;
-        let outcome = make_all(rt, script.kind, script.lines.as_slice())?;
+        let text = script_of(rt.alloc(), seed.wrapping_add(number))?;
+        let script: Vec<&str> = text.lines().collect(rt.alloc())?;
         sums.scripts = sums.scripts.saturating_add(1);
-        sums.lines = sums.lines.saturating_add(outcome.lines);
-        sums.was_refused |= outcome.was_refused;
-        if outcome.difference.is_some() {
+        if differs(rt, script.as_slice(), &mut sums)? {
             sums.differences = 1;
             println!(rt; "script {} differs:", seed.wrapping_add(number))?;
-            shortest(rt, script)?.print(rt)?;
+            print(rt, shortest(rt, script)?.as_slice())?;
             break;
         }
     }

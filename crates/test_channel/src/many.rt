@@ -48,14 +48,14 @@ pub fn see_all(came: &[u64], count: usize) -> Result<()> {
     Ok(())
 }
 
-/// Polls a send until it waits, or all went in. The answer is how many polls there were.
+/// Polls a send until it waits, or all went in. The answer is how often it was refused memory.
 fn poll_send<R: Wait + Clone + Drop>(
     task: &MockTask,
     s: &Sender<u64, R>,
     send: &mut SendMany<'_, u64, R>,
 ) -> Result<usize> {
     let (held, sent) = (s.len(), send.sent());
-    for polls in 1..=2 {
+    for again in 0..2 {
         let polled = task.poll(send);
         if s.len().checked_sub(held) != send.sent().checked_sub(sent) {
             return Err(anyhow!("what went in isn't there"));
@@ -63,7 +63,7 @@ fn poll_send<R: Wait + Clone + Drop>(
         match polled {
             Poll::Ready(Err(OutOfMemory)) => {}
             Poll::Ready(Ok(Err(_))) => return Err(anyhow!("the channel isn't closed")),
-            Poll::Ready(Ok(Ok(()))) | Poll::Pending => return Ok(polls),
+            Poll::Ready(Ok(Ok(()))) | Poll::Pending => return Ok(again),
         }
     }
     Err(anyhow!("a send was refused memory twice"))
@@ -77,63 +77,51 @@ where
 {
     let (s, r) = channel(rt, capacity)?;
     let (task, mut came) = (MockTask::new(rt)?, Vec::with_capacity(rt.alloc(), count)?);
-    let (mut send, mut made) = (s.send_many(rising(rt.alloc(), count)?), 0usize);
+    let (mut send, mut again) = (s.send_many(rising(rt.alloc(), count)?), 0usize);
     for _ in 0..polls {
-        made = made.saturating_add(poll_send(&task, &s, &mut send)?);
+        again = again.saturating_add(poll_send(&task, &s, &mut send)?);
         let waits = !send.is_terminated();
         if r.try_recv_many(&mut came, usize::MAX)?.is_err() || task.is_woken() != waits {
             return Err(anyhow!("nothing was there, or the wrong ones were told"));
         }
     }
     see_all(came.as_slice(), count)?;
-    made.checked_sub(polls)
-        .ok_or_else(|| anyhow!("too few polls"))
+    Ok(again)
 }
 
-/// Polls a receive until it waits. The answer is how many polls there were.
-fn wait<R: Wait + Clone + Drop>(
-    task: &MockTask,
-    weak: &WeakSender<u64, R>,
-    recv: &mut RecvMany<'_, u64, R>,
-) -> Result<usize> {
-    for polls in 1..=2 {
-        let is_pending = task.poll(recv).is_pending();
-        if who_waits(weak, Group::Receives).waiting != usize::from(is_pending) {
-            return Err(anyhow!("a refused receive waits, or a pending one doesn't"));
-        }
-        if is_pending {
-            return Ok(polls);
-        }
-    }
-    Err(anyhow!("a receive was refused memory twice"))
-}
-
-/// Sends so many messages. The answer is how many calls it took.
+/// Sends so many messages. The answer is how many calls were made again.
 fn send_all<R: Wait + Clone + Drop>(
     s: &Sender<u64, R>,
     mut from: VecDeque<u64, Global>,
 ) -> Result<usize> {
-    for calls in 1..=2 {
+    for again in 0..2 {
         drop(s.try_send_many(&mut from));
         if from.is_empty() {
-            return Ok(calls);
+            return Ok(again);
         }
     }
     Err(anyhow!("a batch was refused memory twice"))
 }
 
-/// Polls a receive until it has all. The answer is how many polls there were.
-fn take_all<R: Wait + Clone + Drop>(
+/// Polls a receive until it waits, or has all that is there. The answer is how often it was refused
+/// memory.
+fn poll_receive<R: Wait + Clone + Drop>(
     task: &MockTask,
     r: &Receiver<u64, R>,
+    weak: &WeakSender<u64, R>,
     recv: &mut RecvMany<'_, u64, R>,
 ) -> Result<usize> {
-    for polls in 1..=2 {
-        if task.poll(recv).is_pending() {
+    let waits = r.is_empty();
+    for again in 0..2 {
+        let is_pending = task.poll(recv).is_pending();
+        if is_pending && !waits {
             return Err(anyhow!("a receive waits for what is there"));
         }
-        if r.is_empty() {
-            return Ok(polls);
+        if waits && who_waits(weak, Group::Receives).waiting != usize::from(is_pending) {
+            return Err(anyhow!("a refused receive waits, or a pending one doesn't"));
+        }
+        if is_pending == waits && r.is_empty() {
+            return Ok(again);
         }
     }
     Err(anyhow!("a receive was refused memory twice"))
@@ -149,12 +137,12 @@ where
     let (task, weak, mut came) = (MockTask::new(rt)?, s.downgrade()?, Vec::new(rt.alloc()));
     let from = rising(rt.alloc(), count)?;
     let mut recv = r.recv_many(&mut came, usize::MAX);
-    let again = wait(&task, &weak, &mut recv)?.saturating_sub(1);
-    let again = again.saturating_add(send_all(&s, from)?.saturating_sub(1));
+    let again = poll_receive(&task, &r, &weak, &mut recv)?;
+    let again = again.saturating_add(send_all(&s, from)?);
     if !task.is_woken() {
         return Err(anyhow!("the receive wasn't told"));
     }
-    let again = again.saturating_add(take_all(&task, &r, &mut recv)?.saturating_sub(1));
+    let again = again.saturating_add(poll_receive(&task, &r, &weak, &mut recv)?);
     drop(recv);
     see_all(came.as_slice(), count)?;
     Ok(again)

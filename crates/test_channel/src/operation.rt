@@ -1,6 +1,6 @@
 //! Operations that own their handle, each with tasks that poll it.
 use anyhow::{Result, anyhow};
-use async_channel::{Closed, Group, Receiver, Recv, Send};
+use async_channel::{Closed, Group, OutOfMemory, Receiver, Recv, Send};
 use channel_model::Reply;
 use futures::Stream;
 use futures::task::Poll;
@@ -26,17 +26,8 @@ impl Tasks {
         })
     }
 
-    /// The task of the last poll. There is none before the first poll.
-    fn last(&self) -> Option<&MockTask> {
-        match self.polls {
-            0 => None,
-            1 | 2 => Some(&self.one),
-            _ => Some(&self.other),
-        }
-    }
-
     /// The task of a new poll.
-    pub fn next(&mut self) -> &MockTask {
+    fn next(&mut self) -> &MockTask {
         self.polls = if self.polls < 4 { self.polls + 1 } else { 1 };
         if self.polls < 3 {
             &self.one
@@ -47,7 +38,11 @@ impl Tasks {
 
     /// Whether the task of the last poll was woken since.
     pub fn is_woken(&self) -> bool {
-        self.last().is_some_and(|task| task.is_woken())
+        match self.polls {
+            0 => false,
+            1 | 2 => self.one.is_woken(),
+            _ => self.other.is_woken(),
+        }
     }
 }
 
@@ -62,38 +57,26 @@ pub enum Kept<'a, R: Wait + Clone + Drop> {
 /// An operation under a name.
 #[derive(Drop)]
 pub struct Operation<'a, R: Wait + Clone + Drop> {
-    kept: Kept<'a, R>,
-    tasks: Tasks,
+    pub kept: Kept<'a, R>,
+    pub tasks: Tasks,
 }
 
-impl<'a, R: Wait + Clone + Drop> Operation<'a, R> {
-    pub fn new(kept: Kept<'a, R>, tasks: Tasks) -> Operation<'a, R> {
-        Operation { kept, tasks }
+/// What came of a poll that wasn't refused memory.
+fn well<T: Drop>(polled: Poll<std::result::Result<T, OutOfMemory>>) -> Result<Poll<T>> {
+    match polled {
+        Poll::Ready(ended) => Ok(Poll::Ready(ended?)),
+        Poll::Pending => Ok(Poll::Pending),
     }
+}
 
+impl<R: Wait + Clone + Drop> Operation<'_, R> {
     pub fn poll(&mut self) -> Result<Reply<u64>> {
         let task = self.tasks.next();
         Ok(match &mut self.kept {
-            Kept::Send(send) => match task.poll(send) {
-                Poll::Ready(sent) => Reply::SendPolled(Poll::Ready(sent?)),
-                Poll::Pending => Reply::SendPolled(Poll::Pending),
-            },
-            Kept::Recv(recv) => match task.poll(recv) {
-                Poll::Ready(received) => Reply::RecvPolled(Poll::Ready(received?)),
-                Poll::Pending => Reply::RecvPolled(Poll::Pending),
-            },
-            Kept::Closed(closed) => match task.poll(closed) {
-                Poll::Ready(ended) => {
-                    ended?;
-                    Reply::ClosedPolled(Poll::Ready(()))
-                }
-                Poll::Pending => Reply::ClosedPolled(Poll::Pending),
-            },
+            Kept::Send(send) => Reply::SendPolled(well(task.poll(send))?),
+            Kept::Recv(recv) => Reply::RecvPolled(well(task.poll(recv))?),
+            Kept::Closed(closed) => Reply::ClosedPolled(well(task.poll(closed))?),
         })
-    }
-
-    pub fn is_woken(&self) -> bool {
-        self.tasks.is_woken()
     }
 
     /// Among whom it waits.
@@ -122,14 +105,10 @@ impl<'a, R: Wait + Clone + Drop> Operation<'a, R> {
 #[derive(Drop)]
 pub struct Streamed<R: Wait + Clone + Drop> {
     pub receiver: Receiver<u64, R>,
-    tasks: Tasks,
+    pub tasks: Tasks,
 }
 
 impl<R: Wait + Clone + Drop> Streamed<R> {
-    pub fn new(receiver: Receiver<u64, R>, tasks: Tasks) -> Streamed<R> {
-        Streamed { receiver, tasks }
-    }
-
     pub fn poll_next(&mut self) -> Result<Reply<u64>> {
         let receiver = &mut self.receiver;
         let task = self.tasks.next();
@@ -138,9 +117,5 @@ impl<R: Wait + Clone + Drop> Streamed<R> {
             Poll::Ready(None) => Poll::Ready(None),
             Poll::Pending => Poll::Pending,
         }))
-    }
-
-    pub fn is_woken(&self) -> bool {
-        self.tasks.is_woken()
     }
 }

@@ -2,6 +2,7 @@
 //! nothing had been.
 use crate::blocked::Call;
 use crate::{blocked, lists, many, maps, plain, ready, records};
+use Row::{List, Map, MapInChunks, Named, Plain, Ready, ReceiveMany, Recorder, SendMany};
 use anyhow::Result;
 use std::alloc::AllocGlobal;
 use std::random::RandomSource;
@@ -21,8 +22,8 @@ enum Row {
     /// At a capacity, so many messages go from one future to another in one task.
     List(usize, usize),
     /// By two threads.
-    Blocked(Call),
-    Plain(plain::Call),
+    Plain(Call),
+    Named(Call),
     /// By so many workers.
     Map(usize),
     MapInChunks(usize),
@@ -30,34 +31,25 @@ enum Row {
 
 /// All rows, by their names.
 const ROWS: [(&str, Row); 19] = [
-    ("a send of many that waits", Row::SendMany(2, 5, 3)),
-    (
-        "a send of many without a capacity",
-        Row::SendMany(0, 300, 1),
-    ),
-    ("a receive of many", Row::ReceiveMany(2)),
-    ("a receive of many in rounds", Row::ReceiveMany(300)),
-    ("the recorder's calls", Row::Recorder),
-    ("what is ready at once", Row::Ready),
-    ("an empty list by name", Row::List(1, 0)),
-    ("a list by name", Row::List(1, 1000)),
-    ("a long list by name", Row::List(1024, 100_000)),
-    ("a blocked send", Row::Plain(plain::Call::Send)),
-    ("a blocked receive", Row::Plain(plain::Call::Receive)),
-    (
-        "a blocked receive of many",
-        Row::Plain(plain::Call::ReceiveMany),
-    ),
-    ("a blocked send by name", Row::Blocked(Call::Send)),
-    ("a blocked receive by name", Row::Blocked(Call::Receive)),
-    (
-        "a blocked receive of all by name",
-        Row::Blocked(Call::ReceiveAll),
-    ),
-    ("a map by one thread", Row::Map(1)),
-    ("a map by three threads", Row::Map(3)),
-    ("a map in chunks by one thread", Row::MapInChunks(1)),
-    ("a map in chunks by three threads", Row::MapInChunks(3)),
+    ("a send of many that waits", SendMany(2, 5, 3)),
+    ("a send of many without a capacity", SendMany(0, 300, 1)),
+    ("a receive of many", ReceiveMany(2)),
+    ("a receive of many in rounds", ReceiveMany(300)),
+    ("the recorder's calls", Recorder),
+    ("what is ready at once", Ready),
+    ("an empty list by name", List(1, 0)),
+    ("a list by name", List(1, 1000)),
+    ("a long list by name", List(1024, 100_000)),
+    ("a blocked send", Plain(Call::Send)),
+    ("a blocked receive", Plain(Call::Receive)),
+    ("a blocked receive of many", Plain(Call::ReceiveMany)),
+    ("a blocked send by name", Named(Call::Send)),
+    ("a blocked receive by name", Named(Call::Receive)),
+    ("a blocked receive of all by name", Named(Call::ReceiveMany)),
+    ("a map by one thread", Map(1)),
+    ("a map by three threads", Map(3)),
+    ("a map in chunks by one thread", MapInChunks(1)),
+    ("a map in chunks by three threads", MapInChunks(3)),
 ];
 
 impl Row {
@@ -67,15 +59,15 @@ impl Row {
         R: Wait + Threads + Clone + Drop + Send + Sync + Clock + RandomSource + AllocGlobal,
     {
         match self {
-            Row::SendMany(capacity, count, polls) => many::send(rt, capacity, count, polls),
-            Row::ReceiveMany(count) => many::receive(rt, count),
-            Row::Recorder => records::calls(rt),
-            Row::Ready => ready::polls(rt),
-            Row::List(capacity, count) => lists::relay(rt, capacity, count),
-            Row::Blocked(call) => blocked::make_call(rt, call),
-            Row::Plain(call) => plain::make_call(rt, call),
-            Row::Map(workers) => maps::map(rt, false, workers),
-            Row::MapInChunks(workers) => maps::map(rt, true, workers),
+            SendMany(capacity, count, polls) => many::send(rt, capacity, count, polls),
+            ReceiveMany(count) => many::receive(rt, count),
+            Recorder => records::calls(rt),
+            Ready => ready::polls(rt),
+            List(capacity, count) => lists::relay(rt, capacity, count),
+            Named(call) => blocked::make_call(rt, call),
+            Plain(call) => plain::make_call(rt, call),
+            Map(workers) => maps::map(rt, false, workers),
+            MapInChunks(workers) => maps::map(rt, true, workers),
         }
     }
 }

@@ -1,21 +1,13 @@
 //! Calls of handles that block until another thread makes its own. Who is refused memory when it
 //! begins to wait is told so.
+use crate::blocked::{Call, give_time};
 use crate::many::channel;
 use anyhow::{Result, anyhow};
 use async_channel::{NoMemory, OutOfMemory, Receiver, Sender};
 use std::alloc::{AllocGlobal, Global};
 use std::rt::Clock;
 use std::sync::Wait;
-use std::thread::{Threads, join, sleep};
-use std::time::Duration;
-
-/// A call that blocks.
-#[derive(Clone, Copy)]
-pub enum Call {
-    Send,
-    Receive,
-    ReceiveMany,
-}
+use std::thread::{Threads, join};
 
 impl Call {
     /// Makes the call, and again if it was refused memory. The answer is how often it was.
@@ -61,13 +53,13 @@ impl Call {
         s: &Sender<u64, R>,
         r: &Receiver<u64, R>,
     ) -> bool {
-        sleep(rt, Duration::from_millis(20));
+        give_time(rt);
         let _in_vain = self.tell(s, r);
         match self {
             Call::Send => drop(s.try_send(1)),
             _ => drop(r.try_recv()),
         }
-        sleep(rt, Duration::from_millis(20));
+        give_time(rt);
         self.tell(s, r)
     }
 }

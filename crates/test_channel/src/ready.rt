@@ -1,6 +1,7 @@
 //! Polls that are ready at once, which want no memory.
+use crate::many::channel;
 use anyhow::{Result, anyhow};
-use async_channel::{Receiver, Sender, StampMaker, bounded};
+use async_channel::{Receiver, Sender};
 use futures::Stream;
 use futures::task::Poll;
 use futures::test::MockTask;
@@ -27,22 +28,16 @@ fn stream<R: Wait + Clone + Drop>(
     Err(anyhow!("a stream was refused memory twice"))
 }
 
-/// Waits for the last receiver if none is left.
-fn is_over<R: Wait + Clone + Drop>(task: &MockTask, s: &Sender<u64, R>) -> bool {
-    let mut closed = s.closed();
-    matches!(&task.poll(&mut closed), Poll::Ready(Ok(())))
-}
-
 /// Makes the polls. The answer is how many were made again.
 pub fn polls<R>(rt: &R) -> Result<usize>
 where
     R: Wait + Clone + Drop + RandomSource + AllocGlobal,
 {
     let task = MockTask::new(rt)?;
-    let (s, mut r) = bounded(rt, rt.alloc(), 1, &mut StampMaker::new())?;
+    let (s, mut r) = channel(rt, 1)?;
     let again = stream(&task, &s, &mut r)?;
     drop(r);
-    if !is_over(&task, &s) {
+    if !matches!(&task.poll(&mut s.closed()), Poll::Ready(Ok(()))) {
         return Err(anyhow!("a wait for the last receiver wants memory"));
     }
     Ok(again)

@@ -20,6 +20,19 @@ const CALLS: [(usize, Call<u64>, Outcome<u64>); 8] = [
     (1, IsClosed, Flag(true)),
 ];
 
+/// What a call answers. One that is refused memory is made again, and counted.
+macro_rules! made {
+    ($again:expr, $call:expr) => {
+        match $call {
+            Ok(answer) => answer,
+            Err(OutOfMemory) => {
+                *$again = $again.saturating_add(1);
+                $call?
+            }
+        }
+    };
+}
+
 /// Makes the calls by two clerks, and hands these in. A call that is refused memory is made again
 /// and counted.
 fn finish<R: Wait + AllocGlobal>(
@@ -29,14 +42,7 @@ fn finish<R: Wait + AllocGlobal>(
     let recorder = Recorder::bounded(rt.alloc(), 1, &mut StampMaker::new())?;
     let mut clerks = Vec::with_capacity(rt.alloc(), 2)?;
     for _ in 0..2u8 {
-        let clerk = match recorder.clerk(rt) {
-            Ok(clerk) => clerk,
-            Err(OutOfMemory) => {
-                *again = again.saturating_add(1);
-                recorder.clerk(rt)?
-            }
-        };
-        clerks.push(clerk)?;
+        clerks.push(made!(again, recorder.clerk(rt)))?;
     }
     for (place, call, expected) in CALLS {
         let Some(clerk) = clerks.get_mut(place) else {
@@ -45,14 +51,7 @@ fn finish<R: Wait + AllocGlobal>(
         if !recorder.owns(clerk) {
             return Err(anyhow!("a clerk is another recorder's"));
         }
-        let outcome = match recorder.call(rt, clerk, call) {
-            Ok(outcome) => outcome,
-            Err(OutOfMemory) => {
-                *again = again.saturating_add(1);
-                recorder.call(rt, clerk, call)?
-            }
-        };
-        if outcome != expected {
+        if made!(again, recorder.call(rt, clerk, call)) != expected {
             return Err(anyhow!("a call has another outcome"));
         }
     }

@@ -3,20 +3,15 @@ use crate::answer::Answer;
 use crate::line::{Line, Messages};
 use channel_model::{Refusal, Reply, Step};
 
-/// The message of a call that sends one.
-fn message_of(line: Line) -> Option<u64> {
-    match line {
-        Line::One(Step::TrySend(_, message) | Step::ForceSend(_, message))
-        | Line::SendBlocking { message, .. } => Some(message),
-        _ => None,
-    }
-}
-
 /// Whether a call was refused memory, and handed its own message back.
 pub fn wants_memory(line: Line, answer: &Answer) -> bool {
-    match answer {
-        Answer::Replied(Reply::Refused(Refusal::OutOfMemory, back)) => *back == message_of(line),
-        _ => false,
+    let Answer::Replied(Reply::Refused(Refusal::OutOfMemory, back)) = answer else {
+        return false;
+    };
+    match line {
+        Line::One(Step::TrySend(_, message) | Step::ForceSend(_, message))
+        | Line::SendBlocking(_, message) => *back == Some(message),
+        _ => back.is_none(),
     }
 }
 
@@ -28,16 +23,6 @@ fn moved(answer: &Answer) -> Option<usize> {
     }
 }
 
-impl Messages {
-    /// Those after the first ones.
-    fn behind(self, count: usize) -> Messages {
-        Messages {
-            first: self.first.saturating_add(count as u64),
-            count: self.count.saturating_sub(count as u64),
-        }
-    }
-}
-
 /// What is left of a batch that moved fewer messages than expected.
 pub fn rest_of(line: Line, answer: &Answer, expected: &Answer) -> Option<Line> {
     let count = moved(answer)?;
@@ -45,24 +30,14 @@ pub fn rest_of(line: Line, answer: &Answer, expected: &Answer) -> Option<Line> {
         return None;
     }
     match line {
-        Line::SendMany {
-            way,
-            sender,
-            messages,
-        } => Some(Line::SendMany {
-            way,
-            sender,
-            messages: messages.behind(count),
-        }),
-        Line::RecvMany {
-            way,
-            receiver,
-            limit,
-        } => Some(Line::RecvMany {
-            way,
-            receiver,
-            limit: limit.saturating_sub(count),
-        }),
+        Line::SendMany(way, sender, messages) => {
+            let first = messages.first.saturating_add(count as u64);
+            let count = messages.count.saturating_sub(count as u64);
+            Some(Line::SendMany(way, sender, Messages { first, count }))
+        }
+        Line::RecvMany(way, receiver, limit) => {
+            Some(Line::RecvMany(way, receiver, limit.saturating_sub(count)))
+        }
         _ => None,
     }
 }

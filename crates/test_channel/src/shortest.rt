@@ -1,10 +1,7 @@
 //! The shortest script that shows a difference.
-ghost use Rattle.channel_model.specs.Capacity.{HasPositiveCapacity};
-
-use crate::pair::{make_all, said_of_all};
-use crate::writer::Script;
+use crate::Sums;
+use crate::pair::{Pair, differs};
 use anyhow::Result;
-use channel_model::Kind;
 use std::alloc::AllocGlobal;
 use std::random::RandomSource;
 use std::sync::Wait;
@@ -13,40 +10,39 @@ use std::sync::Wait;
 const LONGEST: usize = 200;
 
 /// Leaves each line out, from the last one to the first, if something differs without it, too.
-pub fn shortest<R>(rt: &R, script: Script) -> Result<Script>
+pub fn shortest<'s, R>(rt: &R, mut lines: Vec<&'s str>) -> Result<Vec<&'s str>>
 where
     R: Wait + Clone + Drop + RandomSource + AllocGlobal,
 {
-    let kind = script.kind;
-    let mut lines = script.lines;
     if lines.len() > LONGEST {
-        return Ok(Script { kind, lines });
+        return Ok(lines);
     }
     for _ in 0..2 {
-        for place in (0..lines.len()).rev() {
+        for place in (1..lines.len()).rev() {
             let mut fewer = lines.clone()?;
             if place < fewer.len() {
                 fewer.remove(place);
             }
-            if make_all(rt, kind, fewer.as_slice())?.difference.is_some() {
+            if differs(rt, fewer.as_slice(), &mut Sums::default())? {
                 lines = fewer;
             }
         }
     }
-    Ok(Script { kind, lines })
+    Ok(lines)
 }
 
-impl Script {
-    /// Prints the script, each line with its answer, and what differs at its end.
-    pub fn print<R>(self, rt: &R) -> Result<()>
-    where
-        R: Wait + Clone + Drop + RandomSource + AllocGlobal + Print,
-    {
-        match self.kind {
-            Kind::Bounded(capacity) => println!(rt; "    bounded {capacity}")?,
-            Kind::Unbounded => println!(rt; "    unbounded")?,
-        }
-        print!(rt; "{}", said_of_all(rt, self.kind, self.lines.as_slice())?)?;
-        Ok(())
+/// Prints a script as a row, with what differs at its end.
+pub fn print<R>(rt: &R, script: &[&str]) -> Result<()>
+where
+    R: Wait + Clone + Drop + RandomSource + AllocGlobal + Print,
+{
+    let [first, lines @ ..] = script else {
+        return Ok(());
+    };
+    let mut pair = Pair::new(rt, first)?;
+    println!(rt; "    {first}")?;
+    for line in lines {
+        println!(rt; "    {line} => {}", pair.said(line, true)?)?;
     }
+    Ok(())
 }

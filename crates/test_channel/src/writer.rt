@@ -1,21 +1,8 @@
 //! Random scripts, the same for the same seed.
 //!
 //! Names are drawn from a few, live or not: a line that the run refuses is made by nobody.
-ghost use Rattle.channel_model.specs.Capacity.{HasPositiveCapacity};
-
 use crate::draw::Draw;
-use crate::line::{Line, Messages, Way};
-use anyhow::Result;
-use channel_model::{Kind, Side, Step};
-use std::alloc::Global;
-
-/// A channel, and lines.
-#[derive(Drop)]
-pub struct Script {
-    pub kind: Kind,
-    ghost positive: { HasPositiveCapacity kind },
-    pub lines: Vec<Line>,
-}
+use std::alloc::{AllocError, Global};
 
 /// How many names of handles there are in each space, and of operations.
 const HANDLES: u64 = 3;
@@ -28,13 +15,19 @@ const SMALL: u64 = 5;
 const LARGE: u64 = 300;
 
 /// How many messages the largest channel with a bound holds: more than a round moves.
-const PLACES: usize = 200;
+const PLACES: u64 = 200;
 
 /// How many wait in a crowd: more than a round tells.
 const CROWD: u64 = 140;
 
+/// What stands left and right of the name of a call that moves a batch.
+type Way = (&'static str, &'static str);
+
+type Written = Result<(), AllocError>;
+
 #[derive(Drop)]
 struct Writer {
+    text: String,
     draw: Draw,
     /// Whether sends are more frequent now than receives.
     fills: bool,
@@ -43,107 +36,71 @@ struct Writer {
     message: u64,
 }
 
-/// How many messages the channel may hold, often few.
-fn drawn_kind(draw: &mut Draw) -> Kind
-    ensures { HasPositiveCapacity result }
-{
-    match draw.below(8) {
-        0 | 1 => Kind::Unbounded,
-        2 => Kind::Bounded(PLACES),
-        3 => Kind::Bounded(2),
-        4 => Kind::Bounded(3),
-        _ => Kind::Bounded(1),
-    }
-}
-
 /// A script of some lines.
-pub fn script_of(alloc: Global, seed: u64) -> Result<Script> {
+pub fn script_of(alloc: Global, seed: u64) -> Result<String, AllocError> {
     let mut draw = Draw::new(seed);
-    let kind = drawn_kind(&mut draw);
+    let capacity = match draw.below(8) {
+        0 | 1 => None,
+        2 => Some(PLACES),
+        3 => Some(2),
+        4 => Some(3),
+        _ => Some(1),
+    };
     let mut writer = Writer {
+        text: String::new(alloc),
         draw,
         fills: draw.one_in(2),
         closes: draw.one_in(2),
         message: 0,
     };
-    let mut lines = Vec::new(alloc);
-    if let Kind::Bounded(PLACES) = kind
-        && writer.draw.one_in(4)
-    {
-        writer.add_crowd(&mut lines)?;
+    match capacity {
+        Some(capacity) => writeln!(writer.text, "bounded {capacity}")?,
+        None => writeln!(writer.text, "unbounded")?,
+    }
+    if capacity == Some(PLACES) && writer.draw.one_in(4) {
+        writer.add_crowd()?;
     }
     for _ in 0..writer.draw.below(90).saturating_add(10) {
-        writer.add(&mut lines)?;
+        writer.add()?;
     }
-    Ok(Script { kind, lines })
+    Ok(writer.text)
 }
 
 impl Writer {
     /// Lets many sends wait at a full channel, or many receives at an empty one, and moves a batch
     /// that tells them.
-    fn add_crowd(&mut self, lines: &mut Vec<Line>) -> Result<()> {
+    fn add_crowd(&mut self) -> Written {
         let (are_sends, way) = (self.draw.one_in(2), self.way());
-        let messages = Messages {
-            first: self.message.saturating_add(1),
-            count: PLACES as u64,
-        };
-        self.message = self.message.saturating_add(messages.count);
-        let fill = Line::SendMany {
-            way,
-            sender: 0,
-            messages,
-        };
         if are_sends {
-            lines.push(fill)?;
+            self.add_many(true, way, 0, PLACES)?;
         }
         for op in 0..CROWD {
-            lines.push(Line::One(if are_sends {
-                self.new_send(op, 0)
-            } else {
-                Step::StartRecv { op, receiver: 0 }
-            }))?;
-            lines.push(Line::One(Step::Poll(op)))?;
+            self.begin(are_sends, op, 0)?;
+            writeln!(self.text, "poll o{op}")?;
         }
-        lines.push(if are_sends {
-            Line::RecvMany {
-                way,
-                receiver: 0,
-                limit: PLACES,
-            }
-        } else {
-            fill
-        })?;
-        Ok(())
+        self.add_many(!are_sends, way, 0, PLACES)
     }
 
-    /// Adds a line, and mostly a poll of the operation that it begins.
-    fn add(&mut self, lines: &mut Vec<Line>) -> Result<()> {
+    fn add(&mut self) -> Written {
         if self.draw.one_in(12) {
             self.fills = !self.fills;
         }
-        let line = self.line();
-        lines.push(line)?;
-        if let Line::One(
-            Step::StartSend { op, .. } | Step::StartRecv { op, .. } | Step::StartClosed { op, .. },
-        ) = line
-            && !self.draw.one_in(5)
-        {
-            lines.push(Line::One(Step::Poll(op)))?;
-        }
-        Ok(())
-    }
-
-    fn line(&mut self) -> Line {
         match self.draw.below(40) {
-            0..9 => Line::One(Step::Poll(self.operation())),
-            9..12 => Line::One(Step::PollNext(self.handle())),
+            0..9 => {
+                let op = self.draw.below(OPERATIONS);
+                writeln!(self.text, "poll o{op}")
+            }
+            9..12 => {
+                let name = self.handle();
+                writeln!(self.text, "next r{name}")
+            }
             12..19 => self.start(),
             19..27 => self.single(),
             27..30 => self.batch(),
             30..32 => self.give_up(),
-            32..35 => Line::One(self.copy()),
-            35..38 => Line::One(self.drop_handle()),
-            38 => Line::Settle,
+            32..35 => self.copy(),
+            35..38 => self.drop_handle(),
+            38 => writeln!(self.text, "settle"),
             _ => self.close(),
         }
     }
@@ -156,10 +113,6 @@ impl Writer {
         self.draw.below(HANDLES)
     }
 
-    fn operation(&mut self) -> u64 {
-        self.draw.below(OPERATIONS)
-    }
-
     fn new_message(&mut self) -> u64 {
         self.message = self.message.saturating_add(1);
         self.message
@@ -170,47 +123,46 @@ impl Writer {
         self.draw.one_in(4) != self.fills
     }
 
-    fn side(&mut self) -> Side {
-        if self.draw.one_in(2) {
-            Side::Sender(self.handle())
+    /// Begins an operation, and mostly polls it.
+    fn start(&mut self) -> Written {
+        let (op, name) = (self.draw.below(OPERATIONS), self.handle());
+        if self.draw.one_in(7) {
+            writeln!(self.text, "closed o{op} s{name}")?;
         } else {
-            Side::Receiver(self.handle())
+            let is_send = self.sends();
+            self.begin(is_send, op, name)?;
         }
+        if !self.draw.one_in(5) {
+            writeln!(self.text, "poll o{op}")?;
+        }
+        Ok(())
     }
 
-    fn start(&mut self) -> Line {
-        let (op, name) = (self.operation(), self.handle());
-        Line::One(if self.draw.one_in(7) {
-            Step::StartClosed { op, sender: name }
-        } else if self.sends() {
-            self.new_send(op, name)
-        } else {
-            Step::StartRecv { op, receiver: name }
-        })
+    /// Begins a send, or a receive.
+    fn begin(&mut self, is_send: bool, op: u64, name: u64) -> Written {
+        if !is_send {
+            return writeln!(self.text, "recv o{op} r{name}");
+        }
+        let message = self.new_message();
+        writeln!(self.text, "send o{op} s{name} {message}")
     }
 
-    fn new_send(&mut self, op: u64, sender: u64) -> Step<u64> {
-        let msg = self.new_message();
-        Step::StartSend { op, sender, msg }
-    }
-
-    fn single(&mut self) -> Line {
+    fn single(&mut self) -> Written {
         let name = self.handle();
         if self.sends() {
             let message = self.new_message();
-            return match self.draw.below(6) {
-                0 => Line::SendBlocking {
-                    sender: name,
-                    message,
-                },
-                1 => Line::One(Step::ForceSend(name, message)),
-                _ => Line::One(Step::TrySend(name, message)),
+            let verb = match self.draw.below(6) {
+                0 => "send_blocking",
+                1 => "force_send",
+                _ => "try_send",
             };
+            return writeln!(self.text, "{verb} s{name} {message}");
         }
-        match self.draw.below(5) {
-            0 => Line::RecvBlocking(name),
-            _ => Line::One(Step::TryRecv(name)),
-        }
+        let verb = match self.draw.below(5) {
+            0 => "recv_blocking",
+            _ => "try_recv",
+        };
+        writeln!(self.text, "{verb} r{name}")
     }
 
     /// How many messages a batch has, or takes at most.
@@ -219,95 +171,80 @@ impl Writer {
         self.draw.below(most)
     }
 
-    fn messages(&mut self) -> Messages {
-        let (first, count) = (self.message.saturating_add(1), self.size());
-        self.message = self.message.saturating_add(count);
-        Messages { first, count }
-    }
-
-    fn limit(&mut self) -> usize {
-        if self.draw.one_in(6) {
-            return usize::MAX;
-        }
-        self.size() as usize
-    }
-
     fn way(&mut self) -> Way {
         match self.draw.below(3) {
-            0 => Way::Plain,
-            1 => Way::Blocking,
-            _ => Way::Polled,
+            0 => ("try_", ""),
+            1 => ("", "_blocking"),
+            _ => ("", ""),
         }
     }
 
-    fn batch(&mut self) -> Line {
+    fn batch(&mut self) -> Written {
         let (way, name) = (self.way(), self.handle());
         if self.sends() {
-            let messages = self.messages();
-            return Line::SendMany {
-                way,
-                sender: name,
-                messages,
-            };
+            let size = self.size();
+            return self.add_many(true, way, name, size);
         }
-        let limit = self.limit();
+        let limit = match self.draw.below(6) {
+            0 => u64::MAX,
+            _ => self.size(),
+        };
         if self.draw.one_in(4) {
-            return Line::TryIter {
-                receiver: name,
-                limit,
-            };
+            return writeln!(self.text, "try_iter r{name} {limit}");
         }
-        Line::RecvMany {
-            way,
-            receiver: name,
-            limit,
-        }
+        self.add_many(false, way, name, limit)
     }
 
-    fn give_up(&mut self) -> Line {
-        let op = self.operation();
-        if self.draw.one_in(3) {
-            Line::IntoMsg(op)
-        } else {
-            Line::One(Step::DropOp(op))
+    /// Sends so many messages, or receives so many at most.
+    fn add_many(&mut self, is_send: bool, way: Way, name: u64, size: u64) -> Written {
+        let (left, right) = way;
+        if !is_send {
+            return writeln!(self.text, "{left}recv_many{right} r{name} {size}");
         }
+        let first = self.message.saturating_add(1);
+        self.message = self.message.saturating_add(size);
+        writeln!(self.text, "{left}send_many{right} s{name} {first} {size}")
     }
 
-    fn copy(&mut self) -> Step<u64> {
+    fn give_up(&mut self) -> Written {
+        let op = self.draw.below(OPERATIONS);
+        let verb = match self.draw.below(3) {
+            0 => "into_msg",
+            _ => "drop",
+        };
+        writeln!(self.text, "{verb} o{op}")
+    }
+
+    fn copy(&mut self) -> Written {
         let (of, new) = (self.handle(), self.handle());
-        match self.draw.below(10) {
-            0 | 1 => Step::CloneSender { of, new },
-            2 | 3 => Step::CloneReceiver { of, new },
-            4 => Step::DowngradeSender { of, new },
-            5 => Step::DowngradeReceiver { of, new },
-            6 => Step::UpgradeSender { of, new },
-            7 => Step::UpgradeReceiver { of, new },
-            8 => Step::CloneWeakSender { of, new },
-            _ => Step::CloneWeakReceiver { of, new },
-        }
+        let (call, letters) = match self.draw.below(10) {
+            0 | 1 => ("clone s", "s"),
+            2 | 3 => ("clone r", "r"),
+            4 => ("downgrade s", "ws"),
+            5 => ("downgrade r", "wr"),
+            6 => ("upgrade ws", "s"),
+            7 => ("upgrade wr", "r"),
+            8 => ("clone ws", "ws"),
+            _ => ("clone wr", "wr"),
+        };
+        writeln!(self.text, "{call}{of} {letters}{new}")
     }
 
     /// Gives a handle up. If the channel isn't to be closed, the first ones stay.
-    fn drop_handle(&mut self) -> Step<u64> {
-        let name = if self.closes {
-            self.handle()
-        } else {
-            self.handle().saturating_add(1)
+    fn drop_handle(&mut self) -> Written {
+        let name = self.handle().saturating_add(u64::from(!self.closes));
+        let letters = match self.draw.below(6) {
+            0 | 1 => "s",
+            2 | 3 => "r",
+            4 => "ws",
+            _ => "wr",
         };
-        match self.draw.below(6) {
-            0 | 1 => Step::DropSender(name),
-            2 | 3 => Step::DropReceiver(name),
-            4 => Step::DropWeakSender(name),
-            _ => Step::DropWeakReceiver(name),
-        }
+        writeln!(self.text, "drop {letters}{name}")
     }
 
-    fn close(&mut self) -> Line {
-        let side = self.side();
-        if self.closes {
-            Line::One(Step::Close(side))
-        } else {
-            Line::One(Step::Len(side))
-        }
+    fn close(&mut self) -> Written {
+        let letter = if self.draw.one_in(2) { "s" } else { "r" };
+        let (verb, name) = (if self.closes { "close" } else { "len" }, self.handle());
+        writeln!(self.text, "{verb} {letter}{name}")
     }
 }

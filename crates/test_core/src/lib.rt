@@ -1,8 +1,6 @@
-//! Tests of waiting lists, cores, runs and scripts, by public calls alone.
+//! Tests of what contracts of runs and scripts let through, by public calls alone.
 #![tactic(auto)]
 
-#[cfg(test)]
-mod cores;
 #[cfg(test)]
 mod devices;
 #[cfg(test)]
@@ -13,10 +11,6 @@ mod hostile;
 mod kept;
 #[cfg(test)]
 mod large;
-#[cfg(test)]
-mod lists;
-#[cfg(test)]
-mod log;
 #[cfg(test)]
 mod replay;
 #[cfg(test)]

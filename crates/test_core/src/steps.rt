@@ -1,18 +1,29 @@
 //! Steps on a run as one list, and a run that is settled.
-use channel_run::{End, Kind, Reply, Run, Step, TrySendError, Who, run_all};
+use channel_run::{End, Kind, Refusal, Reply, Run, Side, Step, TrySendError, Who, run_all};
 use futures::task::Poll;
 use std::test::Fail;
 
 #[test]
 fn a_list_of_steps(rt: HostRuntime) -> Result<(), Fail> {
-    let steps = [Step::TrySend(0, 1u64), Step::TrySend(0, 2), Step::Poll(0)];
+    // messages without a size
+    let steps = [
+        Step::TrySend(0, ()),
+        Step::TrySend(0, ()),
+        Step::Len(Side::Sender(0)),
+        Step::TryRecv(0),
+        Step::Poll(0),
+    ];
     let steps = Vec::from_array(rt.alloc(), steps)?;
     let Ok(End { replies, run: _run }) = run_all(rt.alloc(), Kind::Bounded(1), steps) else {
         return Err("memory was refused".into());
     };
-    let refused = Reply::Refused(channel_run::Refusal::Unknown, None);
-    let full = Reply::TrySent(Err(TrySendError::Full(2)));
-    let wanted = [Reply::TrySent(Ok(())), full, refused];
+    let wanted = [
+        Reply::TrySent(Ok(())),
+        Reply::TrySent(Err(TrySendError::Full(()))),
+        Reply::Count(1),
+        Reply::Received(Ok(())),
+        Reply::Refused(Refusal::Unknown, None),
+    ];
     assert!(rt; replies.as_slice() == wanted.as_slice());
     Ok(())
 }
