@@ -1,9 +1,9 @@
 //! Threads that are blocked: what ends each call, and what it answers.
-use crate::batch::numbers_from;
 use crate::waiting::{are_waiting, channel};
+use crate::ways::numbers_from;
 use Act::*;
 use Said::*;
-use async_channel::{Group, OutOfMemory, Receiver, RecvError, SendError, Sender, WeakSender};
+use async_channel::{Group, Receiver, Recv, RecvError, Send, SendError, Sender, WeakSender};
 use futures::task::Poll;
 use futures::test::MockTask;
 use std::alloc::{AllocGlobal, Global};
@@ -109,6 +109,19 @@ impl Act {
     }
 }
 
+type Ends<R> = (Sender<u64, R>, Receiver<u64, R>, WeakSender<u64, R>);
+
+/// A channel at which the call blocks: without a bound, or full with the message 1.
+fn start<R: Wait + Clone + Drop + AllocGlobal>(rt: &R, call: Call) -> Result<Ends<R>, Fail> {
+    let is_send = matches!(call.group(), Group::Sends);
+    let (s, r) = channel(rt, is_send.then_some(1))?;
+    if is_send {
+        drop(s.try_send(1));
+    }
+    let weak = s.downgrade()?;
+    Ok((s, r, weak))
+}
+
 /// Blocks a thread in a call, until so many wait.
 fn blocked<R>(
     rt: &R,
@@ -128,11 +141,11 @@ where
     Ok(thread)
 }
 
-/// Two calls that block, one after the other; and what ends the first one, and then the second:
-/// a call, its answer, and that of the call that it ends.
+/// Two calls that block at one channel, one after the other; and what ends the first one, and then
+/// the second: a call, its answer, and that of the call that it ends.
 type Case = ([Call; 2], [(Act, Said, Said); 2]);
 
-const RECEIVES: [Case; 3] = [
+const CASES: [Case; 5] = [
     (
         [Call::Recv, Call::Recv],
         [(TrySend(7), Done, Got(7)), (Close, Done, Closed)],
@@ -145,10 +158,6 @@ const RECEIVES: [Case; 3] = [
         [Call::RecvMany, Call::RecvMany],
         [(TrySend(7), Done, Batch(1)), (Close, Done, Closed)],
     ),
-];
-
-/// These are at a channel that is full with 1.
-const SENDS: [Case; 2] = [
     (
         [Call::Send(2), Call::Send(3)],
         [(TryRecv, Got(1), Done), (Close, Done, Closed)],
@@ -160,17 +169,16 @@ const SENDS: [Case; 2] = [
 ];
 
 /// Blocks two threads, and ends one after the other.
-fn ends_both<R>(rt: &R, s: &Sender<u64, R>, r: &Receiver<u64, R>, case: &Case) -> Result<(), Fail>
+fn ends_both<R>(rt: &R, ([first, second], [one_act, other_act]): &Case) -> Result<(), Fail>
 where
     R: Threads + Wait + Clone + Drop + AllocGlobal + Abort,
     R: std::marker::Send + Sync + 'static,
 {
-    let ([first, second], [one_act, other_act]) = case;
-    let weak = s.downgrade()?;
-    let one = blocked(rt, *first, s, r, &weak, 1)?;
-    let other = blocked(rt, *second, s, r, &weak, 2)?;
+    let (s, r, weak) = start(rt, *first)?;
+    let one = blocked(rt, *first, &s, &r, &weak, 1)?;
+    let other = blocked(rt, *second, &s, &r, &weak, 2)?;
     for (thread, (act, answer, ended)) in [(one, one_act), (other, other_act)] {
-        assert_eq!(rt; act.make(s, r), *answer, "{act:?}");
+        assert_eq!(rt; act.make(&s, &r), *answer, "{act:?}");
         assert_eq!(rt; thread.join(rt), *ended, "{act:?}");
     }
     assert!(rt; are_waiting(&weak, first.group(), (0, 0)));
@@ -179,14 +187,8 @@ where
 
 #[test]
 fn the_longest_blocked_call_ends(rt: HostRuntime) -> Result<(), Fail> {
-    for case in &RECEIVES {
-        let (s, r) = channel(&rt, None)?;
-        ends_both(&rt, &s, &r, case)?;
-    }
-    for case in &SENDS {
-        let (s, r) = channel(&rt, Some(1))?;
-        assert_eq!(rt; s.try_send(1), Ok(Ok(())));
-        ends_both(&rt, &s, &r, case)?;
+    for case in &CASES {
+        ends_both(&rt, case)?;
     }
     Ok(())
 }
@@ -218,11 +220,8 @@ fn who_is_told_in_vain_is_told_again(rt: HostRuntime) -> Result<(), Fail> {
         (Call::Recv, TrySend(1), TryRecv, TrySend(9), Got(9)),
         (Call::Send(1), TryRecv, TrySend(0), Close, Closed),
     ] {
-        let (s, r) = channel(&rt, Some(1))?;
-        if let Group::Sends = call.group() {
-            assert_eq!(rt; s.try_send(0), Ok(Ok(())));
-        }
-        let (weak, own_s, own_r) = (s.downgrade()?, s.try_clone()?, r.try_clone()?);
+        let (s, r, weak) = start(&rt, call)?;
+        let (own_s, own_r) = (s.try_clone()?, r.try_clone()?);
         let thread = thread::spawn(&rt, move || repeats(&rt, call, last, &own_s, &own_r))?;
         for _ in 0..ROUNDS {
             assert!(rt; are_waiting(&weak, call.group(), (1, 0)), "{call:?}");
@@ -237,60 +236,51 @@ fn who_is_told_in_vain_is_told_again(rt: HostRuntime) -> Result<(), Fail> {
     Ok(())
 }
 
-/// What a receive gives.
-type Received = Result<Result<u64, RecvError>, OutOfMemory>;
-
 /// Lets others run for a while. A turn that is given away may take any time on a busy machine.
 fn give_time(rt: &impl Clock) {
     thread::sleep(rt, Duration::from_millis(10));
 }
 
-/// Blocks a thread in a receive behind a task's, which a message tells. It answers what the task
-/// receives, before what the thread does or behind the close.
-fn sleeps<R>(rt: &R, closes: bool) -> Result<(Poll<Received>, Said), Fail>
+/// Whether the task's operation of the call's group is ready once it was polled.
+fn is_ready<R: Wait + Clone + Drop>(
+    task: &MockTask,
+    call: Call,
+    send: &mut Send<'_, u64, R>,
+    recv: &mut Recv<'_, u64, R>,
+) -> bool {
+    match call.group() {
+        Group::Sends => task.poll(send).is_ready(),
+        _ => task.poll(recv).is_ready(),
+    }
+}
+
+/// Blocks a thread in a call behind a task's, which is told. It answers whether the task goes on
+/// before what ends the thread's call, but for a close, and what the thread's call answers.
+fn sleeps<R>(rt: &R, call: Call, tells: Act, ends: Act) -> Result<(bool, Said), Fail>
 where
     R: Threads + Wait + Clone + Drop + RandomSource + AllocGlobal + Abort + Clock,
     R: std::marker::Send + Sync + 'static,
 {
-    let (s, r) = channel(rt, None)?;
-    let (task, weak, mut recv) = (MockTask::new(rt)?, s.downgrade()?, r.recv());
-    assert!(rt; matches!(&task.poll(&mut recv), Poll::Pending));
-    let thread = blocked(rt, Call::Recv, &s, &r, &weak, 2)?;
-    assert_eq!(rt; TrySend(7).make(&s, &r), Done);
+    let (s, r, weak) = start(rt, call)?;
+    let (task, mut send, mut recv) = (MockTask::new(rt)?, s.send(2), r.recv());
+    assert!(rt; !is_ready(&task, call, &mut send, &mut recv));
+    let thread = blocked(rt, call, &s, &r, &weak, 2)?;
+    assert!(rt; tells.make(&s, &r) != Otherwise);
     give_time(rt);
-    if closes {
-        assert_eq!(rt; Close.make(&s, &r), Done);
-        let ended = thread.join(rt);
-        return Ok((task.poll(&mut recv), ended));
+    let goes_on = !matches!(ends, Close) && is_ready(&task, call, &mut send, &mut recv);
+    assert!(rt; ends.make(&s, &r) != Otherwise);
+    Ok((goes_on, thread.join(rt)))
+}
+
+#[test]
+fn a_blocked_call_sleeps_until_it_is_told(rt: HostRuntime) -> Result<(), Fail> {
+    for (call, tells, ends, wanted) in [
+        (Call::Recv, TrySend(7), TrySend(8), (true, Got(8))),
+        (Call::Recv, TrySend(7), Close, (false, Got(7))),
+        (Call::Send(3), TryRecv, TryRecv, (true, Done)),
+    ] {
+        assert_eq!(rt; sleeps(&rt, call, tells, ends)?, wanted, "{call:?}");
     }
-    let polled = task.poll(&mut recv);
-    assert_eq!(rt; TrySend(8).make(&s, &r), Done);
-    Ok((polled, thread.join(rt)))
-}
-
-#[test]
-fn a_blocked_receive_sleeps_until_it_is_told(rt: HostRuntime) -> Result<(), Fail> {
-    assert_eq!(rt; sleeps(&rt, false)?, (Poll::Ready(Ok(Ok(7))), Got(8)));
-    assert_eq!(rt;
-        sleeps(&rt, true)?,
-        (Poll::Ready(Ok(Err(RecvError))), Got(7))
-    );
-    Ok(())
-}
-
-#[test]
-fn a_blocked_send_sleeps_until_it_is_told(rt: HostRuntime) -> Result<(), Fail> {
-    let (s, r) = channel(&rt, Some(1))?;
-    assert_eq!(rt; s.try_send(1), Ok(Ok(())));
-    let (task, weak) = (MockTask::new(&rt)?, s.downgrade()?);
-    let mut send = s.send(2);
-    assert!(rt; matches!(&task.poll(&mut send), Poll::Pending));
-    let thread = blocked(&rt, Call::Send(3), &s, &r, &weak, 2)?;
-    assert_eq!(rt; r.try_recv(), Ok(1));
-    give_time(&rt);
-    assert!(rt; matches!(&task.poll(&mut send), Poll::Ready(Ok(Ok(())))));
-    assert_eq!(rt; r.try_recv(), Ok(2));
-    assert_eq!(rt; thread.join(&rt), Done);
     Ok(())
 }
 
@@ -300,20 +290,11 @@ fn a_told_call_wakes_no_other(rt: HostRuntime) -> Result<(), Fail> {
         (Call::Recv, TrySend(7), Got(7)),
         (Call::Send(2), TryRecv, Done),
     ] {
-        let (s, r) = channel(&rt, Some(1))?;
-        if let Group::Sends = call.group() {
-            assert_eq!(rt; s.try_send(1), Ok(Ok(())));
-        }
-        let (task, weak) = (MockTask::new(&rt)?, s.downgrade()?);
+        let (s, r, weak) = start(&rt, call)?;
         let thread = blocked(&rt, call, &s, &r, &weak, 1)?;
         give_time(&rt);
-        let (mut send, mut recv) = (s.send(3), r.recv());
-        assert!(rt;
-            match call.group() {
-                Group::Sends => task.poll(&mut send).is_pending(),
-                _ => task.poll(&mut recv).is_pending(),
-            }
-        );
+        let (task, mut send, mut recv) = (MockTask::new(&rt)?, s.send(3), r.recv());
+        assert!(rt; !is_ready(&task, call, &mut send, &mut recv));
         assert!(rt; act.make(&s, &r) != Otherwise);
         assert_eq!(rt; thread.join(&rt), ended);
         assert!(rt; !task.is_woken(), "{call:?}");

@@ -1,181 +1,190 @@
 //! What is left of a call when all handles are gone: no message, no copy of the runtime, and of an
 //! operation that is given up no waker.
-use crate::counted::{Copies, Counted, count};
+use crate::waiting::numbers;
+use crate::ways::{Polls, Receives, Sends, receive_some, send_all};
 use Deed::*;
-use async_channel::inspect::who_waits;
-use async_channel::{Group, Receiver, Sender, StampMaker, bounded};
+use async_channel::{Group, Receiver, Sender, StampMaker, bounded, unbounded};
+use futures::Future;
 use futures::task::Poll;
 use futures::test::MockTask;
-use futures::{Future, Stream};
+use ruled_channel::{Unruled, bounded_with};
 use std::alloc::{AllocError, AllocGlobal, Global};
 use std::collections::VecDeque;
 use std::random::RandomSource;
-use std::sync::Wait;
-use std::sync::atomic::AtomicU64;
+use std::sync::atomic::{AtomicBool, AtomicU64, Ordering};
+use std::sync::{Arc, Wait};
 use std::test::Fail;
+
+/// A part of a runtime, whose copies are counted: how many may still be made, and how many live.
+struct Copies<'a> {
+    left: &'a AtomicU64,
+    live: &'a AtomicU64,
+}
+
+impl Clone for Copies<'_> {
+    fn clone(&self) -> Result<Self, AllocError> {
+        let left = self.left.load(Ordering::SeqCst);
+        if left == 0 {
+            return Err(AllocError);
+        }
+        self.left.store(left.wrapping_sub(1), Ordering::SeqCst);
+        self.live.fetch_add(1, Ordering::SeqCst);
+        Ok(Copies {
+            left: self.left,
+            live: self.live,
+        })
+    }
+}
+
+impl Drop for Copies<'_> {
+    fn drop(self) {
+        let Copies { left: _, live } = self;
+        live.fetch_sub(1, Ordering::SeqCst);
+    }
+}
+
+/// A message that counts how many like it live.
+struct Counted<'a>(&'a AtomicU64);
+
+impl Counted<'_> {
+    fn new(live: &AtomicU64) -> Counted<'_> {
+        live.fetch_add(1, Ordering::SeqCst);
+        Counted(live)
+    }
+}
+
+impl Drop for Counted<'_> {
+    fn drop(self) {
+        let Counted(live) = self;
+        live.fetch_sub(1, Ordering::SeqCst);
+    }
+}
 
 /// What is done at a channel of one place.
 #[derive(Clone, Copy, Debug)]
 enum Deed {
-    TrySend,
-    ForceSend,
-    SendBlocking,
-    TrySendMany,
-    SendManyBlocking,
-    Send,
+    Sending(Sends),
+    Receiving(Receives),
     IntoMsg,
     IntoSend,
-    SendMany,
     IntoUnsent,
     Closed,
     IntoClosed,
-    TryRecv,
-    RecvBlocking,
-    TryRecvMany,
-    RecvManyBlocking,
-    TryIter,
-    Recv,
     IntoRecv,
-    RecvMany,
-    Next,
     CloseSender,
     CloseReceiver,
+    UpgradeLate,
     Look,
+    /// Makes handles in each way, while so many copies of the runtime may be made.
+    Copy(u64),
 }
 
-/// What is done where there is no message, and where there is one: an operation waits in one of
-/// the two.
-const AT_EMPTY: [Deed; 13] = [
-    TrySend,
-    SendBlocking,
-    SendManyBlocking,
-    Send,
+/// What is done whether there is a message or not. An operation waits in one of the two.
+const AT_BOTH: [Deed; 20] = [
+    Sending(Sends::TrySend),
+    Sending(Sends::ForceSend),
+    Sending(Sends::TrySendMany),
+    Sending(Sends::Send),
+    Sending(Sends::SendMany),
+    Receiving(Receives::TryRecv),
+    Receiving(Receives::TryRecvMany),
+    Receiving(Receives::TryIter),
+    Receiving(Receives::Recv),
+    Receiving(Receives::RecvMany),
+    Receiving(Receives::Next),
     IntoSend,
-    SendMany,
-    TryRecv,
-    TryIter,
-    Recv,
-    IntoRecv,
-    RecvMany,
-    Next,
-    Look,
-];
-
-const AT_FULL: [Deed; 22] = [
-    TrySend,
-    ForceSend,
-    TrySendMany,
-    Send,
-    IntoMsg,
-    IntoSend,
-    SendMany,
-    IntoUnsent,
     Closed,
     IntoClosed,
-    TryRecv,
-    RecvBlocking,
-    TryRecvMany,
-    RecvManyBlocking,
-    TryIter,
-    Recv,
     IntoRecv,
-    RecvMany,
-    Next,
     CloseSender,
     CloseReceiver,
     Look,
+    Copy(0),
+    Copy(100),
 ];
 
-/// So many messages.
-fn messages<'a>(
-    alloc: Global,
-    live: &'a AtomicU64,
-    count: usize,
-) -> Result<VecDeque<Counted<'a>, Global>, AllocError> {
-    let mut all = VecDeque::new(alloc);
-    for _ in 0..count {
-        all.push_back(Counted::new(live)).map_err(|_| AllocError)?;
-    }
-    Ok(all)
-}
+const AT_EMPTY: [Deed; 3] = [
+    Sending(Sends::SendBlocking),
+    Sending(Sends::SendManyBlocking),
+    UpgradeLate,
+];
 
-/// Two tasks.
+const AT_FULL: [Deed; 4] = [
+    Receiving(Receives::RecvBlocking),
+    Receiving(Receives::RecvManyBlocking),
+    IntoMsg,
+    IntoUnsent,
+];
+
+/// Tasks that poll an operation, and give it up. One that waits is polled by the other task, too.
+/// It lets go of each waker then, which wakes.
 #[derive(Drop)]
 struct Tasks {
     one: MockTask,
     other: MockTask,
+    polls: AtomicU64,
+    is_well: AtomicBool,
+}
+
+impl Polls for Tasks {
+    fn output<F: Future>(&self, mut future: F) -> Option<F::Output> {
+        self.polls.fetch_add(1, Ordering::SeqCst);
+        if let Poll::Ready(output) = self.one.poll(&mut future) {
+            return Some(output);
+        }
+        self.polls.fetch_add(1, Ordering::SeqCst);
+        let output = match self.other.poll(&mut future) {
+            Poll::Ready(output) => Some(output),
+            Poll::Pending => None,
+        };
+        let is_taken_over = self.one.is_woken() && !self.other.is_woken();
+        self.is_well
+            .store(output.is_none() && is_taken_over, Ordering::SeqCst);
+        output
+    }
 }
 
 impl Tasks {
-    /// Whether one task was woken where the other took over, and that one isn't yet.
-    fn is_taken_over(&self) -> bool {
-        self.one.is_woken() && !self.other.is_woken()
+    fn have_let_go(&self) -> bool {
+        let have_let_go = match self.polls.load(Ordering::SeqCst) {
+            0 => true,
+            1 => !self.one.is_woken(),
+            _ => self.one.is_woken() && self.other.is_woken(),
+        };
+        have_let_go && self.is_well.load(Ordering::SeqCst)
     }
-}
-
-/// Polls an operation, and gives it up. One that waits is polled by the other task, too. It lets go
-/// of each waker then, which wakes.
-fn lets_go<F: Future + Drop>(tasks: &Tasks, mut future: F) -> bool
-where
-    F::Output: Drop,
-    requires { F.can_poll future }
-{
-    if !matches!(&tasks.one.poll(&mut future), Poll::Pending) {
-        drop(future);
-        return !tasks.one.is_woken();
-    }
-    let is_pending = matches!(&tasks.other.poll(&mut future), Poll::Pending);
-    let is_taken_over = tasks.is_taken_over();
-    drop(future);
-    is_pending && is_taken_over && tasks.other.is_woken()
-}
-
-/// The same of a stream.
-fn stream_lets_go<T: Drop, R: Wait + Clone + Drop>(
-    tasks: &Tasks,
-    mut stream: Receiver<T, R>,
-) -> bool {
-    if !tasks
-        .one
-        .enter(|cx| matches!(&stream.poll_next(cx), Poll::Pending))
-    {
-        drop(stream);
-        return !tasks.one.is_woken();
-    }
-    let is_pending = tasks
-        .other
-        .enter(|cx| matches!(&stream.poll_next(cx), Poll::Pending));
-    let is_taken_over = tasks.is_taken_over();
-    drop(stream);
-    is_pending && is_taken_over && tasks.other.is_woken()
 }
 
 /// Both sides of a channel, and what a deed needs beside them.
 #[derive(Drop)]
 struct At<'a, 'b, R: Wait + Clone + Drop> {
     alloc: Global,
+    task: MockTask,
     tasks: &'b Tasks,
     live: &'a AtomicU64,
+    left: &'b AtomicU64,
     s: &'b Sender<Counted<'a>, R>,
     r: &'b Receiver<Counted<'a>, R>,
 }
 
 impl<'a, R: Wait + Clone + Drop> At<'a, '_, R> {
-    /// Does it, and answers whether what waited let go of its waker.
+    /// Does it, and answers whether that went well.
     fn act(&self, deed: Deed) -> Result<bool, Fail> {
+        let (s, r, mut into) = (self.s, self.r, Vec::new(self.alloc));
         match deed {
-            TrySend => drop(self.s.try_send(self.message())),
-            ForceSend => drop(self.s.force_send(self.message())),
-            SendBlocking => drop(self.s.send_blocking(self.message())),
-            TrySendMany => drop(self.s.try_send_many(&mut self.messages(2)?)),
-            SendManyBlocking => drop(self.s.send_many_blocking(&mut self.messages(1)?)),
-            CloseSender => return Ok(self.s.close()),
-            CloseReceiver => return Ok(self.r.close()),
-            Look => return self.looks(),
-            TryRecv | RecvBlocking | TryRecvMany | RecvManyBlocking | TryIter => {
-                return self.takes(deed);
+            Sending(way) => {
+                send_all(self.tasks, way, s, self.messages(way)?);
             }
-            deed => return self.polls(deed),
+            Receiving(way) => {
+                receive_some(self.tasks, way, &mut r.try_clone()?, &mut into, 2);
+            }
+            IntoSend => drop(self.tasks.output(s.try_clone()?.into_send(self.message()))),
+            Closed => drop(self.tasks.output(s.closed())),
+            IntoClosed => drop(self.tasks.output(s.try_clone()?.into_closed())),
+            IntoRecv => drop(self.tasks.output(r.try_clone()?.into_recv())),
+            CloseSender => return Ok(s.close()),
+            CloseReceiver => return Ok(r.close()),
+            deed => return self.looks(deed),
         }
         Ok(true)
     }
@@ -184,70 +193,86 @@ impl<'a, R: Wait + Clone + Drop> At<'a, '_, R> {
         Counted::new(self.live)
     }
 
-    fn messages(&self, count: usize) -> Result<VecDeque<Counted<'a>, Global>, Fail> {
-        Ok(messages(self.alloc, self.live, count)?)
-    }
-
-    fn looks(&self) -> Result<bool, Fail> {
-        let (weak_s, weak_r) = (self.s.downgrade()?, self.r.downgrade()?);
-        let waiters = who_waits(&weak_s, Group::Receives);
-        let is_one = weak_s.upgrade()?.is_some() && weak_r.upgrade()?.is_some();
-        Ok(is_one && waiters.waiting == 0 && self.s.len() == self.r.len())
-    }
-
-    fn takes(&self, deed: Deed) -> Result<bool, Fail> {
-        let mut into = Vec::new(self.alloc);
-        match deed {
-            TryRecv => drop(self.r.try_recv()),
-            RecvBlocking => drop(self.r.recv_blocking()),
-            TryRecvMany => drop(self.r.try_recv_many(&mut into, 2)),
-            RecvManyBlocking => drop(self.r.recv_many_blocking(&mut into, 2)),
-            _ => drop(self.r.try_iter().next()),
+    /// As many messages as a call sends.
+    fn messages(&self, way: Sends) -> Result<VecDeque<Counted<'a>, Global>, AllocError> {
+        let mut all = VecDeque::new(self.alloc);
+        all.push_back(self.message()).map_err(|_| AllocError)?;
+        if let Sends::TrySendMany | Sends::SendMany = way {
+            all.push_back(self.message()).map_err(|_| AllocError)?;
         }
-        Ok(true)
+        Ok(all)
     }
 
-    fn polls(&self, deed: Deed) -> Result<bool, Fail> {
-        let (tasks, s, r) = (self.tasks, self.s, self.r);
-        let task = &tasks.one;
-        let mut into = Vec::new(self.alloc);
+    fn looks(&self, deed: Deed) -> Result<bool, Fail> {
+        let (s, r, task) = (self.s, self.r, &self.task);
+        let (weak_s, weak_r) = (s.downgrade()?, r.downgrade()?);
         Ok(match deed {
-            Send => lets_go(tasks, s.send(self.message())),
-            IntoSend => lets_go(tasks, s.try_clone()?.into_send(self.message())),
-            SendMany => lets_go(tasks, s.send_many(self.messages(2)?)),
-            Closed => lets_go(tasks, s.closed()),
-            IntoClosed => lets_go(tasks, s.try_clone()?.into_closed()),
-            Recv => lets_go(tasks, r.recv()),
-            IntoRecv => lets_go(tasks, r.try_clone()?.into_recv()),
-            RecvMany => lets_go(tasks, r.recv_many(&mut into, 2)),
-            Next => stream_lets_go(tasks, r.try_clone()?),
             IntoMsg => {
                 let mut send = s.send(self.message());
                 task.poll(&mut send).is_pending() && send.into_msg().is_some() && task.is_woken()
             }
-            _ => {
-                let mut send = s.send_many(self.messages(2)?);
+            IntoUnsent => {
+                let mut send = s.send_many(self.messages(Sends::SendMany)?);
                 task.poll(&mut send).is_pending()
                     && send.into_unsent().len() == 2
                     && task.is_woken()
             }
+            Copy(left) => self.copies(left)?,
+            UpgradeLate => {
+                s.close() && weak_s.upgrade()?.is_none() && weak_r.upgrade()?.is_none()
+            }
+            _ => numbers(&weak_s, Group::Receives) == (0, 0) && s.len() == r.len(),
         })
+    }
+
+    /// Whether handles are made only where the runtime is copied, and count no longer then.
+    fn copies(&self, left: u64) -> Result<bool, Fail> {
+        let (s, r) = (self.s, self.r);
+        let (weak_s, weak_r) = (s.downgrade()?, r.downgrade()?);
+        self.left.store(left, Ordering::SeqCst);
+        let are_made = [
+            s.try_clone().is_ok(),
+            r.try_clone().is_ok(),
+            s.downgrade().is_ok(),
+            r.downgrade().is_ok(),
+            weak_s.try_clone().is_ok(),
+            weak_r.try_clone().is_ok(),
+            weak_s.upgrade().is_ok(),
+            weak_r.upgrade().is_ok(),
+        ];
+        self.left.store(100, Ordering::SeqCst);
+        let counts = (s.sender_count(), s.receiver_count(), s.is_closed());
+        Ok(are_made == [left > 0; 8] && counts == (1, 1, false))
+    }
+
+    /// Whether nobody waits.
+    fn nobody_waits(&self) -> Result<bool, Fail> {
+        let weak = self.s.downgrade()?;
+        let mut is_nobody = true;
+        for group in [
+            Group::Sends,
+            Group::Receives,
+            Group::Streams,
+            Group::Closeds,
+        ] {
+            is_nobody = is_nobody && numbers(&weak, group) == (0, 0);
+        }
+        Ok(is_nobody)
     }
 }
 
-/// Does one thing at a new channel, with a message in it or none, and counts what is left then.
+/// Does one thing at a new channel, with a message in it or none. It answers whether that went
+/// well, and how many copies of the runtime are left then, and how many messages.
 fn leaves<R>(rt: &R, deed: Deed, is_full: bool) -> Result<(bool, u64, u64), Fail>
 where
     R: Wait + Clone + Drop + RandomSource + AllocGlobal,
 {
     let (left, copies, live) = (AtomicU64::new(100), AtomicU64::new(0), AtomicU64::new(0));
-    let runtime = (
-        rt.clone()?,
-        Copies {
-            left: &left,
-            live: &copies,
-        },
-    );
+    let counted = Copies {
+        left: &left,
+        live: &copies,
+    };
+    let runtime = (rt.clone()?, counted);
     let (s, r) = bounded(&runtime, rt.alloc(), 1, &mut StampMaker::new())?;
     if is_full {
         drop(s.try_send(Counted::new(&live)));
@@ -255,28 +280,66 @@ where
     let tasks = Tasks {
         one: MockTask::new(rt)?,
         other: MockTask::new(rt)?,
+        polls: AtomicU64::new(0),
+        is_well: AtomicBool::new(true),
     };
     let at = At {
         alloc: rt.alloc(),
+        task: MockTask::new(rt)?,
         tasks: &tasks,
         live: &live,
+        left: &left,
         s: &s,
         r: &r,
     };
-    let is_well = at.act(deed)?;
+    let is_well = at.act(deed)? && at.nobody_waits()? && tasks.have_let_go();
     // so that a channel that is kept has a message
     drop(s.try_send(Counted::new(&live)));
     drop((s, r));
-    Ok((is_well, count(&copies), count(&live)))
+    let (copies, live) = (copies.load(Ordering::SeqCst), live.load(Ordering::SeqCst));
+    Ok((is_well, copies, live))
 }
 
 #[test]
 fn nothing_is_left_of_a_call(rt: HostRuntime) -> Result<(), Fail> {
-    for deed in AT_EMPTY {
-        assert_eq!(rt; leaves(&rt, deed, false)?, (true, 0, 0), "{deed:?}");
+    for (deeds, is_full) in [
+        (AT_BOTH.as_slice(), false),
+        (AT_BOTH.as_slice(), true),
+        (AT_EMPTY.as_slice(), false),
+        (AT_FULL.as_slice(), true),
+    ] {
+        for deed in deeds {
+            assert_eq!(rt; leaves(&rt, *deed, is_full)?, (true, 0, 0), "{deed:?}");
+        }
     }
-    for deed in AT_FULL {
-        assert_eq!(rt; leaves(&rt, deed, true)?, (true, 0, 0), "{deed:?}");
+    Ok(())
+}
+
+#[test]
+fn a_refused_channel_leaves_nothing(rt: HostRuntime) -> Result<(), Fail> {
+    // each end has a copy of the runtime
+    for copies in 0..3 {
+        let (left, live) = (AtomicU64::new(copies), AtomicU64::new(0));
+        let counted = Copies {
+            left: &left,
+            live: &live,
+        };
+        let runtime = (rt, counted);
+        let made = unbounded::<u64, _>(&runtime, rt.alloc(), &mut StampMaker::new());
+        assert_eq!(rt; made.is_ok(), copies == 2);
+        drop(made);
+        assert_eq!(rt; live.load(Ordering::SeqCst), 0);
     }
+    Ok(())
+}
+
+#[test]
+fn a_dropped_send_leaves_no_message(rt: HostRuntime) -> Result<(), Fail> {
+    let message = Arc::new(rt.alloc(), 7u32)?;
+    let Ok((channel, pass)) = bounded_with::<Arc<u32>, (), Unruled>(rt.alloc(), 2_000_000) else {
+        return Err(AllocError.into());
+    };
+    drop(channel.send_as::<Unruled, Unruled, _>(&rt, pass, Arc::try_clone(&message)?));
+    assert_eq!(rt; Arc::strong_count(&message), 1);
     Ok(())
 }

@@ -2,25 +2,17 @@
 #![tactic(auto)]
 
 #[cfg(test)]
-mod batch;
-#[cfg(test)]
 mod blocked;
 #[cfg(test)]
 mod books;
 #[cfg(test)]
-mod counted;
-#[cfg(test)]
 mod each_way;
-#[cfg(test)]
-mod held;
 #[cfg(test)]
 mod left;
 #[cfg(test)]
 mod lists;
 #[cfg(test)]
 mod locks;
-#[cfg(test)]
-mod many;
 #[cfg(test)]
 mod maps;
 #[cfg(test)]
@@ -30,13 +22,7 @@ mod party;
 #[cfg(test)]
 mod races;
 #[cfg(test)]
-mod refused;
-#[cfg(test)]
 mod ruled_blocked;
-#[cfg(test)]
-mod ruled_futures;
-#[cfg(test)]
-mod ruled_sizes;
 #[cfg(test)]
 mod seen;
 #[cfg(test)]
@@ -44,4 +30,8 @@ mod sizes;
 #[cfg(test)]
 mod traffic;
 #[cfg(test)]
+mod turns;
+#[cfg(test)]
 mod waiting;
+#[cfg(test)]
+mod ways;

@@ -1,28 +1,23 @@
 //! Maps by several threads: how many workers there are, who gets what, and in which order.
-ghost use Rattle.std.specs.Prelude.{◌*◌, ◌%◌, ◌^◌};
-
 use crate::waiting::TURNS;
-use MapError::{Doubled, Missing, Stranger};
 use async_channel::StampMaker;
 use parallel_map::{Gate, Job, MapError, Open, Piece, gather, map_all, map_in_chunks};
 use std::alloc::{AllocError, Global};
 use std::process::Abort;
-use std::rt::Clock;
 use std::sync::Wait;
 use std::sync::atomic::{AtomicBool, AtomicU64, Ordering};
 use std::test::Fail;
 use std::thread;
 use std::thread::Threads;
-use std::time::Duration;
 
-/// The square of a number, without what is above 64 bits.
-struct Square;
+/// Answers each number as it is.
+struct Same;
 
-impl Job<u64, u64> for Square {
-    ghost answer = { λ number. (number * number) % 2 ^ 64 };
+impl Job<u64, u64> for Same {
+    ghost answer = { λ number. number };
 
     fn run(&self, number: &u64) -> u64 {
-        number.wrapping_mul(*number)
+        *number
     }
 }
 
@@ -30,16 +25,8 @@ impl Job<u64, u64> for Square {
 /// largest size of a chunk.
 type Map = (u64, usize, usize, Option<usize>);
 
-/// Whether the answers are the squares of the inputs.
-fn are_squares(inputs: &[u64], answers: &[u64]) -> bool {
-    let mut right = answers.len() == inputs.len();
-    for (input, answer) in inputs.iter().zip(answers) {
-        right = right && *answer == input.wrapping_mul(*input);
-    }
-    right
-}
-
-/// Maps the numbers below a count at this gate, and answers whether all answers are right.
+/// Maps the numbers below a count at this gate, and answers whether the answers, which are right,
+/// have just their room.
 fn maps<R, G>(rt: &R, alloc: Global, map: Map, gate: &G) -> Result<bool, Fail>
 where
     R: Wait + Threads + Clone + Drop + Send + Sync,
@@ -50,18 +37,17 @@ where
     let (inputs, maker) = (inputs.as_slice(), &mut StampMaker::new());
     let (workers, cap) = (workers.max(1), cap.max(1));
     let answers = match largest {
-        None => map_all(rt, alloc, &Square, gate, inputs, workers, cap, maker)?,
+        None => map_all(rt, alloc, &Same, gate, inputs, workers, cap, maker)?,
         Some(largest) => {
             let largest = largest.max(1);
-            map_in_chunks(
-                rt, alloc, &Square, gate, inputs, workers, cap, largest, maker,
-            )?
+            map_in_chunks(rt, alloc, &Same, gate, inputs, workers, cap, largest, maker)?
         }
     };
-    Ok(are_squares(inputs, answers.as_slice()))
+    Ok(answers.capacity() == inputs.len())
 }
 
-const MAPS: [Map; 10] = [
+const MAPS: [Map; 11] = [
+    (0, 2, 4, None),
     (1, 1, 1, None),
     (10, 3, 2, None),
     (64, 16, 1, None),
@@ -107,7 +93,7 @@ const SPENT: [(u64, usize, Option<MapError>, bool); 3] = [
 fn a_map_takes_two_stamps(rt: HostRuntime) -> Result<(), Fail> {
     for (first, cap, error, is_left) in &SPENT {
         let (cap, mut maker) = ((*cap).max(1), StampMaker::starting_at(*first));
-        let got = map_all(&rt, rt.alloc(), &Square, &Open, &[5, 6], 2, cap, &mut maker);
+        let got = map_all(&rt, rt.alloc(), &Same, &Open, &[5, 6], 2, cap, &mut maker);
         assert_eq!(rt; got.err(), *error);
         assert_eq!(rt; maker.draw().is_some(), *is_left);
     }
@@ -163,8 +149,7 @@ fn one_worker_goes_from_input_to_input(rt: HostRuntime) -> Result<(), Fail> {
         let places = (0..count).collect::<Vec<u64>>(a)?;
         let first = if count == 0 { u64::MAX } else { 0 };
         let (places, maker) = (places.as_slice(), &mut StampMaker::starting_at(first));
-        let answers = map_all(&rt, a, &turns, &turns, places, 1, 1, maker)?;
-        assert_eq!(rt; answers.as_slice(), places);
+        map_all(&rt, a, &turns, &turns, places, 1, 1, maker)?;
         let calls = turns.calls.load(Ordering::SeqCst);
         assert_eq!(rt; calls, count.wrapping_mul(3));
         assert!(rt; !turns.is_wrong.load(Ordering::SeqCst) && maker.draw().is_some());
@@ -175,13 +160,17 @@ fn one_worker_goes_from_input_to_input(rt: HostRuntime) -> Result<(), Fail> {
 /// Workers at the first places go on once so many places were begun.
 #[derive(Drop)]
 struct Meets {
-    /// A worker at a place below this one waits.
+    /// A worker at a place below this one waits, and looks so often.
     below: usize,
+    looks: u32,
     wanted: u64,
     begun: AtomicU64,
     /// The place behind the first that was begun before others.
     next: AtomicU64,
-    late: AtomicBool,
+    is_late: AtomicBool,
+    /// How many workers are between the gate's calls, and how many there were at most.
+    inside: AtomicU64,
+    most: AtomicU64,
 }
 
 impl Gate for Meets {
@@ -190,44 +179,51 @@ impl Gate for Meets {
             let (seen, set) = (Ordering::SeqCst, Ordering::SeqCst);
             drop(self.next.compare_exchange(0, place as u64, seen, set));
         }
+        let inside = self.inside.fetch_add(1, Ordering::SeqCst);
+        self.most
+            .fetch_max(inside.wrapping_add(1), Ordering::SeqCst);
         self.begun.fetch_add(1, Ordering::SeqCst);
         if place >= self.below {
             return;
         }
-        for _ in 0..TURNS {
+        for _ in 0..self.looks {
             if self.begun.load(Ordering::SeqCst) >= self.wanted {
                 return;
             }
             thread::yield_now();
         }
-        self.late.store(true, Ordering::SeqCst);
+        self.is_late.store(true, Ordering::SeqCst);
     }
 
-    fn after(&self, _place: usize) {}
+    fn after(&self, _place: usize) {
+        self.inside.fetch_sub(1, Ordering::SeqCst);
+    }
 }
 
-/// Maps at such a gate, and answers which place was begun behind the first, if no worker waits in
-/// vain.
-fn next_place<R>(
+/// Maps at such a gate, which tells of it.
+fn met<R>(
     rt: &R,
     alloc: Global,
     map: Map,
     below: usize,
     wanted: u64,
-) -> Result<Option<u64>, Fail>
+    looks: u32,
+) -> Result<Meets, Fail>
 where
     R: Wait + Threads + Clone + Drop + Send + Sync,
 {
     let gate = Meets {
         below,
+        looks,
         wanted,
         begun: AtomicU64::new(0),
         next: AtomicU64::new(0),
-        late: AtomicBool::new(false),
+        is_late: AtomicBool::new(false),
+        inside: AtomicU64::new(0),
+        most: AtomicU64::new(0),
     };
-    let are_right = maps(rt, alloc, map, &gate)?;
-    let is_well = are_right && !gate.late.load(Ordering::SeqCst);
-    Ok(is_well.then_some(gate.next.load(Ordering::SeqCst)))
+    maps(rt, alloc, map, &gate)?;
+    Ok(gate)
 }
 
 #[test]
@@ -244,11 +240,9 @@ fn each_chunk_has_its_size(rt: HostRuntime) -> Result<(), Fail> {
     ] {
         let map = (count, 2, 4, largest);
         // The worker at the first place waits for that of the second chunk.
-        assert_eq!(rt;
-            next_place(&rt, rt.alloc(), map, 1, 2)?,
-            Some(size),
-            "{map:?}"
-        );
+        let gate = met(&rt, rt.alloc(), map, 1, 2, TURNS)?;
+        assert!(rt; !gate.is_late.load(Ordering::SeqCst), "{map:?}");
+        assert_eq!(rt; gate.next.load(Ordering::SeqCst), size, "{map:?}");
     }
     Ok(())
 }
@@ -258,152 +252,75 @@ fn workers_run_at_once(rt: HostRuntime) -> Result<(), Fail> {
     // All wait for one another, or the first for all that it doesn't hold.
     for (count, workers, cap, below) in [(2, 2, 2, 2), (100, 100, 1, 100), (64, 2, 4, 1)] {
         let map = (count, workers, cap, None);
-        assert!(rt;
-            next_place(&rt, rt.alloc(), map, below, count)?.is_some(),
-            "{map:?}"
-        );
+        let gate = met(&rt, rt.alloc(), map, below, count, TURNS)?;
+        assert!(rt; !gate.is_late.load(Ordering::SeqCst), "{map:?}");
     }
     Ok(())
 }
 
-/// How often a worker looks for one that can't come, and sleeps for a millisecond.
-const LONELY_LOOKS: u32 = 20;
-
-/// How many workers are between the gate's calls, which wait for one more than there are to be.
-#[derive(Drop)]
-struct Inside<'a, R: Clock> {
-    rt: &'a R,
-    workers: u64,
-    now: AtomicU64,
-    too_many: AtomicBool,
-}
-
-impl<R: Clock> Gate for Inside<'_, R> {
-    fn before(&self, _place: usize) {
-        self.now.fetch_add(1, Ordering::SeqCst);
-        for _ in 0..LONELY_LOOKS {
-            if self.now.load(Ordering::SeqCst) > self.workers {
-                self.too_many.store(true, Ordering::SeqCst);
-                return;
-            }
-            thread::sleep(self.rt, Duration::from_millis(1));
-        }
-    }
-
-    fn after(&self, _place: usize) {
-        self.now.fetch_sub(1, Ordering::SeqCst);
-    }
-}
+/// How often a worker looks for one that can't come.
+const LONELY_LOOKS: u32 = 20_000;
 
 #[test]
 fn no_more_workers_than_the_caller_says(rt: HostRuntime) -> Result<(), Fail> {
     for workers in 1..4u8 {
-        let gate = Inside {
-            rt: &rt,
-            workers: u64::from(workers),
-            now: AtomicU64::new(0),
-            too_many: AtomicBool::new(false),
-        };
         let map = (6, usize::from(workers), 4, None);
-        assert!(rt; maps(&rt, rt.alloc(), map, &gate)?);
-        assert!(rt; !gate.too_many.load(Ordering::SeqCst), "{workers}");
+        let gate = met(&rt, rt.alloc(), map, 6, u64::MAX, LONELY_LOOKS)?;
+        let most = gate.most.load(Ordering::SeqCst);
+        assert_eq!(rt; most, u64::from(workers), "{map:?}");
     }
     Ok(())
 }
 
-#[test]
-fn answers_have_just_their_room(rt: HostRuntime) -> Result<(), Fail> {
-    let (a, maker) = (rt.alloc(), &mut StampMaker::new());
-    for count in [0u64, 1, 1_000] {
-        let inputs = (0..count).collect::<Vec<_>>(a)?;
-        let inputs = inputs.as_slice();
-        let answers = map_all(&rt, a, &Square, &Open, inputs, 2, 4, maker)?;
-        assert_eq!(rt; answers.capacity() as u64, count);
-        let mut pieces = Vec::new(a);
-        for (place, input) in inputs.iter().enumerate() {
-            pieces.push(Piece::make(&Square, place, input))?;
-        }
-        assert_eq!(rt; gather(a, inputs, pieces)?.capacity() as u64, count);
-    }
-    Ok(())
-}
-
-const TEXTS: [(MapError, &str); 6] = [
-    (MapError::OutOfMemory, "out of memory"),
-    (MapError::NoStamps, "no stamp is left"),
-    (MapError::NoThread, "a worker couldn't be started"),
-    (Stranger(3), "a piece for place 3 isn't of its input"),
-    (Doubled(4), "place 4 has two pieces"),
-    (Missing(5), "place 5 has no piece"),
-];
-
-#[test]
-fn errors_have_their_texts(rt: HostRuntime) -> Result<(), Fail> {
-    for (error, text) in TEXTS {
-        let written = format!(in rt.alloc(); "{error}")?;
-        assert_eq!(rt; written.as_str(), text);
-    }
-    Ok(())
-}
-
-/// Inputs, pieces by their places and inputs, and the answers or what is wrong.
-type Pieces = (
-    &'static [u64],
-    &'static [(usize, u64)],
-    Result<&'static [u64], MapError>,
-);
+/// Inputs, and pieces by their places and inputs.
+type Pieces = (&'static [u64], &'static [(usize, u64)]);
 
 const FAR: usize = usize::MAX;
 
-const PIECES: [Pieces; 15] = [
-    (&[], &[], Ok(&[])),
-    (&[], &[(0, 5)], Err(Stranger(0))),
-    (&[5], &[(0, 5)], Ok(&[25])),
-    (&[5], &[], Err(Missing(0))),
-    (&[5], &[(0, 6)], Err(Stranger(0))),
-    (&[5], &[(0, 5), (0, 5)], Err(Doubled(0))),
-    (&[5], &[(0, 5), (FAR, 5)], Err(Stranger(FAR))),
-    (&[5, 6], &[(0, 5), (1, 6)], Ok(&[25, 36])),
-    (&[5, 6, 7], &[(2, 7), (0, 5), (1, 6)], Ok(&[25, 36, 49])),
-    (&[5, 6, 7], &[(0, 5), (1, 6)], Err(Missing(2))),
-    // the first fault is named
-    (&[5, 6, 6], &[(1, 6), (1, 6), (9, 1)], Err(Doubled(1))),
-    (&[5, 6, 6], &[(1, 6), (9, 1), (1, 6)], Err(Stranger(9))),
-    (&[5, 6, 6], &[(1, 6), (1, 5)], Err(Stranger(1))),
-    (&[5, 6, 6], &[(0, 5), (2, 6)], Err(Missing(1))),
-    (&[5, 6, 6], &[(2, 6)], Err(Missing(0))),
+const PIECES: [Pieces; 14] = [
+    (&[], &[]),
+    (&[], &[(0, 5)]),
+    (&[5], &[(0, 5)]),
+    (&[5], &[]),
+    (&[5], &[(0, 6)]),
+    (&[5], &[(0, 5), (0, 5)]),
+    (&[5], &[(0, 5), (FAR, 5)]),
+    (&[5, 6], &[(0, 5), (1, 6)]),
+    (&[5, 6, 7], &[(2, 7), (0, 5), (1, 6)]),
+    (&[5, 6, 7], &[(0, 5), (1, 6)]),
+    (&[5, 6, 6], &[(1, 6), (1, 6), (9, 1)]),
+    (&[5, 6, 6], &[(1, 6), (9, 1), (1, 6)]),
+    (&[5, 6, 6], &[(0, 5), (2, 6)]),
+    (&[5, 6, 6], &[(2, 6)]),
 ];
 
-/// Whether the pieces are gathered so.
-fn are_gathered(alloc: Global, (inputs, pieces, wanted): &Pieces) -> Result<bool, AllocError> {
+/// Whether memory isn't refused. Then what comes is right by its contract. Answers have just their
+/// room.
+fn are_gathered(
+    alloc: Global,
+    inputs: &[u64],
+    pieces: &[(usize, u64)],
+) -> Result<bool, AllocError> {
     let mut made = Vec::new(alloc);
-    for (place, input) in *pieces {
-        made.push(Piece::make(&Square, *place, input))?;
+    for (place, input) in pieces {
+        made.push(Piece::make(&Same, *place, input))?;
     }
-    Ok(match (gather(alloc, inputs, made), wanted) {
-        (Ok(answers), Ok(wanted)) => answers.as_slice() == *wanted,
-        (Err(error), Err(wanted)) => error == *wanted,
-        _ => false,
+    Ok(match gather(alloc, inputs, made) {
+        Ok(answers) => answers.capacity() == inputs.len(),
+        Err(error) => error != MapError::OutOfMemory,
     })
 }
 
 #[test]
 fn pieces_are_gathered(rt: HostRuntime) -> Result<(), Fail> {
-    for row in &PIECES {
-        assert!(rt; are_gathered(rt.alloc(), row)?, "{row:?}");
+    for (inputs, pieces) in &PIECES {
+        assert!(rt; are_gathered(rt.alloc(), inputs, pieces)?, "{pieces:?}");
     }
-    Ok(())
-}
-
-#[test]
-fn a_hundred_thousand_pieces(rt: HostRuntime) -> Result<(), Fail> {
-    let a = rt.alloc();
-    let inputs = (0..100_000u64).collect::<Vec<_>>(a)?;
-    let mut pieces = Vec::new(a);
+    let inputs = (0..100_000u64).collect::<Vec<_>>(rt.alloc())?;
+    let mut pieces = Vec::new(rt.alloc());
     for (place, input) in inputs.iter().enumerate().rev() {
-        pieces.push(Piece::make(&Square, place, input))?;
+        pieces.push((place, *input))?;
     }
-    let answers = gather(a, inputs.as_slice(), pieces)?;
-    assert!(rt; are_squares(inputs.as_slice(), answers.as_slice()));
+    assert!(rt; are_gathered(rt.alloc(), inputs.as_slice(), pieces.as_slice())?);
     Ok(())
 }

@@ -2,7 +2,7 @@
 ghost use Rattle.std.specs.Prelude.{IfOk};
 ghost use Rattle.ruled_channel.specs.Passes.{IsPassOf};
 
-use ruled_channel::{RuledChannel, Split, Unruled};
+use ruled_channel::{Group, RuledChannel, Split, Unruled};
 use std::sync::Wait;
 
 pub type Channel = RuledChannel<u32, (), Unruled>;
@@ -54,13 +54,6 @@ impl<'c> Party<'c> {
         sent == Ok(Ok(()))
     }
 
-    /// Whether a message went in beside all others.
-    pub fn force<R: Wait>(&mut self, rt: &R, message: u32) -> bool {
-        let channel = self.channel;
-        let forced = channel.force_send_as::<Unruled, Unruled, R>(rt, &mut self.pass, message);
-        forced == Ok(Ok(None))
-    }
-
     /// The next message, or none if the channel is closed and empty.
     pub fn receive<R: Wait>(&mut self, rt: &R) -> Option<u32> {
         let channel = self.channel;
@@ -75,6 +68,17 @@ impl<'c> Party<'c> {
         let channel = self.channel;
         let received = channel.try_recv_as::<Unruled, Unruled, Unruled, R>(rt, &mut self.pass);
         received.ok()
+    }
+
+    /// How many wait in the group, and how many of them are told.
+    pub fn waiting<R: Wait>(&mut self, rt: &R, group: Group) -> (usize, usize) {
+        let seen = self.channel.who_waits(rt, &mut self.pass, group);
+        (seen.waiting, seen.told)
+    }
+
+    pub fn drop_receiver<R: Wait>(&mut self, rt: &R) {
+        self.channel
+            .drop_receiver_as::<Unruled, R>(rt, &mut self.pass);
     }
 
     /// Whether it was open.

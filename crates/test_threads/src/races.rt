@@ -3,11 +3,11 @@
 //! A call that takes the lock twice leaves a moment between, in which the other thread may come. A
 //! round sees it only then, so a test makes many rounds. A right call passes each of them, however
 //! the threads run.
-use crate::batch::numbers_from;
 use crate::meeting::Meeting;
 use crate::waiting::{TURNS, channel};
-use async_channel::{Receiver, Sender, TryRecvError, WeakReceiver, WeakSender};
-use futures::Stream;
+use crate::ways::Receives::*;
+use crate::ways::{Receives, Sends, numbers_from, receive_some, send_all};
+use async_channel::{Receiver, Sender, WeakReceiver, WeakSender};
 use futures::task::Poll;
 use futures::test::MockTask;
 use std::alloc::{AllocGlobal, Global};
@@ -37,21 +37,12 @@ enum Deed {
     GiveUp,
     /// Sends the message 1, and gives all up.
     SendAndGiveUp,
-    /// Sends by its sender or an upgraded one.
-    Send,
-    /// Sends, whatever the channel holds.
-    Force,
+    /// Sends a message, if there is room.
+    Send(Sends),
     /// Takes the message 1, if the other one doesn't.
-    Take,
-    TakeMany,
-    TakeNext,
-    TakeByPoll,
-    TakeManyByPoll,
-    TakeFromStream,
-    /// Sends, if there is room.
-    SendMany,
-    SendByPoll,
-    SendManyByPoll,
+    Take(Receives),
+    /// Looks for the message 1 until it comes, before the end.
+    Await(Receives),
     Close,
     /// Upgrades a weak handle until the channel is closed. What it got keeps the channel open.
     Upgrade,
@@ -59,14 +50,6 @@ enum Deed {
     Count,
     /// Looks whether it is terminated before it is closed.
     IsTerminated,
-    /// Receives the message 1 before the end.
-    TryRecv,
-    TryRecvMany,
-    RecvBlocking,
-    RecvManyBlocking,
-    Recv,
-    RecvMany,
-    Next,
 }
 
 /// Whether what is upgraded keeps the channel open, if it doesn't. Without it, it is well that there
@@ -105,22 +88,28 @@ impl<R: Wait + Clone + Drop> Own<R> {
         }
     }
 
-    fn sends(&self, message: u64) -> bool {
-        match &self.sender {
-            Some(s) => s.try_send(message) == Ok(Ok(())),
-            None => false,
+    fn sends(&self, way: Sends, message: u64, alloc: Global, task: &MockTask) -> bool {
+        match (&self.sender, numbers_from(alloc, message, 1)) {
+            (Some(s), Ok(all)) => send_all(task, way, s, all),
+            _ => false,
         }
     }
 
-    /// Whether a message goes in by a batch or a poll.
-    fn sends_one(&self, deed: Deed, alloc: Global, task: &MockTask) -> bool {
-        let (Some(s), Ok(mut from)) = (&self.sender, numbers_from(alloc, 7, 1)) else {
-            return false;
+    /// Whether the message 1 comes before the end, if one of them does.
+    fn receives(&mut self, way: Receives, alloc: Global, task: &MockTask) -> Option<bool> {
+        let (Some(r), mut into) = (&mut self.receiver, Vec::new(alloc)) else {
+            return Some(false);
         };
-        match deed {
-            Deed::SendMany => s.try_send_many(&mut from) == Ok(Ok(1)),
-            Deed::SendByPoll => task.poll(&mut s.send(7)) == Poll::Ready(Ok(Ok(()))),
-            _ => matches!(&task.poll(&mut s.send_many(from)), Poll::Ready(Ok(Ok(())))),
+        match receive_some(task, way, r, &mut into, 2) {
+            Poll::Ready(has_come) => Some(has_come && into.as_slice() == [1].as_slice()),
+            Poll::Pending => None,
+        }
+    }
+
+    fn ends(&self) -> Option<bool> {
+        match &self.receiver {
+            Some(r) if !r.is_terminated() => r.is_closed().then_some(true),
+            _ => Some(false),
         }
     }
 
@@ -144,107 +133,44 @@ impl<R: Wait + Clone + Drop> Own<R> {
     fn act(&mut self, deed: Deed, alloc: Global, task: &MockTask) -> Option<bool> {
         match deed {
             Deed::GiveUp | Deed::SendAndGiveUp => {
-                let is_well = matches!(deed, Deed::GiveUp) || self.sends(1);
+                let is_well = matches!(deed, Deed::GiveUp)
+                    || self.sends(Sends::TrySend, 1, alloc, task);
                 self.sender = None;
                 self.receiver = None;
                 Some(is_well)
             }
-            Deed::Send => Some(self.sends(7)),
-            Deed::Force => Some(match &self.sender {
-                Some(s) => matches!(&s.force_send(7), Ok(Ok(_))),
-                None => false,
-            }),
-            Deed::SendMany | Deed::SendByPoll | Deed::SendManyByPoll => {
-                Some(self.sends_one(deed, alloc, task))
-            }
+            Deed::Send(way) => Some(self.sends(way, 7, alloc, task)),
+            Deed::Take(way) => Some(self.receives(way, alloc, task) == Some(true)),
+            Deed::Await(way) => self.receives(way, alloc, task),
             Deed::Close => Some(self.closes()),
             Deed::Upgrade => self.upgrades(),
             Deed::Count => self.counts(),
-            _ => match &mut self.receiver {
-                Some(r) => learns(deed, alloc, task, r),
-                None => Some(false),
-            },
+            Deed::IsTerminated => self.ends(),
         }
     }
 }
 
-/// Whether the receiver learns of the message 1 before the end, if it learns of one of them.
-fn learns<R: Wait + Clone + Drop>(
-    deed: Deed,
-    alloc: Global,
-    task: &MockTask,
-    r: &mut Receiver<u64, R>,
-) -> Option<bool> {
-    let mut into = Vec::new(alloc);
-    match deed {
-        Deed::Take => Some(r.try_recv() == Ok(1)),
-        Deed::TakeMany => Some(r.try_recv_many(&mut into, 2) == Ok(Ok(1))),
-        Deed::TakeNext => Some(r.try_iter().next() == Some(1)),
-        Deed::TakeByPoll => Some(task.poll(&mut r.recv()) == Poll::Ready(Ok(Ok(1)))),
-        Deed::TakeManyByPoll => {
-            Some(task.poll(&mut r.recv_many(&mut into, 2)) == Poll::Ready(Ok(1)))
-        }
-        Deed::TakeFromStream => {
-            Some(task.enter(|cx| r.poll_next(cx)) == Poll::Ready(Some(Ok(1))))
-        }
-        Deed::RecvBlocking => Some(r.recv_blocking() == Ok(Ok(1))),
-        Deed::RecvManyBlocking => Some(r.recv_many_blocking(&mut into, 2) == Ok(Ok(1))),
-        Deed::IsTerminated if r.is_terminated() => Some(false),
-        Deed::IsTerminated => r.is_closed().then_some(true),
-        Deed::TryRecv => match r.try_recv() {
-            Err(TryRecvError::Empty) => None,
-            received => Some(received == Ok(1)),
-        },
-        Deed::TryRecvMany => match r.try_recv_many(&mut into, 2) {
-            Ok(Err(TryRecvError::Empty)) => None,
-            received => Some(received == Ok(Ok(1))),
-        },
-        Deed::Recv => match task.poll(&mut r.recv()) {
-            Poll::Ready(received) => Some(received == Ok(Ok(1))),
-            Poll::Pending => None,
-        },
-        Deed::RecvMany => match task.poll(&mut r.recv_many(&mut into, 2)) {
-            Poll::Ready(received) => Some(received == Ok(1)),
-            Poll::Pending => None,
-        },
-        _ => match task.enter(|cx| r.poll_next(cx)) {
-            Poll::Ready(item) => Some(item == Some(Ok(1))),
-            Poll::Pending => None,
-        },
-    }
-}
-
-/// Whether the first thread has the sender; what it does in each round, and the other one; and how
-/// many of both it goes well for.
-type Race = (bool, Deed, Deed, u64);
-
-/// What both threads have at a new channel.
+/// What both threads have at a new channel, if the second does this.
 fn own_of_both<R: Wait + Clone + Drop + AllocGlobal>(
     rt: &R,
-    (by_sender, _, deed, _): Race,
+    has_sender: bool,
+    deed: Deed,
 ) -> Result<(Own<R>, Own<R>), Fail> {
     let (s, r) = channel(rt, Some(1))?;
     let copy = match deed {
-        Deed::Send | Deed::Force | Deed::SendMany | Deed::SendByPoll | Deed::SendManyByPoll => {
-            Some(s.try_clone()?)
-        }
+        Deed::Send(_) => Some(s.try_clone()?),
         _ => None,
     };
     let other = match deed {
-        Deed::Take
-        | Deed::TakeMany
-        | Deed::TakeNext
-        | Deed::TakeByPoll
-        | Deed::TakeManyByPoll
-        | Deed::TakeFromStream => {
-            drop(s.try_send(1));
-            Some(r.try_clone()?)
-        }
+        Deed::Take(_) => Some(r.try_clone()?),
         _ => None,
     };
+    if other.is_some() {
+        drop(s.try_send(1));
+    }
     let (weak_sender, weak_receiver) = (s.downgrade()?, r.downgrade()?);
     let (mut first, mut second) = (Own::nothing(), Own::nothing());
-    if by_sender {
+    if has_sender {
         first.sender = Some(s);
         second.receiver = Some(r);
         second.weak_sender = Some(weak_sender);
@@ -298,17 +224,17 @@ fn is_well<R: Wait + Clone + Drop + AllocGlobal>(
 }
 
 /// How many deeds of both threads go well, each round at a channel of its own.
-fn count_of_both<R>(rt: &R, race: Race) -> Result<u64, Fail>
+fn count_of_both<R>(rt: &R, has_sender: bool, [deed, others]: [Deed; 2]) -> Result<u64, Fail>
 where
     R: Wait + Threads + Clone + Drop + RandomSource + AllocGlobal + Send + Sync,
 {
     let (mut first, mut second) = (Vec::new(rt.alloc()), Vec::new(rt.alloc()));
     for _ in 0..ROUNDS {
-        let (one, other) = own_of_both(rt, race)?;
+        let (one, other) = own_of_both(rt, has_sender, others)?;
         first.push(one)?;
         second.push(other)?;
     }
-    let (meeting, (_, deed, others, _)) = (Meeting::new(), race);
+    let meeting = Meeting::new();
     let (one, other) = (first.as_mut_slice(), second.as_mut_slice());
     let (one, other) = join(
         rt,
@@ -318,121 +244,75 @@ where
     Ok(one.wrapping_add(other))
 }
 
-fn go_well<R>(rt: &R, races: &[Race]) -> Result<(), Fail>
+/// Makes a race of these deeds, with the sender for the first thread or the receiver.
+fn race<R>(rt: &R, has_sender: bool, deeds: [Deed; 2], goes_well: u64) -> Result<(), Fail>
 where
     R: Wait + Threads + Clone + Drop + RandomSource + AllocGlobal + Abort + Send + Sync,
 {
-    for race in races {
-        assert_eq!(rt;
-            count_of_both(rt, *race)?,
-            race.3.wrapping_mul(ROUNDS),
-            "{race:?}"
-        );
-    }
+    assert_eq!(rt;
+        count_of_both(rt, has_sender, deeds)?,
+        goes_well.wrapping_mul(ROUNDS),
+        "{has_sender}, {deeds:?}"
+    );
     Ok(())
 }
 
 #[test]
 fn the_last_handle_closes_and_goes_at_once(rt: HostRuntime) -> Result<(), Fail> {
-    go_well(
-        &rt,
-        &[
-            (true, Deed::GiveUp, Deed::Upgrade, 2),
-            (false, Deed::GiveUp, Deed::Upgrade, 2),
-            (true, Deed::GiveUp, Deed::Count, 2),
-            (false, Deed::GiveUp, Deed::Count, 2),
-        ],
-    )
+    for has_sender in [true, false] {
+        for deed in [Deed::Upgrade, Deed::Count] {
+            race(&rt, has_sender, [Deed::GiveUp, deed], 2)?;
+        }
+    }
+    Ok(())
 }
 
 #[test]
 fn one_of_two_closes_or_has_the_last_place(rt: HostRuntime) -> Result<(), Fail> {
-    go_well(
-        &rt,
-        &[
-            (true, Deed::Close, Deed::Close, 1),
-            (true, Deed::Send, Deed::Send, 1),
-        ],
-    )
+    race(&rt, true, [Deed::Close; 2], 1)?;
+    for way in [
+        Sends::TrySend,
+        Sends::TrySendMany,
+        Sends::Send,
+        Sends::SendMany,
+    ] {
+        race(&rt, true, [Deed::Send(way); 2], 1)?;
+    }
+    // what is full loses its oldest message
+    race(&rt, true, [Deed::Send(Sends::ForceSend); 2], 2)
+}
+
+#[test]
+fn one_of_two_has_the_last_message(rt: HostRuntime) -> Result<(), Fail> {
+    for way in [TryRecv, TryRecvMany, TryIter, Recv, RecvMany, Next] {
+        race(&rt, false, [Deed::Take(way); 2], 1)?;
+    }
+    Ok(())
+}
+
+/// Makes races for the message 1, which comes before the end.
+fn await_message<R>(rt: &R, ways: &[Receives]) -> Result<(), Fail>
+where
+    R: Wait + Threads + Clone + Drop + RandomSource + AllocGlobal + Abort + Send + Sync,
+{
+    for way in ways {
+        race(rt, true, [Deed::SendAndGiveUp, Deed::Await(*way)], 2)?;
+    }
+    Ok(())
 }
 
 #[test]
 fn the_end_of_calls_comes_behind_the_last_message(rt: HostRuntime) -> Result<(), Fail> {
-    go_well(
-        &rt,
-        &[
-            (true, Deed::SendAndGiveUp, Deed::IsTerminated, 2),
-            (true, Deed::SendAndGiveUp, Deed::TryRecv, 2),
-            (true, Deed::SendAndGiveUp, Deed::TryRecvMany, 2),
-        ],
-    )
+    race(&rt, true, [Deed::SendAndGiveUp, Deed::IsTerminated], 2)?;
+    await_message(&rt, &[TryRecv, TryRecvMany])
 }
 
 #[test]
 fn the_end_of_blocking_calls_comes_behind_the_last_message(rt: HostRuntime) -> Result<(), Fail> {
-    go_well(
-        &rt,
-        &[
-            (true, Deed::SendAndGiveUp, Deed::RecvBlocking, 2),
-            (true, Deed::SendAndGiveUp, Deed::RecvManyBlocking, 2),
-        ],
-    )
-}
-
-#[test]
-fn a_receive_that_comes_too_late_waits_for_nothing(rt: HostRuntime) -> Result<(), Fail> {
-    go_well(
-        &rt,
-        &[
-            (false, Deed::Take, Deed::Take, 1),
-            (false, Deed::TakeMany, Deed::TakeMany, 1),
-            (false, Deed::TakeNext, Deed::TakeNext, 1),
-        ],
-    )
-}
-
-#[test]
-fn a_polled_receive_that_comes_too_late_is_pending(rt: HostRuntime) -> Result<(), Fail> {
-    go_well(
-        &rt,
-        &[
-            (false, Deed::TakeByPoll, Deed::TakeByPoll, 1),
-            (false, Deed::TakeManyByPoll, Deed::TakeManyByPoll, 1),
-            (false, Deed::TakeFromStream, Deed::TakeFromStream, 1),
-        ],
-    )
-}
-
-#[test]
-fn a_send_that_comes_too_late_waits_for_nothing(rt: HostRuntime) -> Result<(), Fail> {
-    go_well(
-        &rt,
-        &[
-            (true, Deed::Force, Deed::Force, 2),
-            (true, Deed::SendMany, Deed::SendMany, 1),
-        ],
-    )
-}
-
-#[test]
-fn a_polled_send_that_comes_too_late_is_pending(rt: HostRuntime) -> Result<(), Fail> {
-    go_well(
-        &rt,
-        &[
-            (true, Deed::SendByPoll, Deed::SendByPoll, 1),
-            (true, Deed::SendManyByPoll, Deed::SendManyByPoll, 1),
-        ],
-    )
+    await_message(&rt, &[RecvBlocking, RecvManyBlocking])
 }
 
 #[test]
 fn the_end_of_polls_comes_behind_the_last_message(rt: HostRuntime) -> Result<(), Fail> {
-    go_well(
-        &rt,
-        &[
-            (true, Deed::SendAndGiveUp, Deed::Recv, 2),
-            (true, Deed::SendAndGiveUp, Deed::RecvMany, 2),
-            (true, Deed::SendAndGiveUp, Deed::Next, 2),
-        ],
-    )
+    await_message(&rt, &[Recv, RecvMany, Next])
 }

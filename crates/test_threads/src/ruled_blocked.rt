@@ -17,32 +17,20 @@ const BEFORE: u64 = 50;
 
 const AFTER: u64 = 400;
 
-/// What a blocked call is, and what ends it.
-#[derive(Clone, Copy)]
-struct Case {
+/// Blocks in a send or in a receive. It answers whether that is done, and how much processor time
+/// it took.
+fn block<R: Wait + CpuClock>(
+    rt: &R,
+    mut party: Party<'_>,
     is_send: bool,
-    is_closed: bool,
-}
-
-/// What came of a blocked call.
-#[derive(Clone, Copy)]
-struct Blocked {
-    is_done: bool,
-    used: Duration,
-}
-
-/// Blocks in a send or in a receive.
-fn block<R: Wait + CpuClock>(rt: &R, mut party: Party<'_>, is_send: bool) -> io::Result<Blocked> {
+) -> io::Result<(bool, Duration)> {
     let before = rt.thread_cpu_time()?;
     let is_done = if is_send {
         party.send(rt, 2)
     } else {
         party.receive(rt).is_some()
     };
-    Ok(Blocked {
-        is_done,
-        used: rt.thread_cpu_time()?.saturating_sub(before),
-    })
+    Ok((is_done, rt.thread_cpu_time()?.saturating_sub(before)))
 }
 
 /// Lets time pass without a sleep. It answers how much processor time that took, which isn't much on a
@@ -63,36 +51,39 @@ fn has_slept(used: Duration, spun: Duration) -> bool {
     used.as_nanos() < spun.as_nanos() / 4
 }
 
-/// Lets the other call go on for a moment, which it is likely to miss, and then for good. It answers
-/// how much processor time it took to spin meanwhile.
-fn release<R>(rt: &R, mut party: Party<'_>, case: Case) -> io::Result<Duration>
-where
-    R: Wait + Clock + CpuClock,
-{
+/// Lets the other call go on for good, by a close or after a moment that it is likely to miss. It
+/// answers how much processor time it took to spin meanwhile.
+fn release<R: Wait + Clock + CpuClock>(
+    rt: &R,
+    mut party: Party<'_>,
+    is_send: bool,
+    is_closed: bool,
+) -> io::Result<Duration> {
     sleep(rt, Duration::from_millis(BEFORE));
-    if case.is_closed {
+    if is_closed {
         let spun = spin(rt);
         party.close(rt);
         return spun;
     }
-    if case.is_send {
+    if is_send {
         party.try_receive(rt);
         party.try_send(rt, 1);
-        let spun = spin(rt);
+    } else {
+        party.try_send(rt, 1);
         party.try_receive(rt);
-        return spun;
     }
-    party.try_send(rt, 1);
-    party.try_receive(rt);
     let spun = spin(rt);
-    party.try_send(rt, 2);
+    if is_send {
+        party.try_receive(rt);
+    } else {
+        party.try_send(rt, 2);
+    }
     spun
 }
 
 #[test]
 fn blocked_calls_sleep_until_they_can_go_on(rt: HostRuntime) -> Result<(), Fail> {
     for (is_send, is_closed) in [(false, false), (false, true), (true, false), (true, true)] {
-        let case = Case { is_send, is_closed };
         let Ok((channel, pass)) = bounded_with::<u32, (), Unruled>(rt.alloc(), 1) else {
             return Err(AllocError.into());
         };
@@ -102,11 +93,10 @@ fn blocked_calls_sleep_until_they_can_go_on(rt: HostRuntime) -> Result<(), Fail>
         let (blocked, spun) = join(
             &rt,
             || block(&rt, other, is_send),
-            || release(&rt, party, case),
+            || release(&rt, party, is_send, is_closed),
         );
-        let blocked = blocked?;
-        assert!(rt; blocked.is_done != is_closed);
-        assert!(rt; has_slept(blocked.used, spun?));
+        let (is_done, used) = blocked?;
+        assert!(rt; is_done != is_closed && has_slept(used, spun?));
     }
     Ok(())
 }

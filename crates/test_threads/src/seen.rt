@@ -1,7 +1,7 @@
 //! What another thread sees of a call: all of it or nothing, but the rounds of a batch.
-use crate::batch::{Way, receives, sends};
 use crate::meeting::{Deed, Sight, are_well};
 use crate::waiting::{channel, numbers};
+use crate::ways::{Receives, Sends, numbers_from, receive_all, send_all};
 use async_channel::{Group, ROUND_LIMIT, Receiver, Sender, WeakReceiver, WeakSender};
 use futures::Stream;
 use futures::task::Poll;
@@ -29,6 +29,15 @@ const ONE_ROUND: (usize, u64) = (100, 500);
 
 /// The same of one that goes in many rounds. Mostly the other thread comes in at the first batch.
 const MANY_ROUNDS: (usize, u64) = (20_000, 2_000);
+
+/// By which calls batches are sent and received.
+type Ways = (Sends, Receives);
+
+const PLAIN: Ways = (Sends::TrySendMany, Receives::TryRecvMany);
+
+const BLOCKING: Ways = (Sends::SendManyBlocking, Receives::RecvManyBlocking);
+
+const POLLED: Ways = (Sends::SendMany, Receives::RecvMany);
 
 /// What both threads know of the batches.
 #[derive(Drop)]
@@ -107,7 +116,7 @@ impl<R: Wait + Clone + Drop> Sight for Rounds<'_, R> {
 struct Moves<'a, R: Wait + Clone + Drop> {
     alloc: Global,
     task: MockTask,
-    way: Way,
+    ways: Ways,
     size: usize,
     count: u64,
     s: Sender<u64, R>,
@@ -118,12 +127,16 @@ struct Moves<'a, R: Wait + Clone + Drop> {
 impl<R: Wait + Clone + Drop> Deed for Moves<'_, R> {
     /// Whether all messages went in and came out.
     fn act(&mut self) -> bool {
+        let (alloc, size, (sending, receiving)) = (self.alloc, self.size, self.ways);
         for _ in 0..self.count {
+            let Ok(all) = numbers_from(alloc, 0, size) else {
+                return false;
+            };
             self.counts.turn.fetch_add(1, Ordering::SeqCst);
-            let sent = sends(self.alloc, &self.task, self.way, &self.s, self.size);
+            let is_sent = send_all(&self.task, sending, &self.s, all);
             self.counts.turn.fetch_add(1, Ordering::SeqCst);
-            let came = receives(self.alloc, &self.task, self.way, &self.r, self.size);
-            if sent != Ok(true) || !came {
+            let came = receive_all(alloc, &self.task, receiving, &mut self.r, (size, size));
+            if !is_sent || came.len() != size {
                 return false;
             }
             if self.counts.are_seen() {
@@ -136,7 +149,7 @@ impl<R: Wait + Clone + Drop> Deed for Moves<'_, R> {
 
 /// Moves batches of this size while another thread looks. It answers whether all was well, and the
 /// rounds were seen if there are many.
-fn are_moved<R>(rt: &R, way: Way, (size, count): (usize, u64)) -> Result<bool, Fail>
+fn are_moved<R>(rt: &R, ways: Ways, (size, count): (usize, u64)) -> Result<bool, Fail>
 where
     R: Wait + Threads + Clone + Drop + RandomSource + AllocGlobal + Send + Sync,
 {
@@ -146,7 +159,7 @@ where
     let mut moves = Moves {
         alloc: rt.alloc(),
         task,
-        way,
+        ways,
         size,
         count,
         s,
@@ -159,7 +172,7 @@ where
     let rounds = Rounds {
         r: other,
         size,
-        by_itself: usize::from(matches!(way, Way::Blocking)),
+        by_itself: usize::from(matches!(ways.0, Sends::SendManyBlocking)),
         counts: &counts,
     };
     Ok(are_well(rt, &mut moves, &rounds) && counts.are_seen())
@@ -167,9 +180,8 @@ where
 
 #[test]
 fn a_batch_of_one_round_comes_and_goes_at_once(rt: HostRuntime) -> Result<(), Fail> {
-    for way in [Way::Plain, Way::Polled] {
-        let are_moved = are_moved(&rt, way, ONE_ROUND)?;
-        assert!(rt; are_moved, "{way:?}");
+    for ways in [PLAIN, POLLED] {
+        assert!(rt; are_moved(&rt, ways, ONE_ROUND)?, "{ways:?}");
     }
     Ok(())
 }
@@ -177,19 +189,19 @@ fn a_batch_of_one_round_comes_and_goes_at_once(rt: HostRuntime) -> Result<(), Fa
 // On a busy machine the other thread seldom comes in. So each way has the time of a test for itself.
 #[test]
 fn others_come_in_between_the_rounds_of_a_batch(rt: HostRuntime) -> Result<(), Fail> {
-    assert!(rt; are_moved(&rt, Way::Plain, MANY_ROUNDS)?);
+    assert!(rt; are_moved(&rt, PLAIN, MANY_ROUNDS)?);
     Ok(())
 }
 
 #[test]
 fn others_come_in_between_the_rounds_of_a_batch_that_blocks(rt: HostRuntime) -> Result<(), Fail> {
-    assert!(rt; are_moved(&rt, Way::Blocking, MANY_ROUNDS)?);
+    assert!(rt; are_moved(&rt, BLOCKING, MANY_ROUNDS)?);
     Ok(())
 }
 
 #[test]
 fn others_come_in_between_the_rounds_of_a_polled_batch(rt: HostRuntime) -> Result<(), Fail> {
-    assert!(rt; are_moved(&rt, Way::Polled, MANY_ROUNDS)?);
+    assert!(rt; are_moved(&rt, POLLED, MANY_ROUNDS)?);
     Ok(())
 }
 

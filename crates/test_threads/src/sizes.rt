@@ -1,10 +1,10 @@
 //! A hundred thousand of each that may wait, and of each handle: no limit shows that the contracts
 //! don't tell.
-use crate::batch::numbers_from;
 use crate::waiting::{channel, numbers};
+use crate::ways::numbers_from;
 use Kept::*;
 use async_channel::{
-    Closed, Group, Receiver, Recv, Send, SendError, Sender, WeakReceiver, WeakSender,
+    Closed, Group, Receiver, Recv, Send, SendError, SendMany, Sender, WeakReceiver, WeakSender,
 };
 use futures::Stream;
 use futures::task::Poll;
@@ -21,6 +21,7 @@ const MANY: usize = 100_000;
 #[derive(Drop)]
 enum Kept<'a, R: Wait + Clone + Drop> {
     Sending(Send<'a, u64, R>),
+    SendingMany(SendMany<'a, u64, R>),
     Receiving(Recv<'a, u64, R>),
     Streaming(Receiver<u64, R>),
     Closing(Closed<'a, u64, R>),
@@ -37,62 +38,60 @@ impl<'a, R: Wait + Clone + Drop> Kept<'a, R> {
         })
     }
 
-    /// Whether a poll is ready, and says that the channel is closed.
-    fn ends(&mut self, task: &MockTask) -> Option<bool> {
-        let is_well = match self {
-            Sending(send) => match task.poll(send) {
-                Poll::Ready(sent) => sent == Ok(Err(SendError(7))),
-                Poll::Pending => return None,
-            },
-            Receiving(recv) => match task.poll(recv) {
-                Poll::Ready(received) => matches!(received, Ok(Err(_))),
-                Poll::Pending => return None,
-            },
-            Streaming(stream) => match task.enter(|cx| stream.poll_next(cx)) {
-                Poll::Ready(item) => item.is_none(),
-                Poll::Pending => return None,
-            },
-            Closing(closed) => match task.poll(closed) {
-                Poll::Ready(ended) => ended == Ok(()),
-                Poll::Pending => return None,
-            },
-        };
-        Some(is_well)
+    /// Whether a poll says that the channel is closed. It is pending if nothing has come.
+    fn ends(&mut self, task: &MockTask) -> Poll<bool> {
+        match self {
+            Sending(send) => task.poll(send).map(|sent| sent == Ok(Err(SendError(7)))),
+            SendingMany(send) => task.poll(send).map(|sent| matches!(sent, Ok(Err(_)))),
+            Receiving(recv) => task
+                .poll(recv)
+                .map(|received| matches!(received, Ok(Err(_)))),
+            Streaming(stream) => task
+                .enter(|cx| stream.poll_next(cx))
+                .map(|item| item.is_none()),
+            Closing(closed) => task.poll(closed).map(|ended| ended == Ok(())),
+        }
     }
 }
 
-/// One of a group that waits.
-fn waiting<'a, R: Wait + Clone + Drop + Abort>(
+/// Lets one of each group wait where there is no message.
+fn each_waits<R: Wait + Clone + Drop + RandomSource + AllocGlobal + Abort>(
     rt: &R,
-    task: &MockTask,
-    group: Group,
-    s: &'a Sender<u64, R>,
+    s: &Sender<u64, R>,
     r: &Receiver<u64, R>,
-) -> Result<Kept<'a, R>, Fail> {
-    let mut kept = Kept::new(group, s, r)?;
-    assert!(rt; kept.ends(task).is_none());
-    Ok(kept)
+) -> Result<(), Fail> {
+    let task = MockTask::new(rt)?;
+    for group in [Group::Receives, Group::Streams, Group::Closeds] {
+        assert!(rt;
+            Kept::new(group, s, r)?.ends(&task).is_pending(),
+            "{group:?}"
+        );
+    }
+    Ok(())
 }
 
 /// Has as many of a group wait, closes the channel, and polls all to their end.
 fn many_wait<R: Wait + Clone + Drop + RandomSource + AllocGlobal + Abort>(
     rt: &R,
     group: Group,
+    is_batch: bool,
 ) -> Result<(), Fail> {
     let (s, r) = channel(rt, Some(1))?;
-    if let Group::Sends = group {
-        assert_eq!(rt; s.try_send(1), Ok(Ok(())));
-    }
+    let is_full = matches!(group, Group::Sends);
+    assert!(rt; !is_full || s.try_send(1) == Ok(Ok(())));
     let (task, weak, mut all) = (MockTask::new(rt)?, s.downgrade()?, Vec::new(rt.alloc()));
     for _ in 0..MANY {
-        all.push(waiting(rt, &task, group, &s, &r)?)?;
+        let mut kept = if is_batch {
+            SendingMany(s.send_many(numbers_from(rt.alloc(), 7, 1)?))
+        } else {
+            Kept::new(group, &s, &r)?
+        };
+        assert!(rt; kept.ends(&task).is_pending(), "{group:?}");
+        all.push(kept)?;
     }
     assert_eq!(rt; numbers(&weak, group), (MANY, 0));
-    // those of the other groups wait beside them
-    for other in [Group::Receives, Group::Streams, Group::Closeds] {
-        if !matches!(group, Group::Sends) {
-            drop(waiting(rt, &task, other, &s, &r)?);
-        }
+    if !is_full {
+        each_waits(rt, &s, &r)?;
     }
     assert_eq!(rt; numbers(&weak, group), (MANY, 0));
     // those of the last group are told when no receiver is left
@@ -100,7 +99,7 @@ fn many_wait<R: Wait + Clone + Drop + RandomSource + AllocGlobal + Abort>(
     drop(r);
     assert_eq!(rt; numbers(&weak, group), (MANY, MANY));
     for kept in &mut all {
-        assert_eq!(rt; kept.ends(&task), Some(true));
+        assert_eq!(rt; kept.ends(&task), Poll::Ready(true), "{group:?}");
     }
     assert_eq!(rt; numbers(&weak, group), (0, 0));
     Ok(())
@@ -108,22 +107,17 @@ fn many_wait<R: Wait + Clone + Drop + RandomSource + AllocGlobal + Abort>(
 
 #[test]
 fn sends(rt: HostRuntime) -> Result<(), Fail> {
-    many_wait(&rt, Group::Sends)
+    many_wait(&rt, Group::Sends, false)
+}
+
+#[test]
+fn sends_of_many(rt: HostRuntime) -> Result<(), Fail> {
+    many_wait(&rt, Group::Sends, true)
 }
 
 #[test]
 fn receives(rt: HostRuntime) -> Result<(), Fail> {
-    many_wait(&rt, Group::Receives)
-}
-
-#[test]
-fn streams(rt: HostRuntime) -> Result<(), Fail> {
-    many_wait(&rt, Group::Streams)
-}
-
-#[test]
-fn closed_operations(rt: HostRuntime) -> Result<(), Fail> {
-    many_wait(&rt, Group::Closeds)
+    many_wait(&rt, Group::Receives, false)
 }
 
 #[test]
@@ -149,22 +143,13 @@ fn receives_of_many(rt: HostRuntime) -> Result<(), Fail> {
 }
 
 #[test]
-fn sends_of_many(rt: HostRuntime) -> Result<(), Fail> {
-    let (s, _r) = channel(&rt, Some(1))?;
-    assert_eq!(rt; s.try_send(1), Ok(Ok(())));
-    let (task, weak, mut all) = (MockTask::new(&rt)?, s.downgrade()?, Vec::new(rt.alloc()));
-    for _ in 0..MANY {
-        let mut send = s.send_many(numbers_from(rt.alloc(), 7, 1)?);
-        assert!(rt; matches!(&task.poll(&mut send), Poll::Pending));
-        all.push(send)?;
-    }
-    assert_eq!(rt; numbers(&weak, Group::Sends), (MANY, 0));
-    assert!(rt; s.close());
-    for send in &mut all {
-        assert!(rt; matches!(&task.poll(send), Poll::Ready(Ok(Err(SendError(_))))));
-    }
-    assert_eq!(rt; numbers(&weak, Group::Sends), (0, 0));
-    Ok(())
+fn streams(rt: HostRuntime) -> Result<(), Fail> {
+    many_wait(&rt, Group::Streams, false)
+}
+
+#[test]
+fn closed_operations(rt: HostRuntime) -> Result<(), Fail> {
+    many_wait(&rt, Group::Closeds, false)
 }
 
 /// One of each handle.
@@ -225,10 +210,7 @@ fn strong_and_weak_handles(rt: HostRuntime) -> Result<(), Fail> {
     }
     assert_eq!(rt; first.counts(), [(100_001, 100_001); 2]);
     // whoever waits beside so many handles waits like beside few
-    let task = MockTask::new(&rt)?;
-    for group in [Group::Receives, Group::Streams, Group::Closeds] {
-        drop(waiting(&rt, &task, group, &first.sender, &first.receiver)?);
-    }
+    each_waits(&rt, &first.sender, &first.receiver)?;
     drop(all);
     assert_eq!(rt; first.counts(), [(1, 1); 2]);
     assert!(rt; !first.sender.is_closed());

@@ -5,7 +5,6 @@ use async_channel::{
 };
 use std::alloc::AllocGlobal;
 use std::sync::Wait;
-use std::sync::atomic::{AtomicBool, Ordering};
 use std::thread;
 
 /// How often a test looks before it gives up.
@@ -40,17 +39,6 @@ pub fn are_waiting<T: Drop, R: Wait + Clone + Drop>(
 ) -> bool {
     for _ in 0..TURNS {
         if numbers(weak, group) == wanted {
-            return true;
-        }
-        thread::yield_now();
-    }
-    false
-}
-
-/// Takes turns until the flag is set.
-pub fn is_set(flag: &AtomicBool) -> bool {
-    for _ in 0..TURNS {
-        if flag.load(Ordering::SeqCst) {
             return true;
         }
         thread::yield_now();

@@ -1,0 +1,259 @@
+//! Operations that wait in turn: each by one entry, which goes with it. A notice is handed on.
+ghost use Rattle.std.specs.Prelude.{IfOk};
+
+use crate::party::Party;
+use crate::waiting::{channel, numbers};
+use crate::ways::numbers_from;
+use async_channel::{Group, Receiver, Sender, WeakSender};
+use futures::task::Poll;
+use futures::test::MockTask;
+use futures::{Future, Stream};
+use ruled_channel::{Unruled, bounded_with};
+use std::alloc::{AllocError, AllocGlobal};
+use std::process::Abort;
+use std::random::RandomSource;
+use std::sync::Wait;
+use std::test::Fail;
+
+/// A channel of one place, as whoever tells others has it.
+trait Line {
+    /// Tells who has waited longest in the group, or all who wait for the last receiver.
+    fn tell(&mut self, group: Group);
+
+    /// How many wait in the group, and how many of them are told.
+    fn numbers(&mut self, group: Group) -> (usize, usize);
+}
+
+/// One of handles. It has the last receiver.
+#[derive(Drop)]
+struct Handles<R: Wait + Clone + Drop> {
+    s: Sender<u64, R>,
+    r: Option<Receiver<u64, R>>,
+    weak: WeakSender<u64, R>,
+}
+
+impl<R: Wait + Clone + Drop> Line for Handles<R> {
+    fn tell(&mut self, group: Group) {
+        match (group, &self.r) {
+            (Group::Closeds, _) => self.r = None,
+            (Group::Sends, Some(r)) => drop(r.try_recv()),
+            _ => drop(self.s.try_send(7)),
+        }
+    }
+
+    fn numbers(&mut self, group: Group) -> (usize, usize) {
+        numbers(&self.weak, group)
+    }
+}
+
+/// One under the rule that asks nothing.
+#[derive(Drop)]
+struct Ruled<'c, R> {
+    rt: &'c R,
+    party: Party<'c>,
+}
+
+impl<R: Wait> Line for Ruled<'_, R> {
+    fn tell(&mut self, group: Group) {
+        match group {
+            Group::Closeds => self.party.drop_receiver(self.rt),
+            Group::Sends => drop(self.party.try_receive(self.rt)),
+            _ => drop(self.party.try_send(self.rt, 1)),
+        }
+    }
+
+    fn numbers(&mut self, group: Group) -> (usize, usize) {
+        self.party.waiting(self.rt, group)
+    }
+}
+
+/// The operation, which waits once the task has polled it.
+fn wait<F: Future>(task: &MockTask, mut operation: F) -> Result<F, Fail>
+where
+    F::Output: Drop,
+    requires { F.can_poll operation }
+    ensures { IfOk result (λ again. F.can_poll again) }
+{
+    match task.poll(&mut operation) {
+        Poll::Pending => Ok(operation),
+        Poll::Ready(_) => Err("it doesn't wait".into()),
+    }
+}
+
+/// Lets three operations wait, and gives the last one up. The first keeps its place when it is
+/// polled again, and lets go of no waker; another task takes it over. Once it was told, it goes on,
+/// or it is given up and tells the second.
+fn take_turns<R, L, F>(
+    rt: &R,
+    line: &mut L,
+    group: Group,
+    operations: (F, F, F),
+    goes_on: bool,
+) -> Result<(), Fail>
+where
+    R: RandomSource + AllocGlobal + Abort,
+    L: Line,
+    F: Future + Drop,
+    F::Output: Drop,
+    requires { F.can_poll operations.0 × F.can_poll operations.1 × F.can_poll operations.2 }
+{
+    let (task, other, last) = (MockTask::new(rt)?, MockTask::new(rt)?, MockTask::new(rt)?);
+    let (first, second, third) = operations;
+    let (first, mut second) = (wait(&task, first)?, wait(&other, second)?);
+    drop(wait(&MockTask::new(rt)?, third)?);
+    let first = wait(&task, first)?;
+    assert!(rt;
+        !task.is_woken() && line.numbers(group) == (2, 0),
+        "{group:?}"
+    );
+    let mut first = wait(&last, first)?;
+    assert!(rt; !last.is_woken() && !other.is_woken(), "{group:?}");
+    line.tell(group);
+    let are_all_told = matches!(group, Group::Closeds);
+    assert!(rt;
+        last.is_woken() && other.is_woken() == are_all_told,
+        "{group:?}"
+    );
+    assert_eq!(rt; line.numbers(group), (2, if are_all_told { 2 } else { 1 }));
+    if goes_on {
+        assert!(rt; last.poll(&mut first).is_ready(), "{group:?}");
+        assert_eq!(rt; other.is_woken(), are_all_told);
+        assert_eq!(rt; line.numbers(group), (1, usize::from(are_all_told)));
+        return Ok(());
+    }
+    drop(first);
+    assert!(rt;
+        other.is_woken() && line.numbers(group) == (1, 1),
+        "{group:?}"
+    );
+    assert!(rt; other.poll(&mut second).is_ready(), "{group:?}");
+    assert_eq!(rt; line.numbers(group), (0, 0));
+    Ok(())
+}
+
+#[test]
+fn operations_take_turns(rt: HostRuntime) -> Result<(), Fail> {
+    for goes_on in [false, true] {
+        let (a, (s, r)) = (rt.alloc(), channel(&rt, Some(1))?);
+        let mut line = Handles {
+            s: s.try_clone()?,
+            r: Some(r.try_clone()?),
+            weak: s.downgrade()?,
+        };
+        let receives = (r.recv(), r.recv(), r.recv());
+        take_turns(&rt, &mut line, Group::Receives, receives, goes_on)?;
+        let (mut one, mut two, mut three) = (Vec::new(a), Vec::new(a), Vec::new(a));
+        // one without a limit waits, too, and takes no room for what isn't there
+        let receives = (
+            r.recv_many(&mut one, usize::MAX),
+            r.recv_many(&mut two, 5),
+            r.recv_many(&mut three, 5),
+        );
+        take_turns(&rt, &mut line, Group::Receives, receives, goes_on)?;
+        assert_eq!(rt;
+            (one.len(), two.len()),
+            if goes_on { (1, 0) } else { (0, 1) }
+        );
+        assert!(rt; (goes_on || one.capacity() == 0) && three.capacity() == 0);
+        line.tell(Group::Receives);
+        let sends = (s.send(2), s.send(3), s.send(4));
+        take_turns(&rt, &mut line, Group::Sends, sends, goes_on)?;
+        let sends = (
+            s.send_many(numbers_from(a, 2, 1)?),
+            s.send_many(numbers_from(a, 3, 1)?),
+            s.send_many(numbers_from(a, 4, 1)?),
+        );
+        take_turns(&rt, &mut line, Group::Sends, sends, goes_on)?;
+        assert!(rt; !s.is_closed());
+        drop(r);
+        let closeds = (s.closed(), s.closed(), s.closed());
+        take_turns(&rt, &mut line, Group::Closeds, closeds, goes_on)?;
+    }
+    Ok(())
+}
+
+#[test]
+fn operations_under_a_rule_take_turns(rt: HostRuntime) -> Result<(), Fail> {
+    for goes_on in [false, true] {
+        let Ok((channel, pass)) = bounded_with::<u32, (), Unruled>(rt.alloc(), 1) else {
+            return Err(AllocError.into());
+        };
+        let party = Party::new(&channel, pass);
+        let mut line = Ruled { rt: &rt, party };
+        let receives = (
+            channel.recv_as::<Unruled, Unruled, _>(&rt, channel.pass()),
+            channel.recv_as::<Unruled, Unruled, _>(&rt, channel.pass()),
+            channel.recv_as::<Unruled, Unruled, _>(&rt, channel.pass()),
+        );
+        take_turns(&rt, &mut line, Group::Receives, receives, goes_on)?;
+        line.tell(Group::Receives);
+        let sends = (
+            channel.send_as::<Unruled, Unruled, _>(&rt, channel.pass(), 2),
+            channel.send_as::<Unruled, Unruled, _>(&rt, channel.pass(), 3),
+            channel.send_as::<Unruled, Unruled, _>(&rt, channel.pass(), 4),
+        );
+        take_turns(&rt, &mut line, Group::Sends, sends, goes_on)?;
+        let send = channel.send_as::<Unruled, Unruled, _>(&rt, channel.pass(), 5);
+        let send = wait(&MockTask::new(&rt)?, send)?;
+        assert!(rt; matches!(&send.into_parts(), Some((_, 5))));
+        assert_eq!(rt; line.numbers(Group::Sends), (0, 0));
+        let closeds = (
+            channel.closed_as(&rt, channel.pass()),
+            channel.closed_as(&rt, channel.pass()),
+            channel.closed_as(&rt, channel.pass()),
+        );
+        take_turns(&rt, &mut line, Group::Closeds, closeds, goes_on)?;
+    }
+    Ok(())
+}
+
+#[test]
+fn a_told_send_of_many_that_gives_its_messages_back_hands_on(rt: HostRuntime) -> Result<(), Fail> {
+    let (s, r) = channel(&rt, Some(1))?;
+    assert_eq!(rt; s.try_send(1), Ok(Ok(())));
+    let (task, other, weak) = (MockTask::new(&rt)?, MockTask::new(&rt)?, s.downgrade()?);
+    let first = wait(&task, s.send_many(numbers_from(rt.alloc(), 2, 2)?))?;
+    let _second = wait(&other, s.send(4))?;
+    assert_eq!(rt; r.try_recv(), Ok(1));
+    assert_eq!(rt; first.into_unsent().len(), 2);
+    assert!(rt; other.is_woken() && s.is_empty() && !s.is_closed());
+    assert_eq!(rt; numbers(&weak, Group::Sends), (1, 1));
+    Ok(())
+}
+
+#[test]
+fn operations_that_are_not_polled_change_nothing(rt: HostRuntime) -> Result<(), Fail> {
+    let alloc = rt.alloc();
+    let (s, r) = channel(&rt, Some(3))?;
+    assert_eq!(rt; s.try_send(0), Ok(Ok(())));
+    let mut into = Vec::new(alloc);
+    drop((
+        s.send(5),
+        s.send_many(numbers_from(alloc, 0, 2)?),
+        s.closed(),
+    ));
+    drop((r.recv(), r.recv_many(&mut into, 1)));
+    assert_eq!(rt; s.send(5).into_msg(), Some(5));
+    assert_eq!(rt;
+        s.send_many(numbers_from(alloc, 0, 2)?).into_unsent().len(),
+        2
+    );
+    assert!(rt; into.is_empty() && !s.is_closed());
+    assert_eq!(rt; (s.len(), r.try_recv()), (1, Ok(0)));
+    Ok(())
+}
+
+#[test]
+fn an_owned_receive_takes_the_wait_of_its_stream_with_it(rt: HostRuntime) -> Result<(), Fail> {
+    let (s, r) = channel(&rt, None)?;
+    let (weak, task) = (s.downgrade()?, MockTask::new(&rt)?);
+    let mut stream = r.try_clone()?;
+    assert!(rt; task.enter(|cx| matches!(&stream.poll_next(cx), Poll::Pending)));
+    let mut recv = stream.into_recv();
+    assert_eq!(rt; numbers(&weak, Group::Streams), (1, 0));
+    assert_eq!(rt; s.try_send(7), Ok(Ok(())));
+    assert!(rt; matches!(&task.poll(&mut recv), Poll::Ready(Ok(Ok(7)))));
+    drop(recv);
+    assert_eq!(rt; numbers(&weak, Group::Streams), (0, 0));
+    Ok(())
+}
