@@ -270,21 +270,33 @@ fn the_last_handle_closes_and_goes_at_once(rt: HostRuntime) -> Result<(), Fail> 
 #[test]
 fn one_of_two_closes_or_has_the_last_place(rt: HostRuntime) -> Result<(), Fail> {
     race(&rt, true, [Deed::Close; 2], 1)?;
-    for way in [
-        Sends::TrySend,
-        Sends::TrySendMany,
-        Sends::Send,
-        Sends::SendMany,
-    ] {
-        race(&rt, true, [Deed::Send(way); 2], 1)?;
-    }
-    // what is full loses its oldest message
-    race(&rt, true, [Deed::Send(Sends::ForceSend); 2], 2)
+    race(&rt, true, [Deed::Send(Sends::TrySend); 2], 1)
 }
 
 #[test]
-fn one_of_two_has_the_last_message(rt: HostRuntime) -> Result<(), Fail> {
-    for way in [TryRecv, TryRecvMany, TryIter, Recv, RecvMany, Next] {
+fn a_send_that_comes_too_late_waits_for_nothing(rt: HostRuntime) -> Result<(), Fail> {
+    // what is full loses its oldest message
+    race(&rt, true, [Deed::Send(Sends::ForceSend); 2], 2)?;
+    race(&rt, true, [Deed::Send(Sends::TrySendMany); 2], 1)
+}
+
+#[test]
+fn a_polled_send_that_comes_too_late_is_pending(rt: HostRuntime) -> Result<(), Fail> {
+    race(&rt, true, [Deed::Send(Sends::Send); 2], 1)?;
+    race(&rt, true, [Deed::Send(Sends::SendMany); 2], 1)
+}
+
+#[test]
+fn a_receive_that_comes_too_late_waits_for_nothing(rt: HostRuntime) -> Result<(), Fail> {
+    for way in [TryRecv, TryRecvMany, TryIter] {
+        race(&rt, false, [Deed::Take(way); 2], 1)?;
+    }
+    Ok(())
+}
+
+#[test]
+fn a_polled_receive_that_comes_too_late_is_pending(rt: HostRuntime) -> Result<(), Fail> {
+    for way in [Recv, RecvMany, Next] {
         race(&rt, false, [Deed::Take(way); 2], 1)?;
     }
     Ok(())
