@@ -24,7 +24,9 @@ fn received<R: Wait + RandomSource + AllocGlobal>(
     let (sender, receiver) = (hub.sender(channel), hub.receiver(channel));
     let send = sender.send_each_and_close(rt, channel, list);
     let collect = receiver.collect(rt, channel, Vec::new(rt.alloc()));
-    let ((_, rest, sent), (_, all, got)) = block_on(rt, join(send, collect))?;
+    let (sent, got) = block_on(rt, join(send, collect))?;
+    let (_, rest, sent) = sent;
+    let (_, all, got) = got;
     let is_whole = matches!(&sent, Ok(Ok(()))) && rest.is_empty() && got.is_ok();
     Ok(if is_whole { Some(all) } else { None })
 }

@@ -159,17 +159,15 @@ impl Tasks {
 #[derive(Drop)]
 struct At<'a, 'b, R: Wait + Clone + Drop> {
     alloc: Global,
-    task: MockTask,
     tasks: &'b Tasks,
     live: &'a AtomicU64,
-    left: &'b AtomicU64,
     s: &'b Sender<Counted<'a>, R>,
     r: &'b Receiver<Counted<'a>, R>,
 }
 
 impl<'a, R: Wait + Clone + Drop> At<'a, '_, R> {
-    /// Does it, and answers whether that went well.
-    fn act(&self, deed: Deed) -> Result<bool, Fail> {
+    /// Does it, and answers whether that went well. So many copies of the runtime are left.
+    fn act(&self, deed: Deed, left: &AtomicU64) -> Result<bool, Fail> {
         let (s, r, mut into) = (self.s, self.r, Vec::new(self.alloc));
         match deed {
             Sending(way) => {
@@ -184,7 +182,7 @@ impl<'a, R: Wait + Clone + Drop> At<'a, '_, R> {
             IntoRecv => drop(self.tasks.output(r.try_clone()?.into_recv())),
             CloseSender => return Ok(s.close()),
             CloseReceiver => return Ok(r.close()),
-            deed => return self.looks(deed),
+            deed => return self.looks(deed, left),
         }
         Ok(true)
     }
@@ -203,8 +201,8 @@ impl<'a, R: Wait + Clone + Drop> At<'a, '_, R> {
         Ok(all)
     }
 
-    fn looks(&self, deed: Deed) -> Result<bool, Fail> {
-        let (s, r, task) = (self.s, self.r, &self.task);
+    fn looks(&self, deed: Deed, left: &AtomicU64) -> Result<bool, Fail> {
+        let (s, r, task) = (self.s, self.r, &self.tasks.one);
         let (weak_s, weak_r) = (s.downgrade()?, r.downgrade()?);
         Ok(match deed {
             IntoMsg => {
@@ -217,7 +215,7 @@ impl<'a, R: Wait + Clone + Drop> At<'a, '_, R> {
                     && send.into_unsent().len() == 2
                     && task.is_woken()
             }
-            Copy(left) => self.copies(left)?,
+            Copy(count) => self.copies(left, count)?,
             UpgradeLate => {
                 s.close() && weak_s.upgrade()?.is_none() && weak_r.upgrade()?.is_none()
             }
@@ -226,10 +224,10 @@ impl<'a, R: Wait + Clone + Drop> At<'a, '_, R> {
     }
 
     /// Whether handles are made only where the runtime is copied, and count no longer then.
-    fn copies(&self, left: u64) -> Result<bool, Fail> {
+    fn copies(&self, left: &AtomicU64, count: u64) -> Result<bool, Fail> {
         let (s, r) = (self.s, self.r);
         let (weak_s, weak_r) = (s.downgrade()?, r.downgrade()?);
-        self.left.store(left, Ordering::SeqCst);
+        left.store(count, Ordering::SeqCst);
         let are_made = [
             s.try_clone().is_ok(),
             r.try_clone().is_ok(),
@@ -240,9 +238,9 @@ impl<'a, R: Wait + Clone + Drop> At<'a, '_, R> {
             weak_s.upgrade().is_ok(),
             weak_r.upgrade().is_ok(),
         ];
-        self.left.store(100, Ordering::SeqCst);
+        left.store(100, Ordering::SeqCst);
         let counts = (s.sender_count(), s.receiver_count(), s.is_closed());
-        Ok(are_made == [left > 0; 8] && counts == (1, 1, false))
+        Ok(are_made == [count > 0; 8] && counts == (1, 1, false))
     }
 
     /// Whether nobody waits.
@@ -268,11 +266,13 @@ where
     R: Wait + Clone + Drop + RandomSource + AllocGlobal,
 {
     let (left, copies, live) = (AtomicU64::new(100), AtomicU64::new(0), AtomicU64::new(0));
-    let counted = Copies {
-        left: &left,
-        live: &copies,
-    };
-    let runtime = (rt.clone()?, counted);
+    let runtime = (
+        rt.clone()?,
+        Copies {
+            left: &left,
+            live: &copies,
+        },
+    );
     let (s, r) = bounded(&runtime, rt.alloc(), 1, &mut StampMaker::new())?;
     if is_full {
         drop(s.try_send(Counted::new(&live)));
@@ -285,14 +285,12 @@ where
     };
     let at = At {
         alloc: rt.alloc(),
-        task: MockTask::new(rt)?,
         tasks: &tasks,
         live: &live,
-        left: &left,
         s: &s,
         r: &r,
     };
-    let is_well = at.act(deed)? && at.nobody_waits()? && tasks.have_let_go();
+    let is_well = at.act(deed, &left)? && at.nobody_waits()? && tasks.have_let_go();
     // so that a channel that is kept has a message
     drop(s.try_send(Counted::new(&live)));
     drop((s, r));
