@@ -96,9 +96,7 @@ impl<T> Channel<T> {
             let (core, spare) = &mut *locked;
             let answer = step(core, spare, &mut told);
             let seen = 2 * core.len() + usize::from(core.is_closed());
-            if seen != self.seen.load(Ordering::Relaxed) {
-                self.seen.store(seen, SEEN);
-            }
+            self.seen.store(seen, SEEN);
             answer
         };
         told.wake();
@@ -209,11 +207,13 @@ impl<T> Channel<T> {
     /// than to sleep if another thread is about to make it so.
     #[inline]
     pub(crate) fn await_turn(&self, group: Group) {
-        for _look in 0..turns(LOOKS) {
-            if self.seems_ready(group) {
-                return;
-            }
+        let mut looks = 0;
+        while !self.seems_ready(group) {
             pause(PAUSES);
+            looks += 1;
+            if looks == turns(LOOKS) {
+                break;
+            }
         }
     }
 

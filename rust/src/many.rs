@@ -60,14 +60,14 @@ impl<T> Sender<T> {
     /// assert_eq!(from, [3]);
     /// ```
     pub fn try_send_many(&self, from: &mut VecDeque<T>) -> Result<usize, TrySendError<()>> {
-        let mut sent = self.channel.send_round(from)?;
+        let before = from.len();
+        self.channel.send_round(from)?;
         while !from.is_empty() && self.channel.seems_ready(Group::Sends) {
-            match self.channel.send_round(from) {
-                Ok(more) => sent += more,
-                Err(_) => break,
+            if self.channel.send_round(from).is_err() {
+                break;
             }
         }
-        Ok(sent)
+        Ok(before - from.len())
     }
 
     /// Sends all messages, in order, and waits while the channel is full.
@@ -138,22 +138,12 @@ impl<T> Sender<T> {
             match self.try_send_many(&mut left) {
                 Ok(_) => {}
                 Err(TrySendError::Closed(())) => return Err(SendError(left)),
-                Err(TrySendError::Full(())) => self.send_first_blocking(&mut left)?,
+                Err(TrySendError::Full(())) => {
+                    return crate::blocking::block_on(self.send_many(left));
+                }
             }
         }
         Ok(())
-    }
-
-    /// Waits until the first message is sent. If the channel is closed, the error has all of them.
-    #[cfg(not(target_family = "wasm"))]
-    fn send_first_blocking(&self, left: &mut VecDeque<T>) -> Result<(), SendError<VecDeque<T>>> {
-        let Some(first) = left.pop_front() else {
-            return Ok(());
-        };
-        crate::blocking::block_on(self.send(first)).map_err(|SendError(first)| {
-            left.push_front(first);
-            SendError(std::mem::take(left))
-        })
     }
 }
 

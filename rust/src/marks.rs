@@ -34,6 +34,14 @@ impl Told {
     /// Wakes them. The lock has been let go by now.
     #[inline]
     pub(crate) fn wake(self) {
+        if !matches!(self, Told::Nobody) {
+            self.wake_some();
+        }
+    }
+
+    /// Not in line, so that a step that tells nobody is a short piece.
+    #[inline(never)]
+    fn wake_some(self) {
         match self {
             Told::Nobody => {}
             Told::One(waker) => waker.wake(),

@@ -43,6 +43,7 @@ pub(crate) fn turns(count: u32) -> u32 {
 
 /// Lets some time go by, so many of the processor's pauses. A thread doesn't yield: if all
 /// processors are busy, it may get no turn for milliseconds then.
+#[cold]
 pub(crate) fn pause(pauses: u32) {
     for _ in 0..pauses {
         std::hint::spin_loop();

@@ -19,6 +19,8 @@ fn block_of<T>() -> usize {
 /// Values in order, the oldest first. As many as a block holds are one ring, which grows with them.
 /// Later ones come in further blocks, each of which goes as it becomes empty.
 pub struct Blocks<T> {
+    /// How many values there are.
+    len: usize,
     first: Ring<T>,
     later: Option<Box<Later<T>>>,
 }
@@ -30,8 +32,6 @@ pub struct Blocks<T> {
 /// bit by bit.
 struct Later<T> {
     blocks: Ring<Ring<T>>,
-    /// How many values are in them.
-    values: usize,
     /// The block that became empty last, if there was one: the next one is made of it.
     spare: Ring<T>,
     /// How many of the newest have moved.
@@ -40,14 +40,13 @@ struct Later<T> {
 
 impl<T> Default for Later<T> {
     fn default() -> Self {
-        Later { blocks: Ring::new(), values: 0, spare: Ring::new(), moved: 0 }
+        Later { blocks: Ring::new(), spare: Ring::new(), moved: 0 }
     }
 }
 
 impl<T> Later<T> {
     #[inline]
     fn push_back(&mut self, value: T) {
-        self.values += 1;
         match self.blocks.back_mut() {
             Some(last) if last.len() < block_of::<T>() => last.push_back(value),
             _ => self.push_block(value),
@@ -64,7 +63,6 @@ impl<T> Later<T> {
     /// Puts the oldest block in the place of an empty one.
     fn pop_block(&mut self, empty: &mut Ring<T>) {
         if let Some(oldest) = self.blocks.pop_front() {
-            self.values -= oldest.len();
             let last = replace(&mut self.spare, replace(empty, oldest));
             if last.capacity() > 0 {
                 self.move_newest();
@@ -98,12 +96,12 @@ impl<T> Default for Blocks<T> {
 /// The values are one block, also if they are many.
 impl<T> From<Ring<T>> for Blocks<T> {
     fn from(first: Ring<T>) -> Self {
-        Blocks { first, later: None }
+        Blocks { len: first.len(), first, later: None }
     }
 }
 
 impl<T> From<Blocks<T>> for Ring<T> {
-    fn from(Blocks { mut first, later }: Blocks<T>) -> Self {
+    fn from(Blocks { mut first, later, .. }: Blocks<T>) -> Self {
         first.extend(later.into_iter().flat_map(|later| later.blocks).flatten());
         first
     }
@@ -112,22 +110,30 @@ impl<T> From<Blocks<T>> for Ring<T> {
 impl<T> Blocks<T> {
     #[inline]
     pub fn push_back(&mut self, value: T) {
-        match &mut self.later {
-            Some(later) => later.push_back(value),
-            None if self.first.len() < block_of::<T>() => self.first.push_back(value),
-            none => none.insert(Box::default()).push_back(value),
+        self.len += 1;
+        if self.later.is_none() && self.first.len() < block_of::<T>() {
+            self.first.push_back(value);
+        } else {
+            self.push_later(value);
         }
     }
+    /// Not in line, so that a call in a short queue is a short piece.
+    #[inline(never)]
+    fn push_later(&mut self, value: T) {
+        self.later.get_or_insert_with(Box::default).push_back(value);
+    }
     pub fn push_front(&mut self, value: T) {
+        self.len += 1;
         self.first.push_front(value);
     }
     #[inline]
     pub fn pop_front(&mut self) -> Option<T> {
-        let value = self.first.pop_front();
-        if self.first.is_empty() && self.later.is_some() {
+        let value = self.first.pop_front()?;
+        self.len -= 1;
+        if self.first.is_empty() && self.len > 0 {
             self.go_on();
         }
-        value
+        Some(value)
     }
     /// Goes on to the next block. Not in line, so that a call that doesn't is a short piece.
     #[inline(never)]
@@ -146,16 +152,12 @@ impl<T> Blocks<T> {
     }
     #[inline]
     pub fn len(&self) -> usize {
-        self.first.len() + self.later.as_ref().map_or(0, |later| later.values)
+        self.len
     }
-    /// Further blocks have no room to give back.
+    /// A block has little room, and none that is given back.
     #[inline]
     pub fn capacity(&self) -> usize {
-        self.later.as_ref().map_or(self.first.capacity(), |_later| self.len())
+        self.len()
     }
-    pub fn shrink_to(&mut self, capacity: usize) {
-        if self.later.is_none() {
-            self.first.shrink_to(capacity);
-        }
-    }
+    pub fn shrink_to(&mut self, _capacity: usize) {}
 }
