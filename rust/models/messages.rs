@@ -6,6 +6,7 @@ use std::task::{Context, Poll};
 
 use futures_core::{FusedStream, Stream};
 use loom::model;
+use loom::model::Builder;
 use vamorilesh::{block_on, bounded, unbounded, Receiver, RecvError, Sender, TryRecvError};
 
 use super::{caller, is_ready};
@@ -21,7 +22,10 @@ fn sends_beside_receives() {
 
 #[test]
 fn two_sends_beside_receives() {
-    model(|| {
+    // four preemptions of three threads that block take a quarter of an hour
+    let mut builder = Builder::new();
+    builder.preemption_bound = builder.preemption_bound.map(|bound| bound.min(3));
+    builder.check(|| {
         let (s, r) = bounded(1);
         let send = |s: Sender<u64>, message| move || s.send_blocking(message).unwrap();
         let receive = || {
