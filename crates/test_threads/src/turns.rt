@@ -164,6 +164,7 @@ fn operations_take_turns(rt: HostRuntime) -> Result<(), Fail> {
             s.send_many(numbers_from(a, 4, 1)?),
         );
         take_turns(&rt, &mut line, Group::Sends, sends, goes_on)?;
+        drop(wait(&MockTask::new(&rt)?, s.closed())?);
         assert!(rt; !s.is_closed());
         drop(r);
         let closeds = (s.closed(), s.closed(), s.closed());
