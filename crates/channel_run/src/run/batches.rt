@@ -1,5 +1,5 @@
 //! Many messages in one step.
-ghost use Rattle.std.specs.Prelude.{◌≡◌, ◌⊎◌, ◌++◌, ◌+◌, ◌<◌, true, false, None, drop, length, min, slice_get, take, IfErr, IfOk};
+ghost use Rattle.std.specs.Prelude.{◌≡◌, ◌⊎◌, ◌++◌, ◌+◌, ◌<◌, [], true, false, None, drop, length, min, slice_get, take, IfErr, IfOk};
 ghost use Rattle.std.specs.Vec.{vec_capacity, vec_len};
 ghost use Rattle.identity.specs.Keys.{is_among};
 ghost use Rattle.channel_model.specs.declared.step.Kind.{Kind};
@@ -94,6 +94,7 @@ impl<T: Drop> Run<T> {
             (try_send_answer self.old.closed (is_full_in self.old) tt)) }
         ensures stops { IfOk result (λ answer. IfOk answer (λ count. count < limit
             → SendsNoMore from.new.items self.new)) }
+        ensures none { result ≡ Ok (Ok 0) → (limit ≡ 0) ⊎ (from.old.items ≡ []) }
         ensures in_turn { (kind : Kind) (past : Past T) → StandsFor kind past self.old
             → SendsInTurn kind past sender (take (moved_count result) from.old.items) self.new }
         ensures known { IfOk result (λ _. is_among sender self.old.senders ≡ true) }
