@@ -214,7 +214,7 @@ fn repeats<R: Wait + Clone + Drop + AllocGlobal>(
 }
 
 #[test]
-fn who_is_told_in_vain_is_told_again(rt: HostRuntime) -> Result<(), Fail> {
+fn who_is_told_in_vain_is_told_again_and_tells_no_other(rt: HostRuntime) -> Result<(), Fail> {
     // What tells the call, what takes that before it, and what ends it, with its answer.
     for (call, tells, takes, ends, last) in [
         (Call::Recv, TrySend(1), TryRecv, TrySend(9), Got(9)),
@@ -223,11 +223,15 @@ fn who_is_told_in_vain_is_told_again(rt: HostRuntime) -> Result<(), Fail> {
         let (s, r, weak) = start(&rt, call)?;
         let (own_s, own_r) = (s.try_clone()?, r.try_clone()?);
         let thread = thread::spawn(&rt, move || repeats(&rt, call, last, &own_s, &own_r))?;
+        let task = MockTask::new(&rt)?;
         for _ in 0..ROUNDS {
             assert!(rt; are_waiting(&weak, call.group(), (1, 0)), "{call:?}");
+            let (mut send, mut recv) = (s.send(0), r.recv());
+            assert!(rt; !is_ready(&task, call, &mut send, &mut recv), "{call:?}");
             assert!(rt; tells.make(&s, &r) != Otherwise, "{call:?}");
             // mostly before the thread wakes
             takes.make(&s, &r);
+            assert!(rt; are_waiting(&weak, call.group(), (2, 0)), "{call:?}");
         }
         assert_eq!(rt; ends.make(&s, &r), Done, "{call:?}");
         assert!(rt; thread.join(&rt), "{call:?}");

@@ -20,6 +20,8 @@ trait Line {
     /// Tells who has waited longest in the group, or all who wait for the last receiver.
     fn tell(&mut self, group: Group);
 
+    fn close(&mut self);
+
     /// How many wait in the group, and how many of them are told.
     fn numbers(&mut self, group: Group) -> (usize, usize);
 }
@@ -41,6 +43,10 @@ impl<R: Wait + Clone + Drop> Line for Handles<R> {
         }
     }
 
+    fn close(&mut self) {
+        self.s.close();
+    }
+
     fn numbers(&mut self, group: Group) -> (usize, usize) {
         numbers(&self.weak, group)
     }
@@ -60,6 +66,10 @@ impl<R: Wait> Line for Ruled<'_, R> {
             Group::Sends => drop(self.party.try_receive(self.rt)),
             _ => drop(self.party.try_send(self.rt, 1)),
         }
+    }
+
+    fn close(&mut self) {
+        self.party.close(self.rt);
     }
 
     fn numbers(&mut self, group: Group) -> (usize, usize) {
@@ -204,6 +214,73 @@ fn operations_under_a_rule_take_turns(rt: HostRuntime) -> Result<(), Fail> {
             channel.closed_as(&rt, channel.pass()),
         );
         take_turns(&rt, &mut line, Group::Closeds, closeds, goes_on)?;
+    }
+    Ok(())
+}
+
+/// Lets two operations wait, closes the channel, and gives both up.
+fn leave_after_the_close<R, L, F, G>(
+    rt: &R,
+    line: &mut L,
+    group: Group,
+    operations: (F, G),
+) -> Result<(), Fail>
+where
+    R: RandomSource + AllocGlobal + Abort,
+    L: Line,
+    F: Future + Drop,
+    F::Output: Drop,
+    G: Future + Drop,
+    G::Output: Drop,
+    requires { F.can_poll operations.0 × G.can_poll operations.1 }
+{
+    let (first, second) = operations;
+    let first = wait(&MockTask::new(rt)?, first)?;
+    let second = wait(&MockTask::new(rt)?, second)?;
+    line.close();
+    assert_eq!(rt; line.numbers(group), (2, 2), "{group:?}");
+    drop((first, second));
+    assert_eq!(rt; line.numbers(group), (0, 0), "{group:?}");
+    Ok(())
+}
+
+#[test]
+fn who_is_given_up_after_the_close_leaves_its_list(rt: HostRuntime) -> Result<(), Fail> {
+    for is_full in [false, true] {
+        let (s, r) = channel(&rt, Some(1))?;
+        let mut line = Handles {
+            s: s.try_clone()?,
+            r: None,
+            weak: s.downgrade()?,
+        };
+        let mut into = Vec::new(rt.alloc());
+        if is_full {
+            line.tell(Group::Receives);
+            let sends = (s.send(1), s.send_many(numbers_from(rt.alloc(), 2, 1)?));
+            leave_after_the_close(&rt, &mut line, Group::Sends, sends)?;
+        } else {
+            let receives = (r.recv(), r.recv_many(&mut into, 5));
+            leave_after_the_close(&rt, &mut line, Group::Receives, receives)?;
+        }
+        let Ok((ruled, pass)) = bounded_with::<u32, (), Unruled>(rt.alloc(), 1) else {
+            return Err(AllocError.into());
+        };
+        let party = Party::new(&ruled, pass);
+        let mut line = Ruled { rt: &rt, party };
+        if is_full {
+            line.tell(Group::Receives);
+            let sends = (
+                ruled.send_as::<Unruled, Unruled, _>(&rt, ruled.pass(), 2),
+                ruled.send_as::<Unruled, Unruled, _>(&rt, ruled.pass(), 3),
+            );
+            leave_after_the_close(&rt, &mut line, Group::Sends, sends)?;
+        } else {
+            let receives = (
+                ruled.recv_as::<Unruled, Unruled, _>(&rt, ruled.pass()),
+                ruled.recv_as::<Unruled, Unruled, _>(&rt, ruled.pass()),
+            );
+            leave_after_the_close(&rt, &mut line, Group::Receives, receives)?;
+        }
     }
     Ok(())
 }
