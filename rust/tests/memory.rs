@@ -252,7 +252,7 @@ fn waited<W>(waits: impl Fn() -> W, poll: impl Fn(&mut W, &Waker)) {
         waiting.iter_mut().for_each(|wait| poll(wait, &waker));
         assert!(taken().0 - before >= 16 * count);
         drop(waiting);
-        assert!(taken().0 - before <= FEW_KB);
+        assert!(taken().0 - before <= FEW_KB / 2);
     }
 }
 

@@ -154,7 +154,8 @@ impl<T> Blocks<T> {
     pub fn len(&self) -> usize {
         self.len
     }
-    /// A block has little room, and none that is given back.
+    /// The blocks give memory back as they become empty. So there is never room to ask back, which
+    /// the erased queue does where the capacity is much more than the length.
     #[inline]
     pub fn capacity(&self) -> usize {
         self.len()
