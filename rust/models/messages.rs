@@ -22,7 +22,7 @@ fn sends_beside_receives() {
 
 #[test]
 fn two_sends_beside_receives() {
-    // with four preemptions of three threads that block this doesn't end within minutes
+    // with four preemptions it was stopped after six minutes: three threads block
     let mut builder = Builder::new();
     builder.preemption_bound = builder.preemption_bound.map(|bound| bound.min(3));
     builder.check(|| {

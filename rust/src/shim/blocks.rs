@@ -154,8 +154,8 @@ impl<T> Blocks<T> {
     pub fn len(&self) -> usize {
         self.len
     }
-    /// The blocks give memory back as they become empty. So there is never room to ask back, which
-    /// the erased queue does where the capacity is much more than the length.
+    /// The length, so that the erased queue, which shrinks what has much more room than values,
+    /// never does so here: the blocks give memory back as they become empty.
     #[inline]
     pub fn capacity(&self) -> usize {
         self.len()
