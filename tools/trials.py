@@ -5,13 +5,17 @@ in the crate. `is_local` says that it changes nothing else, and `written_into` a
 text with the change, or None if it has no place there. The libraries are those that `rt ci` or
 `rt check` built.
 
-One run tries many changes. Each stands in a copy of its function, so that whatever a function calls
-is right. `main` and a trait's method can have no copy, and are changed themselves. A run leaves a
-change open if its function is only said to call one that isn't proved, or if stored answers, which
-cite the text of their function, don't fit. What is open is tried again, together and without those
-answers, and each by itself once a turn settles nothing. If all goals that aren't proved without its
-answers are those that had one, `breaks_a_proof` is set: the prover may find none for a change that
-keeps to the contract, either.
+One copy of the crate has many changes, and one run tries them. Each stands in a copy of its
+function, so that whatever a function calls is right. `main` and a trait's method can have no copy,
+and are changed themselves. A change is refused if a goal in its lines isn't proved. A run leaves it
+open if its function is only said to call one that isn't proved, or if stored answers, which cite
+the text of their function, don't fit. Those of the latter kind are tried again in the same copy
+without their answers, and whatever is open then by itself. If all goals that aren't proved without
+its answers are those that had one, `breaks_a_proof` is set: the prover may find none for a change
+that keeps to the contract, either.
+
+The prover looks a second time for a proof that it could offer of each goal that it did not prove,
+unless an answer of the function has a hole. So a hole is put beside the answers.
 """
 import importlib.machinery
 import importlib.util
@@ -28,14 +32,19 @@ from pathlib import Path
 VERDICT = re.compile(
     r'^fn \w+::(\S+): (proved|not proved|no proof|could not tell)(?:,[^:;]*)?(?:[:;] (.*))?$'
 )
-CALLS = re.compile(r'it calls .*|which (?:is|are) not proved')
+# Where a goal stands that isn't proved, and its name.
+GOAL = re.compile(
+    r'^note: (\S+):(\d+):\d+: (?:it is not proved|`search` found no proof).*?\(`([\w-]+)`\)', re.M
+)
 # How many run side by side, whatever crates they are of.
 TURNS = threading.BoundedSemaphore(len(os.sched_getaffinity(0)))
-# How many changes a run tries at most, so that no run takes much longer than others.
-MOST = 32
+# How many changes a copy of a crate has at most, so that no run takes much longer than others.
+MOST = 16
 # What may be stored for a function, among the proofs, and where its answers are.
 ANSWERS = 'Answers.antt'
-STORED = (ANSWERS, 'Invariants.antt', 'Proof.antt')
+WHOLE = 'Proof.antt'
+STORED = (ANSWERS, 'Invariants.antt', WHOLE)
+HOLE = '\npub unproved : Unit {0}\nunproved = ?\n'
 
 
 class Refused(Exception):
@@ -49,6 +58,10 @@ class Tried:
     call = None
     # What the name of its copy ends in, if it has one.
     ending = ''
+    # Its lines in the file that it was put into.
+    lines = range(0)
+    # The files of answers that have a hole for it.
+    holes = ()
     # Whether stored answers don't fit it.
     is_unfit = False
     # Whether nothing isn't proved but goals that had one of these.
@@ -59,27 +72,36 @@ class Tried:
         """The function that has the change, as the prover names its end."""
         return self.function + self.ending
 
-    def put_into(self, lines, right):
-        """Puts the change into the lines of its file, which are right up to its function's end."""
+    def changed_lines(self, right):
+        """The lines of its function with the change in it."""
         wrong, name = self.written_into(right).split('\n'), self.call.name
-        first, last = self.call.line - 1, self.call.last
-        changed = '\n'.join(wrong[first : last + len(wrong) - len(right.split('\n'))])
-        named = re.sub(rf'\bfn {name}\b', f'fn {name}{self.ending}', changed, count=1)
-        lines[last if self.ending else first : last] = named.split('\n')
+        last = self.call.last + len(wrong) - len(right.split('\n'))
+        changed = '\n'.join(wrong[self.call.line - 1 : last])
+        return re.sub(rf'\bfn {name}\b', f'fn {name}{self.ending}', changed, count=1).split('\n')
 
     def put_proofs(self, proofs):
-        """Gives its copy what is stored for its function, but for answers that don't fit."""
+        """Gives its copy what is stored for its function."""
+        self.is_unfit, self.holes = False, []
         *owner, name = self.function.split('::')
         stored = {it.parent for file in STORED for it in proofs.rglob(f'{name}/{file}')}
         for folder in [it for it in stored if [*it.parts[-1 - len(owner) : -1]] == owner]:
             changed = folder.with_name(name + self.ending)
             if self.ending:
                 shutil.copytree(folder, changed)
-            if self.is_unfit:
-                (changed / ANSWERS).unlink(missing_ok=True)
             ends = [f'{folder.parent.name}.{name}{it}.' for it in ('', self.ending)]
             for file in changed.rglob('*.antt'):
                 file.write_text(file.read_text('utf-8').replace(*ends), 'utf-8')
+            if not (changed / WHOLE).exists():
+                self.holes.append(changed / ANSWERS)
+                with (changed / ANSWERS).open('a', encoding='utf-8') as answers:
+                    answers.write(HOLE)
+
+    def unproved(self, said):
+        """Its goals that were not proved."""
+        return {
+            goal for file, line, goal in GOAL.findall(said)
+            if not self.is_local or (Path(file) == Path(self.file) and int(line) in self.lines)
+        }
 
 
 def toolchain():
@@ -93,17 +115,20 @@ def toolchain():
 
 
 def text_with(changes, right):
-    """The text of a file with these changes in it."""
+    """The text of a file with these changes in it, each of which is told its lines there."""
     if not changes[0].is_local:
         return changes[0].written_into(right)
-    lines = right.split('\n')
-    for change in sorted(changes, key=lambda it: -it.call.last):
-        change.put_into(lines, right)
-    return '\n'.join(lines)
+    lines, written, at = right.split('\n'), [], 0
+    for change in sorted(changes, key=lambda it: it.call.last):
+        changed = change.changed_lines(right)
+        written += lines[at : change.call.last if change.ending else change.call.line - 1]
+        change.lines = range(len(written) + 1, len(written) + len(changed) + 1)
+        written, at = written + changed, change.call.last
+    return '\n'.join(written + lines[at:])
 
 
 def round_of(changes):
-    """As many of the changes as one run can try."""
+    """As many of the changes as one copy of the crate can have."""
     taken = {}
     for change in changes:
         if change.tried not in taken and len(taken) < MOST:
@@ -111,27 +136,15 @@ def round_of(changes):
     return [*taken.values()]
 
 
-def rounds_of(changes, is_apart):
+def rounds_of(changes):
     """Rounds that try each of the changes once. What changes anything outside of its function is
     tried by itself."""
-    apart = [it for it in changes if is_apart or not it.is_local]
-    together = [it for it in changes if it not in apart]
+    together = [it for it in changes if it.is_local]
     while together:
         taken = round_of(together)
         yield taken
         together = [it for it in together if it not in taken]
-    yield from ([it] for it in apart)
-
-
-def own_reasons(said):
-    """What a verdict says of the function itself, and not of what it calls."""
-    return [part for part in (said or '').split('; ') if not CALLS.fullmatch(part)]
-
-
-def goals_of(why):
-    """The goals of the function itself that were not proved."""
-    told = [part for part in own_reasons(why) if part.startswith('`search` did not prove ')]
-    return {goal for part in told for goal in re.findall(r'`([\w-]+)`', part)} - {'search'}
+    yield from ([it] for it in changes if not it.is_local)
 
 
 def answered(path):
@@ -140,52 +153,55 @@ def answered(path):
 
 
 class Trial:
-    """A crate whose changes are tried. The first run is alone; what it kept serves the others."""
+    """A crate whose changes are tried, in a folder. The first run is alone; what it kept serves the
+    others."""
 
-    def __init__(self, crate, kept, rtlib):
-        self.crate, self.kept, self.rtlib = crate, kept, rtlib
-        self.folder, self.first = Path(crate.folder), threading.Lock()
+    def __init__(self, crate, room, rtlib):
+        self.crate, self.room, self.rtlib = crate, room, rtlib
+        self.folder, self.kept, self.first = Path(crate.folder), room / 'kept', threading.Lock()
 
-    def copy_into(self, room, changes):
-        """Copies the crate with the changes in it, and without the answers that don't fit them."""
+    def copy_with(self, changes):
+        """A copy of the crate with the changes in it."""
+        copy = Path(tempfile.mkdtemp(prefix='edits-', dir=self.room))
         for part in filter(lambda it: (self.folder / it).is_dir(), self.rtlib.PARTS):
-            shutil.copytree(self.folder / part, room / part)
+            shutil.copytree(self.folder / part, copy / part)
         for file in {it.file for it in changes}:
             mine = [it for it in changes if it.file == file]
             text = text_with(mine, (self.folder / file).read_text('utf-8'))
-            (room / file).write_text(text, 'utf-8')
+            (copy / file).write_text(text, 'utf-8')
         for change in changes:
-            change.put_proofs(room / 'proofs')
+            change.put_proofs(copy / 'proofs')
+        return copy
 
-    def begun(self, changes):
-        """The first run, or None if there was one."""
+    def begun(self, copy, changes):
+        """What the first run says, or None if there was one."""
         with self.first:
             if self.kept.exists():
                 return None
             self.kept.mkdir()
-            return self.said_of(changes, self.kept)
+            return self.said_of(copy, changes, self.kept)
 
-    def said(self, changes):
-        """What the prover says of the functions of these changes."""
-        said = self.begun(changes)
+    def said(self, copy, changes):
+        """What the prover says of the functions of these changes in a copy."""
+        said = self.begun(copy, changes)
         if said is None:
-            with tempfile.TemporaryDirectory(prefix='kept-') as room:
+            kept = self.kept.with_name(f'kept-{copy.name}')
+            if not kept.exists():
                 # A run replaces files, and changes none.
-                shutil.copytree(self.kept, kept := Path(room, 'kept'), copy_function=os.link)
-                said = self.said_of(changes, kept)
+                shutil.copytree(self.kept, kept, copy_function=os.link)
+            said = self.said_of(copy, changes, kept)
         if not re.search(r'^only=\d+ proved=\d+', said, re.M):
             raise Refused(said[-2000:])
         return said
 
-    def said_of(self, changes, kept):
+    def said_of(self, copy, changes, kept):
         """The same, of a run over what is kept there."""
-        with TURNS, tempfile.TemporaryDirectory(prefix='edits-') as room:
-            self.copy_into(Path(room), changes)
-            flags = ['--jobs', '1', *(word for it in changes for word in ('--only', it.tried))]
-            words = [*self.crate.words(flags, keeps=False), '--incremental', str(kept)]
+        flags = ['--jobs', '1', *(word for it in changes for word in ('--only', it.tried))]
+        words = [*self.crate.words(flags, keeps=False), '--incremental', str(kept)]
+        with TURNS:
             return subprocess.run(
                 [*self.rtlib.guarded(), self.rtlib.RATTLE, 'check', *words],
-                cwd=room, stdin=subprocess.DEVNULL, stdout=subprocess.PIPE,
+                cwd=copy, stdin=subprocess.DEVNULL, stdout=subprocess.PIPE,
                 stderr=subprocess.STDOUT, text=True, errors='replace',
             ).stdout
 
@@ -196,30 +212,45 @@ class Trial:
         if len(mine) != 1:
             raise Refused(f'{change.function} is no name of one function')
         name, verdict, why = mine[0].groups()
-        if verdict == 'proved':
+        stored = f'proofs/{name.replace("::", "/")}'
+        is_misfit = re.search(rf'^\./{re.escape(stored)}/{ANSWERS}:.*: error', said, re.M)
+        if is_misfit and not change.is_unfit:
+            change.is_unfit = True
+            return None
+        unproved = change.unproved(said)
+        if verdict == 'proved' or (verdict == 'not proved' and not why and not unproved):
             return True
         if verdict == 'could not tell' and is_alone:
             raise Refused('the prover could not tell')
-        stored = f'proofs/{name.replace("::", "/")}'
         if change.is_unfit:
             right = self.folder / stored.removesuffix(change.ending) / ANSWERS
-            change.breaks_a_proof = goals_of(why) <= answered(right)
-        elif re.search(rf'^\./{re.escape(stored)}/{ANSWERS}:.*: error', said, re.M):
-            change.is_unfit = True
-            return None
-        return False if verdict != 'could not tell' and (is_alone or own_reasons(why)) else None
+            change.breaks_a_proof = unproved <= answered(right)
+        return False if verdict != 'could not tell' and (is_alone or unproved) else None
+
+    def outcomes(self, copy, changes, is_alone):
+        """Each of these changes of a copy with its outcome."""
+        said = self.said(copy, changes)
+        return [(it, self.outcome(it, said, is_alone)) for it in changes]
 
     def tried(self, changes):
-        """Each of these changes, with whether it was proved, what is wrong with it, or None. Those
-        that can't be read together are tried in halves."""
+        """Each of these changes, with whether it was proved, or what is wrong with it. Those that
+        can't be read together are tried in halves."""
         is_alone, half = len(changes) == 1, len(changes) // 2
         try:
-            said = self.said(changes)
-            return [(it, self.outcome(it, said, is_alone)) for it in changes]
+            copy = self.copy_with(changes)
+            found = self.outcomes(copy, changes, is_alone)
+            unfit = [it for it, outcome in found if it.is_unfit]
+            for answers in [file for it in unfit for file in it.holes]:
+                answers.write_text(HOLE, 'utf-8')
+            found = [it for it in found if it[0] not in unfit]
+            found += self.outcomes(copy, unfit, is_alone) if unfit else []
         except Refused as why:
             if is_alone:
                 return [(changes[0], str(why))]
             return self.tried(changes[:half]) + self.tried(changes[half:])
+        left = [it for it, outcome in found if outcome is None]
+        settled = [it for it in found if it[0] not in left]
+        return settled + [it for change in left for it in self.tried([change])]
 
 
 def tried_in(crate, changes, rtlib):
@@ -227,12 +258,7 @@ def tried_in(crate, changes, rtlib):
     for number, change in enumerate(changes):
         if change.is_local and not change.call.trait and change.call.name != 'main':
             change.ending = f'_changed_{number}'
-    with tempfile.TemporaryDirectory(prefix='kept-') as room:
-        trial, left, is_apart = Trial(crate, Path(room, 'kept'), rtlib), changes, False
-        while left:
-            rounds = [*rounds_of(left, is_apart)]
-            with ThreadPoolExecutor(len(rounds)) as pool:
-                tried = sum(pool.map(trial.tried, rounds), [])
-            yield from (it for it in tried if it[1] is not None)
-            found = [change for change, outcome in tried if outcome is None]
-            is_apart, left = len(found) == len(left), found
+    rounds = [*rounds_of(changes)]
+    with tempfile.TemporaryDirectory() as room, ThreadPoolExecutor(len(rounds)) as pool:
+        for tried in pool.map(Trial(crate, Path(room), rtlib).tried, rounds):
+            yield from tried
