@@ -3,7 +3,6 @@
 .PHONY: help kit run tour try test pages programs rust rust-scripts clients oldest original check facts bench
 
 PROCESSORS := $(shell nproc)
-export RT_JOBS ?= $(PROCESSORS)
 
 help:
 	@echo 'make run    proves and builds the channel, and runs trysend'
