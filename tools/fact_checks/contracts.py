@@ -2,8 +2,8 @@
 
 A citation is a call, as `Core::len` or `run_all`; a call with names of its clauses, as
 `Core::try_send: reply, after`; the same of the calls of a type, as `Core::*: rung`, where each
-clause stands at one or more; a law of a type or a trait, as `Core: invariant`; or an
-implementation, as `Visitor for Outcomes`. It stands in the last column of a table, or in brackets
+clause stands at one or more; a law of a type or a trait, as `Core: invariant`; an implementation,
+as `Visitor for Outcomes`; or one that is not there, as `no Drop for Ticket`. It stands in the last column of a table, or in brackets
 at the end of a point, below a heading that names its crate, or begins with its crate, as
 `identity::Exact: same`. A text with other signs after a citation has to stand in the contract of
 that call; `..` leaves something out of it. Who claims 'exactly if' cites a call of whose clauses
@@ -16,7 +16,7 @@ from .sources import ROOT, Crate, listed_crates
 
 PROOFS = ROOT / 'docs' / 'PROOFS.md'
 NAMES = re.compile(r'`([^`]+)`')
-CITATION = re.compile(r'[\w:]+(::\*)?(: \w+(, \w+)*)?|\w+ for \w+')
+CITATION = re.compile(r'[\w:]+(::\*)?(: \w+(, \w+)*)?|(no )?\w+ for \w+')
 
 
 def cited_rows(text):
@@ -38,7 +38,9 @@ def cited_rows(text):
 
 
 def is_there(crate, place, clauses):
-    """Whether the crate has what is cited."""
+    """Whether the crate has what is cited, or lacks it, as it says."""
+    if place.startswith('no '):
+        return place.split()[-1] in crate.types and place.removeprefix('no ') not in crate.impls
     owner, _, name = place.rpartition('::')
     calls = [call for call in crate.calls if call.owner == owner and name in ('*', call.name)]
     if name == '*':

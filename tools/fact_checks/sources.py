@@ -4,6 +4,7 @@ import re
 from pathlib import Path
 
 ROOT = Path(__file__).resolve().parent.parent.parent
+TYPE = re.compile(r'(?:pub(?:\([^)]*\))? )?(?:struct|enum) (\w+)')
 FUNCTION = re.compile(r'( *)(?:pub(?:\([^)]*\))? )?(?:const )?fn (\w+)')
 LAW = re.compile(r'    ghost (\w+)(?: =|:)')
 CLAUSE = re.compile(r'ensures(?: (\w+))? \{')
@@ -55,12 +56,12 @@ class Call:
 
 
 class Crate:
-    """A crate of the repository: its calls, and the laws and implementations of its types."""
+    """A crate of the repository: its calls, its types, and their laws and implementations."""
 
     def __init__(self, name):
         self.name = name
         self.folder = ROOT / 'crates' / name
-        self.calls, self.impls, self.laws = [], set(), set()
+        self.calls, self.types, self.impls, self.laws = [], set(), set(), set()
         for path in sorted((self.folder / 'src').rglob('*.rt')):
             self.read(path)
 
@@ -75,6 +76,10 @@ class Crate:
                     self.impls.add(f'{owner.trait} for {owner.name}')
             if line.startswith('}') or (line.startswith('impl') and line.endswith('{}')):
                 owner = None
+            if made := TYPE.match(line):
+                derived = re.findall(r'\w+', ' '.join(attributes(lines[: number - 1])))
+                self.types.add(made[1])
+                self.impls |= {f'{trait} for {made[1]}' for trait in derived}
             law = LAW.match(line)
             if owner and law:
                 self.laws.add((owner.name, law[1]))
