@@ -270,16 +270,18 @@ fn a_list_in_which_nobody_waits_any_more_keeps_a_few_kilobytes() {
 }
 
 #[test]
-fn a_list_in_which_one_of_many_still_waits_holds_little() {
+fn a_list_grows_seldom_and_holds_little_if_one_of_many_still_waits() {
     const WAITS: usize = 200_000;
     let (_s, r) = unbounded::<u64>();
     let waker = Waker::from(Count::new());
     for stays in [0, WAITS / 2, WAITS - 1] {
         let before = taken().0;
         let mut waiting: Vec<_> = (0..WAITS).map(|_| Box::pin(r.recv())).collect();
+        let asked = taken().1;
         for wait in &mut waiting {
             assert!(poll_with(wait, &waker).is_pending());
         }
+        assert!((1..=WAITS / 400).contains(&(taken().1 - asked)));
         assert!(taken().0 - before >= 16 * WAITS as isize);
         let stays = waiting.swap_remove(stays);
         drop(waiting);
