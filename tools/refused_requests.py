@@ -9,7 +9,7 @@ make, test_channel also those of batches, and what no script says; chanrun those
 that it is told to. It stands in front of each call of the C library that gives memory.
 
 Each row is made once with all memory, and must write and end with what it is to. Then it is made
-again for each request, and that one request is refused. Four things may come of that:
+again for each request, and that one request is refused. Five things may come of that:
 
 - unchanged: it writes and ends with the same, since it goes on without that memory.
 - again: it writes the same, and ends with status 1 and the line that a call was refused memory, and
@@ -18,14 +18,16 @@ again for each request, and that one request is refused. Four things may come of
   have moved a part before, and is made again for the rest.
 - ended: it writes a beginning of the same, and ends with status 1 and the line that there is no
   memory. chanrun ends like this; the other one if it is its own memory, and no call's.
+- unstarted: it writes a beginning of the same, and ends with status 1 and the line that a map's
+  worker couldn't be started. It has mapped again by then, and well.
 - different: anything else, which is a fault. So is memory that isn't given back at the end.
 
 A line is printed for each row, with how many of its requests came to each. Of the longest scripts
 the first and the last requests are refused. The status is 0 if nothing differed, each row asked for
 memory, and as many of its requests came to each as are stored. What is stored is what the programs
-did: it is written anew if a row comes or goes, or if one is meant to make other requests. Of maps
-and of blocked calls nothing is stored, since their threads make other requests each time: a call of
-each has to be made again.
+did: it is written anew if a row comes or goes, or if one is meant to make other requests. The
+threads of maps and of blocked calls make other requests each time. So a call of each has to be made
+again, and of a map only the first request is stored without which a worker isn't started.
 """
 
 import os
@@ -50,6 +52,7 @@ SECONDS = 60
 # What a thread has of its own goes back when it ends, and isn't kept for the next one.
 TUNED = {**os.environ, "GLIBC_TUNABLES": "glibc.pthread.stack_cache_size=0"}
 AGAIN = (1, b"a call was refused memory, and made again\n")
+UNSTARTED = (1, b"Error: a worker couldn't be started\n")
 WITHOUT_MEMORY = [
     (1, line)
     for line in (
@@ -90,6 +93,8 @@ class Row:
             return "unchanged"
         if (output, ending) == (self.output, AGAIN):
             return "again"
+        if self.is_by_threads and ending == UNSTARTED and self.output.startswith(output):
+            return "unstarted"
         if ending in WITHOUT_MEMORY and self.output.startswith(output):
             return "ended"
         return "different"
@@ -217,10 +222,18 @@ def numbered(rows):
 
 
 def text_of(made, outcomes):
-    """What is stored of a row."""
+    """What is printed of a row, and stored if no other threads make its requests."""
     came = Counter(outcomes.values())
-    parts = [f"{came[it]} {it}" for it in ("again", "ended", "unchanged")]
-    return f"{made} requests, {', '.join(parts)}"
+    kinds = ["again", "ended", "unchanged", *{"unstarted"} & came.keys()]
+    return f"{made} requests, {', '.join(f'{came[it]} {it}' for it in kinds)}"
+
+
+def stored_text(row, text, outcomes):
+    """What is stored of a row, or None."""
+    if not row.is_by_threads:
+        return text
+    unstarted = [number for number, what in outcomes.items() if what == "unstarted"]
+    return f"a worker is asked for at request {min(unstarted)}" if unstarted else None
 
 
 def faults_of(row, outcomes):
@@ -258,8 +271,8 @@ def main():
             total.update(outcomes.values())
             text = text_of(made, outcomes)
             print(f"refused: {row}: {text}")
-            if not row.is_by_threads:
-                now[str(row)] = text
+            if kept := stored_text(row, text, outcomes):
+                now[str(row)] = kept
             faults += faults_of(row, outcomes)
     if is_written:
         STORED.write_text(as_lines(f"{name}: {text}" for name, text in now.items()), "utf-8")

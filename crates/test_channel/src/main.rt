@@ -4,9 +4,10 @@
 //! was woken.
 //!
 //! The arguments are how many random scripts to make, the seed of the first one, and the files
-//! whose rows are made first. Behind random scripts it makes the rows that no script has; with one
-//! argument, the row of that name; with none, these rows. A call that is refused memory is made
-//! again, if it changed nothing; the program doesn't end well then.
+//! whose rows are made first. What follows the seed and a `+`, as in `1+ / bounded 7`, ends the
+//! first line of each random script. Behind random scripts it makes the rows that no script has;
+//! with one argument, the row of that name; with none, these rows. A call that is refused memory is
+//! made again, if it changed nothing; the program doesn't end well then.
 #![tactic(auto)]
 
 mod answer;
@@ -59,13 +60,13 @@ impl Sums {
 }
 
 /// Makes random scripts up to the first one that differs, which is printed.
-fn compare<R>(rt: &R, count: u64, seed: u64) -> Result<Sums>
+fn compare<R>(rt: &R, count: u64, seed: u64, end: &str) -> Result<Sums>
 where
     R: Wait + Clone + Drop + RandomSource + AllocGlobal + Print,
 {
     let mut sums = Sums::default();
     for number in 0..count {
-        let text = script_of(rt.alloc(), seed.wrapping_add(number))?;
+        let text = script_of(rt.alloc(), seed.wrapping_add(number), end)?;
         let script: Vec<&str> = text.lines().collect(rt.alloc())?;
         sums.scripts = sums.scripts.saturating_add(1);
         if differs(rt, script.as_slice(), &mut sums)? {
@@ -114,7 +115,8 @@ fn main(rt: HostRuntime) -> Result<ExitCode> {
         let was_refused = others::make(&rt, first.as_deref())?;
         return ending(&rt, true, was_refused);
     };
-    let (count, seed) = (number_of(count.as_str())?, number_of(seed.as_str())?);
+    let (seed, end) = seed.as_str().split_once('+').unwrap_or((seed.as_str(), ""));
+    let (count, seed) = (number_of(count.as_str())?, number_of(seed)?);
     let files: Vec<String> = words.collect(rt.alloc())?;
     let rows = rows_of(&rt, files.as_slice())?;
     println!(rt;
@@ -124,11 +126,14 @@ fn main(rt: HostRuntime) -> Result<ExitCode> {
     if count == 0 || (!files.is_empty() && !rows.is_good()) {
         return ending(&rt, rows.is_good(), rows.was_refused);
     }
-    let random = compare(&rt, count, seed)?;
+    let random = compare(&rt, count, seed, end)?;
     println!(rt;
         "{} random scripts, {} lines, {} differences",
         random.scripts, random.lines, random.differences
     )?;
-    let was_refused = others::make(&rt, None)? || rows.was_refused || random.was_refused;
+    let mut was_refused = rows.was_refused || random.was_refused;
+    if random.is_good() {
+        was_refused |= others::make(&rt, None)?;
+    }
     ending(&rt, random.is_good(), was_refused)
 }

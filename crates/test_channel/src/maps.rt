@@ -1,5 +1,5 @@
-//! Maps by threads. Which thread is refused memory depends on how they run, so that each of the
-//! errors that are for it may be answered.
+//! Maps by threads. Which thread is refused memory depends on how they run. The requests before the
+//! first worker is asked for are always the same.
 ghost use Rattle.std.specs.Prelude.{◌*◌, ◌%◌, ◌^◌};
 
 use anyhow::{Result, anyhow};
@@ -34,20 +34,27 @@ where
     }
 }
 
-/// Maps, and again if memory was refused. The answer is how often it was.
+/// Fails if there are no answers, or others.
+fn judged(outcome: std::result::Result<Vec<u64>, MapError>) -> Result<()> {
+    if outcome?.as_slice() != [9, 16, 25, 36, 49].as_slice() {
+        return Err(anyhow!("other answers"));
+    }
+    Ok(())
+}
+
+/// Maps, and again if that is refused. The answer is how often it was for want of memory. Any
+/// other error fails, also if the second map goes well.
 pub fn map<R>(rt: &R, is_by_chunks: bool, workers: usize) -> Result<usize>
 where
     R: Wait + Threads + Clone + Drop + Send + Sync + AllocGlobal,
 {
-    let (answers, again) = match mapped(rt, is_by_chunks, workers) {
-        Ok(answers) => (answers, 0),
-        Err(MapError::OutOfMemory | MapError::NoThread) => {
-            (mapped(rt, is_by_chunks, workers)?, 1)
-        }
-        Err(error) => return Err(anyhow!("{error}")),
+    let refused = match mapped(rt, is_by_chunks, workers) {
+        Err(error) => error,
+        answers => return judged(answers).map(|()| 0),
     };
-    if answers.as_slice() != [9, 16, 25, 36, 49].as_slice() {
-        return Err(anyhow!("other answers"));
+    judged(mapped(rt, is_by_chunks, workers))?;
+    if refused != MapError::OutOfMemory {
+        return Err(anyhow!("{refused}"));
     }
-    Ok(again)
+    Ok(1)
 }

@@ -1,4 +1,10 @@
 //! One script, made by a channel and by a run.
+//!
+//! A line that has a `/` in it is wrong on purpose: the run makes what stands before it, and the
+//! channel what stands behind.
+ghost use Rattle.std.specs.Prelude.{IfOk};
+ghost use Rattle.channel_model.specs.Capacity.{HasPositiveCapacity};
+
 use crate::Sums;
 use crate::answer::Answer;
 use crate::handles::{Handles, Waiting};
@@ -8,7 +14,7 @@ use crate::refused::{rest_of, wants_memory};
 use anyhow::{Result, anyhow};
 use async_channel::Group;
 use async_channel::inspect::Waiters;
-use channel_model::{Notice, Reply, Side, Step};
+use channel_model::{Kind, Notice, Reply, Side, Step};
 use chanrun::grammar::kind_of;
 use chanrun::reply_text::{ReplyText, WhoText};
 use std::alloc::{AllocGlobal, Global};
@@ -53,25 +59,37 @@ fn questions(side: Side) -> [Step<u64>; 7] {
     ]
 }
 
+/// Which channel a line makes.
+fn channel_of(alloc: Global, line: &str) -> Result<Kind>
+    ensures { IfOk result HasPositiveCapacity }
+{
+    match kind_of(alloc, line.as_bytes())? {
+        Ok(kind) => Ok(kind),
+        Err(_) => Err(anyhow!("{line}: no channel")),
+    }
+}
+
 impl<'a, R: Wait + Clone + Drop + RandomSource + AllocGlobal> Pair<'a, R> {
     /// The channel that a script's first line makes.
     pub fn new(rt: &'a R, line: &str) -> Result<Pair<'a, R>> {
-        let Ok(kind) = kind_of(rt.alloc(), line.as_bytes())? else {
-            return Err(anyhow!("{line}: no channel"));
-        };
+        let (of_run, of_channel) = line.split_once('/').unwrap_or((line, line));
         Ok(Pair {
             alloc: rt.alloc(),
-            judge: Judge::new(rt.alloc(), kind)?,
-            handles: Handles::new(rt, kind)?,
+            judge: Judge::new(rt.alloc(), channel_of(rt.alloc(), of_run.trim())?)?,
+            handles: Handles::new(rt, channel_of(rt.alloc(), of_channel.trim())?)?,
             was_refused: false,
         })
     }
 
     /// Makes a line with both, and compares.
     pub fn make(&mut self, text: &str) -> Result<Made> {
-        let made = match line_of(self.alloc, text)? {
+        let (of_run, of_channel) = text.split_once('/').unwrap_or((text, text));
+        let made = match line_of(self.alloc, of_run.trim())? {
             Line::Settle => self.settle()?,
-            line => self.make_once(text, line)?,
+            line => {
+                let expected = self.judge.make(line)?;
+                self.compare(of_channel.trim(), expected)?
+            }
         };
         if let Made::Answered(answer) = &made
             && answer.is_made()
@@ -82,8 +100,9 @@ impl<'a, R: Wait + Clone + Drop + RandomSource + AllocGlobal> Pair<'a, R> {
         Ok(made)
     }
 
-    fn make_once(&mut self, text: &str, line: Line) -> Result<Made> {
-        let expected = self.judge.make(line)?;
+    /// Makes a line with the channel, and compares its answer.
+    fn compare(&mut self, text: &str, expected: Answer) -> Result<Made> {
+        let line = line_of(self.alloc, text)?;
         if !expected.is_made() || matches!(&expected, Answer::Noticed(_)) {
             return Ok(Made::Answered(expected));
         }

@@ -36,8 +36,8 @@ struct Writer {
     message: u64,
 }
 
-/// A script of some lines.
-pub fn script_of(alloc: Global, seed: u64) -> Result<String, AllocError> {
+/// A script of some lines, the first of which has this end.
+pub fn script_of(alloc: Global, seed: u64, end: &str) -> Result<String, AllocError> {
     let mut draw = Draw::new(seed);
     let capacity = match draw.below(8) {
         0 | 1 => None,
@@ -54,8 +54,8 @@ pub fn script_of(alloc: Global, seed: u64) -> Result<String, AllocError> {
         message: 0,
     };
     match capacity {
-        Some(capacity) => writeln!(writer.text, "bounded {capacity}")?,
-        None => writeln!(writer.text, "unbounded")?,
+        Some(capacity) => writeln!(writer.text, "bounded {capacity}{end}")?,
+        None => writeln!(writer.text, "unbounded{end}")?,
     }
     if capacity == Some(PLACES) && writer.draw.one_in(4) {
         writer.add_crowd()?;
