@@ -8,11 +8,14 @@ text with the change, or None if it has no place there. The libraries are those 
 One copy of the crate has many changes, and one run tries them. Each stands in a copy of its
 function, so that whatever a function calls is right. `main` and a trait's method can have no copy,
 and are changed themselves. A change is refused if a goal in its lines isn't proved. A run leaves it
-open if its function is only said to call one that isn't proved, or if stored answers, which cite
-the text of their function, don't fit. Those of the latter kind are tried again in the same copy
-without their answers, and whatever is open then by itself. If all goals that aren't proved without
-its answers are those that had one, `breaks_a_proof` is set: the prover may find none for a change
-that keeps to the contract, either.
+open if its function is only said to call one that isn't proved, or if nothing is wrong but that
+stored answers, which cite the text of their function, don't fit. Those of the latter kind are tried
+again in the same copy without these answers, and whatever is open then by itself. If all goals that
+aren't proved then are those that had one, `breaks_a_proof` is set: the prover may find none for a
+change that keeps to the contract, either.
+
+A change may have a `clause`. Then its copy ensures that clause alone, and it is refused if a goal
+of that clause isn't proved. So no time goes into the other clauses.
 
 The prover looks a second time for a proof that it could offer of each goal that it did not prove,
 unless an answer of the function has a hole. So a hole is put beside the answers.
@@ -26,8 +29,11 @@ import subprocess
 import sys
 import tempfile
 import threading
+from collections import Counter
 from concurrent.futures import ThreadPoolExecutor
 from pathlib import Path
+
+from fact_checks.sources import CLAUSE, Crate
 
 VERDICT = re.compile(
     r'^fn \w+::(\S+): (proved|not proved|no proof|could not tell)(?:,[^:;]*)?(?:[:;] (.*))?$'
@@ -39,12 +45,16 @@ GOAL = re.compile(
 # How many run side by side, whatever crates they are of.
 TURNS = threading.BoundedSemaphore(len(os.sched_getaffinity(0)))
 # How many changes a copy of a crate has at most, so that no run takes much longer than others.
-MOST = 16
+MOST = 40
 # What may be stored for a function, among the proofs, and where its answers are.
 ANSWERS = 'Answers.antt'
 WHOLE = 'Proof.antt'
 STORED = (ANSWERS, 'Invariants.antt', WHOLE)
 HOLE = '\npub unproved : Unit {0}\nunproved = ?\n'
+# An answer for a goal of another clause than this one, and the name of a goal of this one: of a
+# function's only clause it is the first part alone.
+OTHER = r'^pub returns\S*-clause-(?!%s )\w+ :.*?(?=^pub |\Z)'
+OWN = r'\b(returns[\w-]*)-clause-%s\b'
 
 
 class Refused(Exception):
@@ -56,14 +66,16 @@ class Tried:
 
     # Its function in the sources.
     call = None
+    # The clause that must refuse it, if it is known.
+    clause = None
     # What the name of its copy ends in, if it has one.
     ending = ''
     # Its lines in the file that it was put into.
     lines = range(0)
     # The files of answers that have a hole for it.
     holes = ()
-    # Whether stored answers don't fit it.
-    is_unfit = False
+    # The lines in which a stored answer doesn't fit it.
+    misfits = ()
     # Whether nothing isn't proved but goals that had one of these.
     breaks_a_proof = False
 
@@ -72,16 +84,24 @@ class Tried:
         """The function that has the change, as the prover names its end."""
         return self.function + self.ending
 
+    @property
+    def has_one_clause(self):
+        """Whether it is tried with one clause alone, which only a copy of a function can be."""
+        return bool(self.clause and self.ending)
+
     def changed_lines(self, right):
         """The lines of its function with the change in it."""
         wrong, name = self.written_into(right).split('\n'), self.call.name
         last = self.call.last + len(wrong) - len(right.split('\n'))
-        changed = '\n'.join(wrong[self.call.line - 1 : last])
+        changed = wrong[self.call.line - 1 : last]
+        if self.has_one_clause:
+            changed = with_one_clause(changed, self.clause)
+        changed = '\n'.join(changed)
         return re.sub(rf'\bfn {name}\b', f'fn {name}{self.ending}', changed, count=1).split('\n')
 
     def put_proofs(self, proofs):
         """Gives its copy what is stored for its function."""
-        self.is_unfit, self.holes = False, []
+        self.misfits, self.holes = (), []
         *owner, name = self.function.split('::')
         stored = {it.parent for file in STORED for it in proofs.rglob(f'{name}/{file}')}
         for folder in [it for it in stored if [*it.parts[-1 - len(owner) : -1]] == owner]:
@@ -90,17 +110,42 @@ class Tried:
                 shutil.copytree(folder, changed)
             ends = [f'{folder.parent.name}.{name}{it}.' for it in ('', self.ending)]
             for file in changed.rglob('*.antt'):
-                file.write_text(file.read_text('utf-8').replace(*ends), 'utf-8')
+                text = file.read_text('utf-8').replace(*ends)
+                if self.has_one_clause and file.name == ANSWERS:
+                    text = re.sub(OTHER % self.clause, '', text, flags=re.M | re.S)
+                    text = re.sub(OWN % self.clause, r'\1', text)
+                file.write_text(text, 'utf-8')
             if not (changed / WHOLE).exists():
                 self.holes.append(changed / ANSWERS)
                 with (changed / ANSWERS).open('a', encoding='utf-8') as answers:
                     answers.write(HOLE)
 
+    def drop_misfits(self):
+        """Takes the answers that don't fit from what is stored for its copy, or all if what they
+        cite isn't there."""
+        for file in self.holes:
+            kept, at = [], 1
+            for part in re.split(r'^(?=pub )', file.read_text('utf-8'), flags=re.M):
+                after = at + part.count('\n')
+                if self.misfits.isdisjoint(range(at, after)):
+                    kept.append(part)
+                at = after
+            is_whole = kept and not kept[0].startswith('pub ')
+            file.write_text(''.join(kept) if is_whole else HOLE, 'utf-8')
+
+    def answered(self, path):
+        """The goals, as it has them, that have an answer in this file."""
+        names = re.findall(r'^pub ([\w-]+) :', path.read_text('utf-8'), re.M)
+        return {re.sub(OWN % self.clause, r'\1', it) if self.has_one_clause else it for it in names}
+
     def unproved(self, said):
         """Its goals that were not proved."""
+        named = f'returns.*-clause-{self.clause}' if self.clause else '.*'
+        of_clause = re.compile('returns.*' if self.has_one_clause else named)
         return {
             goal for file, line, goal in GOAL.findall(said)
             if not self.is_local or (Path(file) == Path(self.file) and int(line) in self.lines)
+            if of_clause.fullmatch(goal)
         }
 
 
@@ -112,6 +157,19 @@ def toolchain():
     loader.exec_module(module)
     module.rtlib.guarded()  # its first call sets a signal's handler, which only the main thread may
     return module.rtlib
+
+
+def with_one_clause(lines, clause):
+    """The lines of a function that ensures nothing but this clause."""
+    end = next(at for at, line in enumerate(lines) if line.strip() == '{')
+    depth, kept = 0, []
+    for line in lines[:end]:
+        begins = CLAUSE.match(line.strip()) if not depth else None
+        is_other = begins[1] != clause if begins else depth and is_other
+        depth += line.count('{') - line.count('}')
+        if not is_other:
+            kept.append(line)
+    return kept + lines[end:]
 
 
 def text_with(changes, right):
@@ -127,38 +185,48 @@ def text_with(changes, right):
     return '\n'.join(written + lines[at:])
 
 
-def round_of(changes):
-    """As many of the changes as one copy of the crate can have."""
+def round_of(changes, most):
+    """As many of the changes as one copy of the crate can have, but at most so many."""
     taken = {}
     for change in changes:
-        if change.tried not in taken and len(taken) < MOST:
+        if change.tried not in taken and len(taken) < most:
             taken[change.tried] = change
     return [*taken.values()]
 
 
 def rounds_of(changes):
-    """Rounds that try each of the changes once. What changes anything outside of its function is
-    tried by itself."""
+    """Rounds of much the same length that try each of the changes once. What changes anything
+    outside of its function is tried by itself."""
     together = [it for it in changes if it.is_local]
+    often = Counter(it.tried for it in together)
+    together.sort(key=lambda it: -often[it.tried])
+    count = max(-(-len(together) // MOST), *often.values(), 1)
     while together:
-        taken = round_of(together)
+        taken = round_of(together, -(-len(together) // count))
         yield taken
-        together = [it for it in together if it not in taken]
+        together, count = [it for it in together if it not in taken], max(count - 1, 1)
     yield from ([it] for it in changes if not it.is_local)
 
 
-def answered(path):
-    """The goals that have an answer in this file."""
-    return {*re.findall(r'^pub ([\w-]+) :', path.read_text('utf-8'), re.M)}
+def called_by(changes, crate):
+    """The functions of a crate, as the prover names them, whose names are called in the functions
+    of these changes. It may be more than are."""
+    names = set()
+    for call in (it.call for it in changes):
+        lines = call.path.read_text('utf-8').split('\n')[call.line - 1 : call.last]
+        body = re.sub(r'\bfn \w+', '', '\n'.join(lines))
+        names |= {*re.findall(r'\b(\w+)(?:::<.*?>)?\(', body)}
+    own = [it for it in crate.calls if not it.trait and it.owner in ('', *crate.types)]
+    return sorted({it.path_in_proofs() for it in own if it.name in names})
 
 
 class Trial:
-    """A crate whose changes are tried, in a folder. The first run is alone; what it kept serves the
-    others."""
+    """A crate whose changes are tried, in a folder. What the functions that are changed call is
+    proved once, and kept for all runs."""
 
     def __init__(self, crate, room, rtlib):
         self.crate, self.room, self.rtlib = crate, room, rtlib
-        self.folder, self.kept, self.first = Path(crate.folder), room / 'kept', threading.Lock()
+        self.folder, self.kept = Path(crate.folder), room / 'kept'
 
     def copy_with(self, changes):
         """A copy of the crate with the changes in it."""
@@ -173,37 +241,34 @@ class Trial:
             change.put_proofs(copy / 'proofs')
         return copy
 
-    def begun(self, copy, changes):
-        """What the first run says, or None if there was one."""
-        with self.first:
-            if self.kept.exists():
-                return None
-            self.kept.mkdir()
-            return self.said_of(copy, changes, self.kept)
+    def prove_called(self, rounds):
+        """Proves what the functions of these rounds call, if there is more than one round."""
+        self.kept.mkdir()
+        called = called_by([it for changes in rounds for it in changes], Crate(self.crate.name))
+        if len(rounds) > 1 and called:
+            self.said_of(self.copy_with([]), called, self.kept)
 
     def said(self, copy, changes):
         """What the prover says of the functions of these changes in a copy."""
-        said = self.begun(copy, changes)
-        if said is None:
-            kept = self.kept.with_name(f'kept-{copy.name}')
-            if not kept.exists():
-                # A run replaces files, and changes none.
-                shutil.copytree(self.kept, kept, copy_function=os.link)
-            said = self.said_of(copy, changes, kept)
-        if not re.search(r'^only=\d+ proved=\d+', said, re.M):
-            raise Refused(said[-2000:])
-        return said
+        kept = self.kept.with_name(f'kept-{copy.name}')
+        if not kept.exists():
+            # A run replaces files, and changes none.
+            shutil.copytree(self.kept, kept, copy_function=os.link)
+        return self.said_of(copy, [it.tried for it in changes], kept)
 
-    def said_of(self, copy, changes, kept):
-        """The same, of a run over what is kept there."""
-        flags = ['--jobs', '1', *(word for it in changes for word in ('--only', it.tried))]
+    def said_of(self, copy, functions, kept):
+        """What the prover says of these functions in a copy, over what is kept there."""
+        flags = ['--jobs', '1', *(word for it in functions for word in ('--only', it))]
         words = [*self.crate.words(flags, keeps=False), '--incremental', str(kept)]
         with TURNS:
-            return subprocess.run(
+            said = subprocess.run(
                 [*self.rtlib.guarded(), self.rtlib.RATTLE, 'check', *words],
                 cwd=copy, stdin=subprocess.DEVNULL, stdout=subprocess.PIPE,
                 stderr=subprocess.STDOUT, text=True, errors='replace',
             ).stdout
+        if not re.search(r'^only=\d+ proved=\d+', said, re.M):
+            raise Refused(said[-2000:])
+        return said
 
     def outcome(self, change, said, is_alone):
         """Whether the change was proved, or None if that is open."""
@@ -213,18 +278,18 @@ class Trial:
             raise Refused(f'{change.function} is no name of one function')
         name, verdict, why = mine[0].groups()
         stored = f'proofs/{name.replace("::", "/")}'
-        is_misfit = re.search(rf'^\./{re.escape(stored)}/{ANSWERS}:.*: error', said, re.M)
-        if is_misfit and not change.is_unfit:
-            change.is_unfit = True
-            return None
+        misfits = re.findall(rf'^\./{re.escape(stored)}/{ANSWERS}:(\d+):.*: error', said, re.M)
         unproved = change.unproved(said)
+        if misfits and not unproved and not change.misfits:
+            change.misfits = {*map(int, misfits)}
+            return None
         if verdict == 'proved' or (verdict == 'not proved' and not why and not unproved):
             return True
         if verdict == 'could not tell' and is_alone:
             raise Refused('the prover could not tell')
-        if change.is_unfit:
+        if change.misfits:
             right = self.folder / stored.removesuffix(change.ending) / ANSWERS
-            change.breaks_a_proof = unproved <= answered(right)
+            change.breaks_a_proof = unproved <= change.answered(right)
         return False if verdict != 'could not tell' and (is_alone or unproved) else None
 
     def outcomes(self, copy, changes, is_alone):
@@ -239,9 +304,9 @@ class Trial:
         try:
             copy = self.copy_with(changes)
             found = self.outcomes(copy, changes, is_alone)
-            unfit = [it for it, outcome in found if it.is_unfit]
-            for answers in [file for it in unfit for file in it.holes]:
-                answers.write_text(HOLE, 'utf-8')
+            unfit = [it for it, outcome in found if it.misfits]
+            for change in unfit:
+                change.drop_misfits()
             found = [it for it in found if it[0] not in unfit]
             found += self.outcomes(copy, unfit, is_alone) if unfit else []
         except Refused as why:
@@ -260,5 +325,7 @@ def tried_in(crate, changes, rtlib):
             change.ending = f'_changed_{number}'
     rounds = [*rounds_of(changes)]
     with tempfile.TemporaryDirectory() as room, ThreadPoolExecutor(len(rounds)) as pool:
-        for tried in pool.map(Trial(crate, Path(room), rtlib).tried, rounds):
+        trial = Trial(crate, Path(room), rtlib)
+        trial.prove_called(rounds)
+        for tried in pool.map(trial.tried, rounds):
             yield from tried
