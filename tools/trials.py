@@ -242,10 +242,10 @@ class Trial:
         return copy
 
     def prove_called(self, rounds):
-        """Proves what the functions of these rounds call, if there is more than one round."""
+        """Proves what the functions of these rounds call. It doesn't pay for one round or two."""
         self.kept.mkdir()
         called = called_by([it for changes in rounds for it in changes], Crate(self.crate.name))
-        if len(rounds) > 1 and called:
+        if len(rounds) > 2 and called:
             self.said_of(self.copy_with([]), called, self.kept)
 
     def said(self, copy, changes):
