@@ -221,8 +221,8 @@ def called_by(changes, crate):
 
 
 class Trial:
-    """A crate whose changes are tried, in a folder. What the functions that are changed call is
-    proved once, and kept for all runs."""
+    """A crate whose changes are tried, in a folder. If there are many, what their functions call is
+    proved first, and kept for all runs."""
 
     def __init__(self, crate, room, rtlib):
         self.crate, self.room, self.rtlib = crate, room, rtlib
