@@ -6,13 +6,17 @@ text with the change, or None if it has no place there. The libraries are those 
 `rt check` built.
 
 One copy of the crate has many changes, and one run tries them. Each stands in a copy of its
-function, so that whatever a function calls is right. `main` and a trait's method can have no copy,
-and are changed themselves. A change is refused if a goal in its lines isn't proved. A run leaves it
-open if its function is only said to call one that isn't proved, or if nothing is wrong but that
-stored answers, which cite the text of their function, don't fit. Those of the latter kind are tried
-again in the same copy without these answers, and whatever is open then by itself. If all goals that
-aren't proved then are those that had one, `breaks_a_proof` is set: the prover may find none for a
-change that keeps to the contract, either.
+function. `main` and a trait's method can have no copy, and are changed themselves. Nearly every
+other function has a body there that keeps any contract, as it calls what is assumed never to
+return. A proof can't look into what is called. So a change is tried against contracts, and nothing
+that is right is proved again.
+
+A change is refused if a goal in its lines isn't proved. A run leaves it open if its function is
+only said to call one that isn't proved, or if nothing is wrong but that stored answers, which cite
+the text of their function, don't fit. Those of the latter kind are tried again in the same copy
+without these answers, and whatever is open then by itself. If all goals that aren't proved then are
+those that had one, `breaks_a_proof` is set: the prover may find none for a change that keeps to the
+contract, either.
 
 A change may have a `clause`. Then its copy ensures that clause alone, and it is refused if a goal
 of that clause isn't proved. So no time goes into the other clauses.
@@ -33,7 +37,7 @@ from collections import Counter
 from concurrent.futures import ThreadPoolExecutor
 from pathlib import Path
 
-from fact_checks.sources import CLAUSE, Crate
+from fact_checks.sources import CLAUSE, ROOTS, Crate
 
 VERDICT = re.compile(
     r'^fn \w+::(\S+): (proved|not proved|no proof|could not tell)(?:,[^:;]*)?(?:[:;] (.*))?$'
@@ -51,6 +55,13 @@ ANSWERS = 'Answers.antt'
 WHOLE = 'Proof.antt'
 STORED = (ANSWERS, 'Invariants.antt', WHOLE)
 HOLE = '\npub unproved : Unit {0}\nunproved = ?\n'
+# A module whose function is assumed never to return, and the body that calls it. Other traits'
+# methods keep theirs, and so do some functions.
+SOURCE = 'src/never.rt'
+NEVER = 'unsafe extern "C" {\n    pub safe fn never()\n        ensures { ⊥ };\n}\n'
+BODY = 'crate::never::never(); unreachable!()'
+POLLED = (None, 'Future', 'Stream')
+KEEPS_ITS_BODY = re.compile(r'\bconst fn\b|-> .*\bimpl\b|\bdecreases\b|#\[(cycle|test)\b')
 # An answer for a goal of another clause than this one, and the name of a goal of this one: of a
 # function's only clause it is the first part alone.
 OTHER = r'^pub returns\S*-clause-(?!%s )\w+ :.*?(?=^pub |\Z)'
@@ -102,9 +113,8 @@ class Tried:
     def put_proofs(self, proofs):
         """Gives its copy what is stored for its function."""
         self.misfits, self.holes = (), []
-        *owner, name = self.function.split('::')
-        stored = {it.parent for file in STORED for it in proofs.rglob(f'{name}/{file}')}
-        for folder in [it for it in stored if [*it.parts[-1 - len(owner) : -1]] == owner]:
+        name = self.call.name
+        for folder in stored_for(self.function, proofs):
             changed = folder.with_name(name + self.ending)
             if self.ending:
                 shutil.copytree(folder, changed)
@@ -159,6 +169,13 @@ def toolchain():
     return module.rtlib
 
 
+def stored_for(function, proofs):
+    """The folders of what is stored for a function, whose name ends so."""
+    *owner, name = function.split('::')
+    stored = {it.parent for file in STORED for it in proofs.rglob(f'{name}/{file}')}
+    return [it for it in stored if [*it.parts[-1 - len(owner) : -1]] == owner]
+
+
 def with_one_clause(lines, clause):
     """The lines of a function that ensures nothing but this clause."""
     end = next(at for at, line in enumerate(lines) if line.strip() == '{')
@@ -172,11 +189,30 @@ def with_one_clause(lines, clause):
     return kept + lines[end:]
 
 
-def text_with(changes, right):
-    """The text of a file with these changes in it, each of which is told its lines there."""
-    if not changes[0].is_local:
-        return changes[0].written_into(right)
-    lines, written, at = right.split('\n'), [], 0
+def body_of(lines):
+    """The lines of a function's body, or none if it is empty or has to stay."""
+    indent = len(lines[0]) - len(lines[0].lstrip())
+    ends = (at for at, line in enumerate(lines) if line[indent:].endswith(('{', '}', ';'))
+            and not line[indent:].startswith(' '))
+    begin = next(ends)
+    stays = not lines[begin].endswith('{') or KEEPS_ITS_BODY.search(' '.join(lines[: begin + 1]))
+    return range(0) if stays else range(begin + 1, len(lines) - 1)
+
+
+def without_bodies(text, calls):
+    """The text of a file in which these functions have the body that keeps any contract, on as many
+    lines."""
+    lines = text.split('\n')
+    for call in calls:
+        for at in body_of(lines[call.line - 1 : call.last]):
+            lines[call.line - 1 + at] = BODY if lines[call.line - 2 + at].endswith('{') else ''
+    return '\n'.join(lines)
+
+
+def text_with(changes, right, rest):
+    """The text of a file with these changes in it, each of which is told its lines there, where the
+    rest is as given."""
+    lines, written, at = rest.split('\n'), [], 0
     for change in sorted(changes, key=lambda it: it.call.last):
         changed = change.changed_lines(right)
         written += lines[at : change.call.last if change.ending else change.call.line - 1]
@@ -208,58 +244,65 @@ def rounds_of(changes):
     yield from ([it] for it in changes if not it.is_local)
 
 
-def called_by(changes, crate):
-    """The functions of a crate, as the prover names them, whose names are called in the functions
-    of these changes. It may be more than are."""
-    names = set()
-    for call in (it.call for it in changes):
-        lines = call.path.read_text('utf-8').split('\n')[call.line - 1 : call.last]
-        body = re.sub(r'\bfn \w+', '', '\n'.join(lines))
-        names |= {*re.findall(r'\b(\w+)(?:::<.*?>)?\(', body)}
-    own = [it for it in crate.calls if not it.trait and it.owner in ('', *crate.types)]
-    return sorted({it.path_in_proofs() for it in own if it.name in names})
-
-
 class Trial:
-    """A crate whose changes are tried, in a folder. If there are many, what their functions call is
-    proved first, and kept for all runs."""
+    """A crate whose changes are tried, in a folder."""
 
     def __init__(self, crate, room, rtlib):
         self.crate, self.room, self.rtlib = crate, room, rtlib
-        self.folder, self.kept = Path(crate.folder), room / 'kept'
+        self.folder, self.sources = Path(crate.folder), Crate(crate.name)
+
+    def without_bodies(self, copy, changed):
+        """Gives a copy's functions but these the body that keeps any contract."""
+        types = ('', *self.sources.types)
+        others = [it for it in self.sources.calls if it.trait in POLLED and it.owner in types
+                  and it.name != 'main' and it not in changed]
+        for path in {it.path for it in others}:
+            text = path.read_text('utf-8')
+            calls = [it for it in others if it.path == path]
+            bare = without_bodies(text, calls)
+            (copy / path.relative_to(self.folder)).write_text(bare, 'utf-8')
+            for call in calls:
+                if body_of(text.split('\n')[call.line - 1 : call.last]):
+                    self.drop_stored(call, copy / 'proofs')
+        root = next(it for name in ROOTS if (it := copy / f'src/{name}.rt').exists())
+        root.write_text(f'{root.read_text("utf-8")}\nmod never;\n', 'utf-8')
+        (copy / SOURCE).write_text(NEVER, 'utf-8')
+
+    def drop_stored(self, call, proofs):
+        """Takes out what is stored for a function that has no body of its own any more."""
+        name = call.path_in_proofs()
+        for folder in stored_for(name, proofs):
+            if call.owner or folder.relative_to(proofs).parts == (*name.split('::'),):
+                shutil.rmtree(folder)
 
     def copy_with(self, changes):
         """A copy of the crate with the changes in it."""
         copy = Path(tempfile.mkdtemp(prefix='edits-', dir=self.room))
         for part in filter(lambda it: (self.folder / it).is_dir(), self.rtlib.PARTS):
             shutil.copytree(self.folder / part, copy / part)
-        for file in {it.file for it in changes}:
-            mine = [it for it in changes if it.file == file]
-            text = text_with(mine, (self.folder / file).read_text('utf-8'))
-            (copy / file).write_text(text, 'utf-8')
         for change in changes:
             change.put_proofs(copy / 'proofs')
+        if changes[0].is_local:
+            self.without_bodies(copy, [it.call for it in changes if not it.ending])
+        for file in {it.file for it in changes}:
+            mine = [it for it in changes if it.file == file]
+            right = (self.folder / file).read_text('utf-8')
+            rest = (copy / file).read_text('utf-8')
+            is_local = mine[0].is_local
+            text = text_with(mine, right, rest) if is_local else mine[0].written_into(right)
+            (copy / file).write_text(text, 'utf-8')
         return copy
 
-    def prove_called(self, rounds):
-        """Proves what the functions of these rounds call. It doesn't pay for one round or two."""
-        self.kept.mkdir()
-        called = called_by([it for changes in rounds for it in changes], Crate(self.crate.name))
-        if len(rounds) > 2 and called:
-            self.said_of(self.copy_with([]), called, self.kept)
-
     def said(self, copy, changes):
-        """What the prover says of the functions of these changes in a copy."""
-        kept = self.kept.with_name(f'kept-{copy.name}')
-        if not kept.exists():
-            # A run replaces files, and changes none.
-            shutil.copytree(self.kept, kept, copy_function=os.link)
-        return self.said_of(copy, [it.tried for it in changes], kept)
-
-    def said_of(self, copy, functions, kept):
-        """What the prover says of these functions in a copy, over what is kept there."""
-        flags = ['--jobs', '1', *(word for it in functions for word in ('--only', it))]
-        words = [*self.crate.words(flags, keeps=False), '--incremental', str(kept)]
+        """What the prover says of the functions of these changes in a copy. What a run of it proved
+        is kept for the next."""
+        kept = copy.with_name(f'kept-{copy.name}')
+        kept.mkdir(exist_ok=True)
+        only = [word for it in changes for word in ('--only', it.tried)]
+        words = [*self.crate.words(['--jobs', '1', *only], keeps=False), '--incremental', str(kept)]
+        if (copy / SOURCE).exists():
+            # It says what it is linked with.
+            words = [f'{it}c' if it == f'{self.crate.name}=' else it for it in words]
         with TURNS:
             said = subprocess.run(
                 [*self.rtlib.guarded(), self.rtlib.RATTLE, 'check', *words],
@@ -287,6 +330,8 @@ class Trial:
             return True
         if verdict == 'could not tell' and is_alone:
             raise Refused('the prover could not tell')
+        if is_alone and not unproved and why and why.startswith('it calls'):
+            raise Refused(why)
         if change.misfits:
             right = self.folder / stored.removesuffix(change.ending) / ANSWERS
             change.breaks_a_proof = unproved <= change.answered(right)
@@ -326,6 +371,5 @@ def tried_in(crate, changes, rtlib):
     rounds = [*rounds_of(changes)]
     with tempfile.TemporaryDirectory() as room, ThreadPoolExecutor(len(rounds)) as pool:
         trial = Trial(crate, Path(room), rtlib)
-        trial.prove_called(rounds)
         for tried in pool.map(trial.tried, rounds):
             yield from tried
