@@ -34,7 +34,11 @@ pub struct Answer {
 }
 
 /// A number, and the way back for its answer.
-type Request<R> = (u64, Sender<Answer, R>);
+#[derive(Drop)]
+pub struct Request<R: Wait + Clone + Drop> {
+    number: u64,
+    reply: Sender<Answer, R>,
+}
 
 /// The next request. There is none once the server was stopped and has answered what it had.
 fn next<'a, R: Wait + Clone + Drop + RandomSource + AllocGlobal>(
@@ -59,7 +63,7 @@ fn serve<R: Wait + Clone + Drop + RandomSource + AllocGlobal>(
     stop: Receiver<(), R>,
 ) -> Result<()> {
     for _ in rt.forever() {
-        let Some((number, reply)) = next(rt, &requests, &stop)? else {
+        let Some(Request { number, reply }) = next(rt, &requests, &stop)? else {
             break;
         };
         // Whoever asked may be gone, and then nobody misses the answer.
@@ -79,7 +83,8 @@ fn ask<R: Wait + Clone + Drop + AllocGlobal>(
     ensures { IfOk result (λ answer. IfSome answer (λ ones. ones ≡ count_ones number)) }
 {
     let (reply, answer) = bounded(rt, rt.alloc(), 1, &mut maker.lock(rt))?;
-    if requests.send_blocking((number, reply))?.is_err() {
+    let request = Request { number, reply };
+    if requests.send_blocking(request)?.is_err() {
         return Ok(None);
     }
     let Ok(answer) = answer.recv_blocking()? else {

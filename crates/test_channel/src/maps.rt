@@ -35,7 +35,7 @@ where
 }
 
 /// Fails if there are no answers, or others.
-fn judged(outcome: std::result::Result<Vec<u64>, MapError>) -> Result<()> {
+fn checked(outcome: std::result::Result<Vec<u64>, MapError>) -> Result<()> {
     if outcome?.as_slice() != [9, 16, 25, 36, 49].as_slice() {
         return Err(anyhow!("other answers"));
     }
@@ -50,9 +50,9 @@ where
 {
     let refused = match mapped(rt, is_by_chunks, workers) {
         Err(error) => error,
-        answers => return judged(answers).map(|()| 0),
+        answers => return checked(answers).map(|()| 0),
     };
-    judged(mapped(rt, is_by_chunks, workers))?;
+    checked(mapped(rt, is_by_chunks, workers))?;
     if refused != MapError::OutOfMemory {
         return Err(anyhow!("{refused}"));
     }
