@@ -8,11 +8,11 @@ use mathlib.Core.Option.{some, some-ne-none, some-injective}
 use lib.ListN.{get_elem?}
 use Rattle.atomic_table.proofs.Lists.{at_set, at_snoc}
 use Rattle.ruled_channel.proofs.Views.{Each as All, each_set as all_set}
-use Rattle.ruled_channel.specs.State.{State, new_state}
-use Rattle.ruled_channel.specs.Rule.{Sends, Receives, Closes, Ends, Forks, Merges, Learns}
+use Rattle.ruled_channel.specs.State.{State, new_state, holding, joined}
+use Rattle.ruled_channel.specs.Rule.{Sends, Forces, Receives, Closes, Ends, Forks, Merges, Learns}
 use Rattle.ruled_channel_rules.specs.declared.log.Log.{Log}
 use Rattle.ruled_channel_rules.specs.Merged.{IsMergeOf, HaveArrived, AllArrived}
-use Rattle.ruled_channel_rules.specs.Whole.{log, hub_log, sent, got, has_closed, Knows, IsWhole, more, with_sent, with_got, with_closed, with_end, sender_log, receiver_log, spent_log, together, one_sender_more, one_receiver_more}
+use Rattle.ruled_channel_rules.specs.Whole.{log, hub_log, sent, got, has_closed, Knows, IsWhole, more, with_sent, with_got, with_forced, with_closed, with_end, sender_log, receiver_log, force_sender_log, spent_log, together, one_sender_more, one_receiver_more, one_force_sender_more}
 use Rattle.ruled_channel_rules.proofs.Merging.{grows, joins, trades}
 
 cons-ne-nil : {X : Type 0} (x : X) (xs : List X) → x ∷ xs ≢ []
@@ -58,6 +58,16 @@ module _ {T : Type 0} where
   set_other (x ∷ xs) zero (suc j) a b n = refl
   set_other (x ∷ xs) (suc i) zero a b n = refl
   set_other (x ∷ xs) (suc i) (suc j) a b n = ap (λ (l : List (Log T)). x ∷ l) (set_other xs i j a b (λ e. n (ap suc e)))
+
+  set_twice : (views : List (Log T)) (i : ℕ) (a b : Log T) → set (set views i a) i b ≡ set views i b
+  set_twice [] i a b = refl
+  set_twice (x ∷ xs) zero a b = refl
+  set_twice (x ∷ xs) (suc i) a b = ap (λ (l : List (Log T)). x ∷ l) (set_twice xs i a b)
+
+  at_same : (views : List (Log T)) (i : ℕ) (a b : Log T) → get_elem? views i ≡ some b → get_elem? (set views i a) i ≡ some a
+  at_same [] i a b e = absurd (some-ne-none b (sym e))
+  at_same (x ∷ xs) zero a b e = refl
+  at_same (x ∷ xs) (suc i) a b e = at_same xs i a b e
 
   at_other : (views : List (Log T)) (i j : ℕ) (a b : Log T) → j ≢ i → get_elem? views j ≡ some b → get_elem? (set views i a) j ≡ some b
   at_other [] i j a b n e = e
@@ -144,8 +154,9 @@ module _ {T : Type 0} where
   )
 
   -- the rule after a step by which one view changes
-  pub sends : (pass : ℕ) (v : Log T) (m : T) (xs : List T) (others : List (List T)) → v.sent ≡ xs ∷ others → Sends IsWhole pass v m (λ u x w. w ≡ with_sent u x)
-  sends pass v m xs others is state views place h at =
+  sends_open : (pass : ℕ) (v : Log T) (m : T) (xs : List T) (others : List (List T)) → v.sent ≡ xs ∷ others → (state : State T) (views : List (Log T)) → state.closed ≡ false → IsWhole state views → get_elem? views pass ≡ some v
+      → (w : Log T) × IsWhole (joined m state) (set views pass w) × (w ≡ with_sent v m)
+  sends_open pass v m xs others is state views unclosed h at =
       let w = with_sent v m in
       let r = around sent views pass v at in
       let was : flat_map sent views ≡ r.0 ++ (xs ∷ (others ++ r.1)) = r.2 ∙ ap (λ (l : List (List T)). r.0 ++ (l ++ r.1)) is in
@@ -153,7 +164,7 @@ module _ {T : Type 0} where
       let grown = grows (h.1 ++ state.messages) r.0 xs (others ++ r.1) m (subst (IsMergeOf (h.1 ++ state.messages)) was h.2) in
       let same : flat_map got (set views pass w) ≡ flat_map got views = same_flat got views pass v w at refl in
       let long : length (flat_map sent (set views pass w)) ≡ length (flat_map sent views) = ap (λ (l : List (List T)). length l) now ∙ as_long r.0 (others ++ r.1) _ xs ∙ sym (ap (λ (l : List (List T)). length l) was) in
-      let c = carry state.messages (state.messages ++ m ∷ []) state.closed state.closed h.0 _ (length (flat_map sent (set views pass w))) _ (length (flat_map got (set views pass w))) (λ e. no (sym place.0 ∙ e.0)) long (ap (λ (l : List (List T)). length l) same) in (
+      let c = carry state.messages (state.messages ++ m ∷ []) state.closed state.closed h.0 _ (length (flat_map sent (set views pass w))) _ (length (flat_map got (set views pass w))) (λ e. no (sym unclosed ∙ e.0)) long (ap (λ (l : List (List T)). length l) same) in (
         w,
         (
           h.0,
@@ -165,6 +176,9 @@ module _ {T : Type 0} where
         ),
         refl,
       )
+
+  pub sends : (pass : ℕ) (v : Log T) (m : T) (xs : List T) (others : List (List T)) → v.sent ≡ xs ∷ others → Sends IsWhole pass v m (λ u x w. w ≡ with_sent u x)
+  sends pass v m xs others is state views place h at = sends_open pass v m xs others is state views place.0 h at
 
   pub receives : (pass : ℕ) (v : Log T) (xs : List T) (others : List (List T)) → v.got ≡ xs ∷ others → Receives IsWhole pass v (λ u x w. w ≡ with_got u x)
   receives pass v xs others is m rest state views front h at =
@@ -187,6 +201,16 @@ module _ {T : Type 0} where
         ),
         refl,
       )
+
+  -- a message that displaces another is sent once that is received
+  pub forces : (pass : ℕ) (v : Log T) (m : T) (xs ys : List T) (sents gots : List (List T)) → v.sent ≡ xs ∷ sents → v.got ≡ ys ∷ gots → Forces IsWhole pass v m (λ u d x w. w ≡ with_forced u d x)
+  forces pass v m xs ys sents gots is got = (
+    sends pass v m xs sents is,
+    λ d rest state views full h at.
+        let r = receives pass v ys gots got d rest state views full.1 h at in
+        let s = sends_open pass r.0 m xs sents (ap (λ (x : Log T). x.sent) r.2 ∙ is) (holding rest state) (set views pass r.0) full.0.0 r.1 (at_same views pass r.0 v at) in
+        (s.0, subst (IsWhole (holding (rest ++ m ∷ []) state)) (set_twice views pass r.0 s.0) s.1, s.2 ∙ ap (λ (x : Log T). with_sent x m) r.2),
+  )
 
   -- a view that changes in what it has found alone
   turned : (state : State T) (closed' : Bool) (views : List (Log T)) (pass : ℕ) (v w : Log T) → IsWhole state views → get_elem? views pass ≡ some v
@@ -249,6 +273,9 @@ module _ {T : Type 0} where
 
   pub makes_receiver : (pass : ℕ) (v : Log T) → v.makes ≡ true → Forks IsWhole pass v (one_receiver_more v) (receiver_log false false [])
   makes_receiver pass v makes = parted pass v v.senders (v.receivers + 1) [] ([] ∷ []) makes (omega arith) refl stays joins
+
+  pub makes_force_sender : (pass : ℕ) (v : Log T) → v.makes ≡ true → Forks IsWhole pass v (one_force_sender_more v) (force_sender_log false [] [])
+  makes_force_sender pass v makes = parted pass v (v.senders + 1) (v.receivers + 1) ([] ∷ []) ([] ∷ []) makes refl refl joins joins
 
   pub takes_back : (pass : ℕ) (v : Log T) (other : ℕ) (w : Log T) → Merges IsWhole pass v other w (together v w) spent_log
   takes_back pass v other w state views h at apart at' =

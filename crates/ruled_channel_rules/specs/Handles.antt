@@ -9,7 +9,8 @@ use Rattle.ruled_channel_rules.specs.declared.handles.Channel.{Channel}
 use Rattle.ruled_channel_rules.specs.declared.handles.Hub.{Hub}
 use Rattle.ruled_channel_rules.specs.declared.handles.Sender.{Sender}
 use Rattle.ruled_channel_rules.specs.declared.handles.Receiver.{Receiver}
-use Rattle.ruled_channel_rules.specs.Whole.{sender_log, receiver_log}
+use Rattle.ruled_channel_rules.specs.declared.forcing.ForceSender.{ForceSender}
+use Rattle.ruled_channel_rules.specs.Whole.{sender_log, receiver_log, force_sender_log}
 
 module _ {T : Type 0} where
   abbrev pub first : List (List T) → List T
@@ -28,12 +29,23 @@ module _ {T : Type 0} where
   abbrev pub got_by : Receiver T → List T
   got_by r = first (view r.pass).got
 
+  -- what a force sender has sent, and what its messages have displaced
+  abbrev pub forced_by : ForceSender T → List T
+  forced_by s = first (view s.pass).sent
+
+  abbrev pub displaced_by : ForceSender T → List T
+  displaced_by s = first (view s.pass).got
+
   -- whether it knows that the channel is closed
   abbrev pub sender_closed : Sender T → Bool
   sender_closed s = (view s.pass).closed
 
   abbrev pub receiver_closed : Receiver T → Bool
   receiver_closed r = (view r.pass).closed
+
+  -- whether a force sender has closed the channel
+  abbrev pub force_closed : ForceSender T → Bool
+  force_closed s = (view s.pass).closed
 
   -- whether it found the channel closed and empty
   abbrev pub has_ended : Receiver T → Bool
@@ -45,6 +57,9 @@ module _ {T : Type 0} where
 
   abbrev pub receiver_found : Receiver T → CoreChannel T Mark
   receiver_found r = found r.pass
+
+  abbrev pub force_found : ForceSender T → CoreChannel T Mark
+  force_found s = found s.pass
 
   -- how many senders and receivers a hub has made, and what those sent and got that it has back
   abbrev pub known : Hub T → Log T
@@ -62,3 +77,8 @@ module _ {T : Type 0} where
   IsReceiverOf c r =
       IsPassOf c.ruled r.pass
       × (view r.pass ≡ receiver_log (receiver_closed r) (has_ended r) (got_by r))
+
+  abbrev pub IsForceSenderOf : Channel T → ForceSender T → Type 0
+  IsForceSenderOf c s =
+      IsPassOf c.ruled s.pass
+      × (view s.pass ≡ force_sender_log (force_closed s) (forced_by s) (displaced_by s))

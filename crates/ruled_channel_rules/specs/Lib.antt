@@ -3,6 +3,7 @@ pub mod Merged
 pub mod Whole
 pub mod Handles
 pub mod Sending
+pub mod Forcing
 pub mod Receiving
 pub mod Recv
 pub mod Send

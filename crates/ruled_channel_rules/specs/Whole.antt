@@ -1,7 +1,7 @@
 -- The rule: what was sent is what was got and then what the channel holds, and it is closed exactly
 -- if one of the handles has closed it. Each sender and each receiver knows its own part, and who made
 -- them knows how many there are.
-use Rattle.std.specs.Prelude.{◌≡◌, ℕ, ◌+◌, Bool, ◌||◌, true, false, List, [], ◌∷◌, ◌++◌, length}
+use Rattle.std.specs.Prelude.{◌≡◌, ℕ, ◌+◌, Bool, ◌||◌, true, false, List, [], ◌∷◌, ◌++◌, length, Option, Some, None}
 use Rattle.std.specs.List.{flat_map, list_any}
 use mathlib.Core.Option.{some}
 use lib.ListN.{get_elem?}
@@ -59,6 +59,11 @@ module _ {T : Type 0} where
   abbrev pub with_got : Log T → T → Log T
   with_got v m = record v { got = more v.got m }
 
+  -- a send that is forced gets the message that it displaces
+  abbrev pub with_forced : Log T → Option T → T → Log T
+  with_forced v None m = with_sent v m
+  with_forced v (Some displaced) m = with_sent (with_got v displaced) m
+
   abbrev pub with_closed : Log T → Log T
   with_closed v = record v { closed = true }
 
@@ -71,7 +76,11 @@ module _ {T : Type 0} where
   abbrev pub one_receiver_more : Log T → Log T
   one_receiver_more v = record v { receivers = v.receivers + 1 }
 
-  -- who makes the others, a sender, a receiver, and a pass that is used up
+  -- a force sender both sends and gets
+  abbrev pub one_force_sender_more : Log T → Log T
+  one_force_sender_more v = one_receiver_more (one_sender_more v)
+
+  -- who makes the others, a sender, a receiver, a force sender, and a pass that is used up
   abbrev pub hub_log : ℕ → ℕ → Log T
   hub_log senders receivers = log true senders receivers false false [] []
 
@@ -80,6 +89,9 @@ module _ {T : Type 0} where
 
   abbrev pub receiver_log : Bool → Bool → List T → Log T
   receiver_log closed ended xs = log false 0 0 closed ended [] (xs ∷ [])
+
+  abbrev pub force_sender_log : Bool → List T → List T → Log T
+  force_sender_log closed xs ys = log false 0 0 closed false (xs ∷ []) (ys ∷ [])
 
   abbrev pub spent_log : Log T
   spent_log = log false 0 0 false false [] []

@@ -15,11 +15,13 @@
 //! What no contract says: that a call returns, or that somebody closes the channel.
 #![tactic(auto)]
 
+mod forcing;
 mod handles;
 mod log;
 mod receiving;
 mod sending;
 
+pub use forcing::ForceSender;
 pub use handles::{Channel, Hub, Receiver, Sender, bounded, unbounded};
 pub use receiving::{Collect, Recv};
 pub use ruled_channel::{NoMemory, OutOfMemory, RecvError, SendError, TryRecvError, TrySendError};

@@ -1,9 +1,9 @@
 //! The rule, and what each step tells.
 ghost use Rattle.std.specs.Prelude.{◌≡◌, [], true, false};
 ghost use Rattle.ruled_channel_rules.specs.Merged.{HaveArrived, AllArrived};
-ghost use Rattle.ruled_channel_rules.specs.Whole.{IsWhole, hub_log, sender_log, receiver_log, spent_log, with_sent, with_got, with_closed, with_end, one_sender_more, one_receiver_more, together};
+ghost use Rattle.ruled_channel_rules.specs.Whole.{IsWhole, hub_log, sender_log, receiver_log, spent_log, with_sent, with_got, with_forced, with_closed, with_end, one_sender_more, one_receiver_more, one_force_sender_more, force_sender_log, together};
 
-use ruled_channel::{AtEnd, HasClosed, Join, Lesson, Protocol, Received, Sent, Split};
+use ruled_channel::{AtEnd, Forced, HasClosed, Join, Lesson, Protocol, Received, Sent, Split};
 use std::collections::LinkedList;
 
 /// What a pass knows. No value of it is made.
@@ -35,6 +35,10 @@ impl<T> Protocol<T, Log<T>> for Whole {
 
 impl<T> Sent<T, Log<T>> for Whole {
     ghost then = { λ v m w. w ≡ with_sent v m };
+}
+
+impl<T> Forced<T, Log<T>> for Whole {
+    ghost then = { λ v displaced m w. w ≡ with_forced v displaced m };
 }
 
 impl<T> Received<T, Log<T>> for Whole {
@@ -77,4 +81,13 @@ impl<T> Split<Log<T>> for ForReceiver {
     ghost left = { one_receiver_more };
 
     ghost right = { λ v. receiver_log false false [] };
+}
+
+/// A force sender is made.
+pub struct ForForceSender;
+
+impl<T> Split<Log<T>> for ForForceSender {
+    ghost left = { one_force_sender_more };
+
+    ghost right = { λ v. force_sender_log false [] [] };
 }

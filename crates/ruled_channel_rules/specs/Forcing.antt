@@ -1,0 +1,18 @@
+-- What a forced send does to its sender.
+use Rattle.std.specs.Prelude.{◌≡◌, [], ◌∷◌, ◌++◌, Option, option_to_list}
+use Rattle.ruled_channel_rules.specs.declared.forcing.ForceSender.{ForceSender}
+use Rattle.ruled_channel_rules.specs.Handles.{forced_by, displaced_by, force_closed}
+
+module _ {T : Type 0} where
+  -- it has sent nothing more, displaced nothing more, and closed nothing more
+  abbrev pub IsAsItWas : ForceSender T → ForceSender T → Type 0
+  IsAsItWas old new =
+      (forced_by new ≡ forced_by old) × (displaced_by new ≡ displaced_by old)
+      × (force_closed new ≡ force_closed old)
+
+  -- it has sent this message, which has displaced that one, if any
+  abbrev pub HasForced : ForceSender T → T → Option T → ForceSender T → Type 0
+  HasForced old message displaced new =
+      (forced_by new ≡ forced_by old ++ message ∷ [])
+      × (displaced_by new ≡ displaced_by old ++ option_to_list displaced)
+      × (force_closed new ≡ force_closed old)
