@@ -12,8 +12,6 @@ debian=/usr/share/cargo/registry
 . tools/debian_release.sh
 target=${CARGO_TARGET_DIR:-$PWD/rust/target}
 export CARGO_TARGET_DIR="$target"
-# What is built here runs once or twice, and no debugger reads it.
-export CARGO_PROFILE_DEV_DEBUG=false
 
 step() {
     echo "rust: $*"
