@@ -254,8 +254,9 @@ class Trial:
     def without_bodies(self, copy, changed):
         """Gives a copy's functions but these the body that keeps any contract."""
         types = ('', *self.sources.types)
+        places = {(it.path, it.line) for it in changed}
         others = [it for it in self.sources.calls if it.trait in POLLED and it.owner in types
-                  and it.name != 'main' and it not in changed]
+                  and it.name != 'main' and (it.path, it.line) not in places]
         for path in {it.path for it in others}:
             text = path.read_text('utf-8')
             calls = [it for it in others if it.path == path]
