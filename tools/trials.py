@@ -55,11 +55,11 @@ ANSWERS = 'Answers.antt'
 WHOLE = 'Proof.antt'
 STORED = (ANSWERS, 'Invariants.antt', WHOLE)
 HOLE = '\npub unproved : Unit {0}\nunproved = ?\n'
-# A module whose function is assumed never to return, and the body that calls it. Other traits'
-# methods keep theirs, and so do some functions.
+# A module whose function is assumed never to return, and the body that calls it.
 SOURCE = 'src/never.rt'
 NEVER = 'unsafe extern "C" {\n    pub safe fn never()\n        ensures { ⊥ };\n}\n'
 BODY = 'crate::never::never(); unreachable!()'
+# The traits whose methods get that body too, and None for functions of no trait. Some keep theirs.
 POLLED = (None, 'Future', 'Stream')
 KEEPS_ITS_BODY = re.compile(r'\bconst fn\b|-> .*\bimpl\b|\bdecreases\b|#\[(cycle|test)\b')
 # An answer for a goal of another clause than this one, and the name of a goal of this one: of a
@@ -210,8 +210,8 @@ def without_bodies(text, calls):
 
 
 def text_with(changes, right, rest):
-    """The text of a file with these changes in it, each of which is told its lines there, where the
-    rest is as given."""
+    """The text of a file with these changes in it, and the rest as given. Each change learns its
+    lines."""
     lines, written, at = rest.split('\n'), [], 0
     for change in sorted(changes, key=lambda it: it.call.last):
         changed = change.changed_lines(right)
