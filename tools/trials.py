@@ -6,10 +6,10 @@ text with the change, or None if it has no place there. The libraries are those 
 `rt check` built.
 
 One copy of the crate has many changes, and one run tries them. Each stands in a copy of its
-function. `main` and a trait's method can have no copy, and are changed themselves. Nearly every
-other function has a body there that keeps any contract, as it calls what is assumed never to
-return. A proof can't look into what is called. So a change is tried against contracts, and nothing
-that is right is proved again.
+function; that of a poll is in a block of its type's own. `main` and other methods of traits can
+have no copy, and are changed themselves. Nearly every other function has a body there that keeps
+any contract, as it calls what is assumed never to return. A proof can't look into what is called.
+So a change is tried against contracts, and nothing that is right is proved again.
 
 A change is refused if a goal in its lines isn't proved. A run leaves it open if its function is
 only said to call one that isn't proved, or if nothing is wrong but that stored answers, which cite
@@ -49,7 +49,7 @@ GOAL = re.compile(
 # How many run side by side, whatever crates they are of.
 TURNS = threading.BoundedSemaphore(len(os.sched_getaffinity(0)))
 # How many changes a copy of a crate has at most, so that no run takes much longer than others.
-MOST = 40
+MOST = 60
 # What may be stored for a function, among the proofs, and where its answers are.
 ANSWERS = 'Answers.antt'
 WHOLE = 'Proof.antt'
@@ -93,7 +93,13 @@ class Tried:
     @property
     def tried(self):
         """The function that has the change, as the prover names its end."""
-        return self.function + self.ending
+        function = self.call.place() if self.is_moved else self.function
+        return function + self.ending
+
+    @property
+    def is_moved(self):
+        """Whether it has a copy of a trait's method, which stands behind the trait's block."""
+        return bool(self.ending and self.call.trait)
 
     @property
     def has_one_clause(self):
@@ -108,17 +114,25 @@ class Tried:
         if self.has_one_clause:
             changed = with_one_clause(changed, self.clause)
         changed = '\n'.join(changed)
-        return re.sub(rf'\bfn {name}\b', f'fn {name}{self.ending}', changed, count=1).split('\n')
+        changed = re.sub(rf'\bfn {name}\b', f'fn {name}{self.ending}', changed, count=1)
+        if self.is_moved:
+            changed = of_type(changed, right.split('\n'), self.call)
+        return changed.split('\n')
+
+    def last_before(self, lines):
+        """How many lines of the file come before its copy."""
+        return lines.index('}', self.call.last) + 1 if self.is_moved else self.call.last
 
     def put_proofs(self, proofs):
         """Gives its copy what is stored for its function."""
         self.misfits, self.holes = (), []
         name = self.call.name
         for folder in stored_for(self.function, proofs):
-            changed = folder.with_name(name + self.ending)
+            owner = self.call.owner if self.is_moved else folder.parent.name
+            changed = folder.parent.with_name(owner) / f'{name}{self.ending}'
             if self.ending:
                 shutil.copytree(folder, changed)
-            ends = [f'{folder.parent.name}.{name}{it}.' for it in ('', self.ending)]
+            ends = f'{folder.parent.name}.{name}.', f'{owner}.{name}{self.ending}.'
             for file in changed.rglob('*.antt'):
                 text = file.read_text('utf-8').replace(*ends)
                 if self.has_one_clause and file.name == ANSWERS:
@@ -189,6 +203,17 @@ def with_one_clause(lines, clause):
     return kept + lines[end:]
 
 
+def of_type(changed, lines, call):
+    """A trait's method as one of its type's own."""
+    begin = next(at for at in range(call.line - 1, -1, -1) if lines[at].startswith('impl'))
+    block = lines[begin : lines.index('}', call.last)]
+    end = next(at for at, line in enumerate(block) if line.endswith('{')) + 1
+    head = re.sub(r'\S+ for ', '', ' '.join(map(str.strip, block[:end])), count=1)
+    uses = [it for it in block if it.startswith('    ghost use ')]
+    changed = re.sub(r'\bSelf::(Output|Item)\b', rf'<Self as {call.trait}>::\1', changed)
+    return '\n'.join([head, *uses, changed, '}'])
+
+
 def body_of(lines):
     """The lines of a function's body, or none if it is empty or has to stay."""
     indent = len(lines[0]) - len(lines[0].lstrip())
@@ -213,11 +238,11 @@ def text_with(changes, right, rest):
     """The text of a file with these changes in it, and the rest as given. Each change learns its
     lines."""
     lines, written, at = rest.split('\n'), [], 0
-    for change in sorted(changes, key=lambda it: it.call.last):
-        changed = change.changed_lines(right)
-        written += lines[at : change.call.last if change.ending else change.call.line - 1]
+    for change in sorted(changes, key=lambda it: it.last_before(lines)):
+        changed, after = change.changed_lines(right), change.last_before(lines)
+        written += lines[at : after if change.ending else change.call.line - 1]
         change.lines = range(len(written) + 1, len(written) + len(changed) + 1)
-        written, at = written + changed, change.call.last
+        written, at = written + changed, after
     return '\n'.join(written + lines[at:])
 
 
@@ -334,8 +359,8 @@ class Trial:
         if is_alone and not unproved and why and why.startswith('it calls'):
             raise Refused(why)
         if change.misfits:
-            right = self.folder / stored.removesuffix(change.ending) / ANSWERS
-            change.breaks_a_proof = unproved <= change.answered(right)
+            right, *_ = stored_for(change.function, self.folder / 'proofs')
+            change.breaks_a_proof = unproved <= change.answered(right / ANSWERS)
         return False if verdict != 'could not tell' and (is_alone or unproved) else None
 
     def outcomes(self, copy, changes, is_alone):
@@ -367,7 +392,9 @@ class Trial:
 def tried_in(crate, changes, rtlib):
     """Each change of a crate, with whether it was proved or what is wrong with it."""
     for number, change in enumerate(changes):
-        if change.is_local and not change.call.trait and change.call.name != 'main':
+        call = change.call
+        can_be_copied = call.trait in POLLED and (call.clauses or not call.trait)
+        if change.is_local and can_be_copied and call.name != 'main':
             change.ending = f'_changed_{number}'
     rounds = [*rounds_of(changes)]
     with tempfile.TemporaryDirectory() as room, ThreadPoolExecutor(len(rounds)) as pool:

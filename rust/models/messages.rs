@@ -6,7 +6,6 @@ use std::task::{Context, Poll};
 
 use futures_core::{FusedStream, Stream};
 use loom::model;
-use loom::model::Builder;
 use vamorilesh::{block_on, bounded, unbounded, Receiver, RecvError, Sender, TryRecvError};
 
 use super::{caller, is_ready};
@@ -22,10 +21,7 @@ fn sends_beside_receives() {
 
 #[test]
 fn two_sends_beside_receives() {
-    // with four preemptions it was stopped after six minutes: three threads block
-    let mut builder = Builder::new();
-    builder.preemption_bound = builder.preemption_bound.map(|bound| bound.min(3));
-    builder.check(|| {
+    model(|| {
         let (s, r) = bounded(1);
         let send = |s: Sender<u64>, message| move || s.send_blocking(message).unwrap();
         let receive = || {

@@ -1,45 +1,39 @@
-//! Three stages in one task, joined by two channels: numbers are sent, squared and gathered.
+//! Two stages in one task, joined by a channel: numbers are sent, and their squares are gathered.
 //!
-//! Each channel has room for one message. So a stage that is ahead waits for the one after it, and
-//! the task goes on with whichever stage was woken.
+//! The channel has room for one message. So a stage that is ahead waits for the other one, and the
+//! task goes on with whichever stage was woken.
 #![tactic(auto)]
 
 use anyhow::Result;
 use async_channel::{StampMaker, bounded};
 use futures::executor::block_on;
-use futures::future::join3;
+use futures::future::join;
 use futures::{FutureExt, StreamExt, TryStreamExt, stream};
 
 /// The numbers from 1 to this one are sent.
 const LIMIT: u32 = 6;
 
-/// How many messages a channel holds before its sender waits.
+/// How many messages the channel holds before its sender waits.
 const CAPACITY: usize = 1;
 
 fn main(rt: HostRuntime) -> Result<()> {
     let mut maker = StampMaker::new();
-    let (to_squares, numbers) = bounded(&rt, rt.alloc(), CAPACITY, &mut maker)?;
-    let (to_gather, squares) = bounded(&rt, rt.alloc(), CAPACITY, &mut maker)?;
+    let (s, r) = bounded(&rt, rt.alloc(), CAPACITY, &mut maker)?;
 
-    // A stage that has nothing left to send closes its channel, which ends the next one's stream.
+    // A stage that has nothing left to send closes the channel, which ends the next one's stream.
     let send = stream::iter(1..=LIMIT)
-        .then(|number| to_squares.send(number))
+        .then(|number| s.send(number))
         .collect(rt.alloc())
         .map(|answers| {
-            to_squares.close();
+            s.close();
             answers
         });
-    let square = numbers
-        .and_then(|number| to_gather.send(number.wrapping_mul(number)))
-        .collect(rt.alloc())
-        .map(|answers| {
-            to_gather.close();
-            answers
-        });
-    let gather = squares.collect(rt.alloc());
+    let gather = r
+        .map_ok(|number: u32| number.wrapping_mul(number))
+        .collect(rt.alloc());
 
-    let (sent, squared, gathered) = block_on(&rt, join3(send, square, gather))?;
-    for answer in sent?.into_iter().chain(squared?) {
+    let (sent, gathered) = block_on(&rt, join(send, gather))?;
+    for answer in sent? {
         answer??;
     }
     for square in gathered? {

@@ -268,6 +268,15 @@ impl<'a, R: Wait + Clone + Drop + RandomSource + AllocGlobal> Handles<'a, R> {
             Step::Poll(op) => self.poll(Who::Op(op))?,
             Step::PollNext(receiver) => self.poll(Who::Receiver(receiver))?,
             Step::IsTerminated(receiver) => Reply::Flag(self.receiver(receiver)?.is_terminated()),
+            Step::UpgradeSender { of, new } => Reply::Upgraded(self.upgrade_sender(of, new)?),
+            Step::UpgradeReceiver { of, new } => Reply::Upgraded(self.upgrade_receiver(of, new)?),
+            step => self.step_of_side(step)?,
+        })
+    }
+
+    /// Asks one side, or closes the channel by it, or gives a name.
+    fn step_of_side(&mut self, step: Step<u64>) -> Result<Reply<u64>> {
+        Ok(match step {
             Step::Close(side) => Reply::Flag(ask!(self, side, close)),
             Step::IsClosed(side) => Reply::Flag(ask!(self, side, is_closed)),
             Step::IsEmpty(side) => Reply::Flag(ask!(self, side, is_empty)),
@@ -280,8 +289,6 @@ impl<'a, R: Wait + Clone + Drop + RandomSource + AllocGlobal> Handles<'a, R> {
             Step::ReceiverCount(side) => {
                 Reply::Count(self.named(ask!(self, side, receiver_count), true))
             }
-            Step::UpgradeSender { of, new } => Reply::Upgraded(self.upgrade_sender(of, new)?),
-            Step::UpgradeReceiver { of, new } => Reply::Upgraded(self.upgrade_receiver(of, new)?),
             step => {
                 self.rename(step)?;
                 Reply::Done

@@ -4,7 +4,6 @@ use crate::ways::numbers_from;
 use Act::*;
 use Said::*;
 use async_channel::{Group, Receiver, Recv, RecvError, Send, SendError, Sender, WeakSender};
-use futures::task::Poll;
 use futures::test::MockTask;
 use std::alloc::{AllocGlobal, Global};
 use std::process::Abort;
@@ -318,15 +317,25 @@ where
     R: std::marker::Send + Sync + 'static,
 {
     let (s, r) = channel(rt, Some(2))?;
-    let weak = s.downgrade()?;
-    let thread = blocked(rt, Call::RecvMany, &s, &r, &weak, 1)?;
+    let thread = blocked(rt, Call::RecvMany, &s, &r, &s.downgrade()?, 1)?;
     give_time(rt);
+    both_are_woken(rt, &s, thread)
+}
+
+/// The same, of a thread that sleeps.
+fn both_are_woken<R>(
+    rt: &R,
+    s: &Sender<u64, R>,
+    thread: JoinHandle<Said>,
+) -> Result<Option<bool>, Fail>
+where
+    R: Threads + Wait + Clone + Drop + RandomSource + AllocGlobal + Abort,
+{
     let (task, other) = (MockTask::new(rt)?, MockTask::new(rt)?);
     let (mut first, mut second) = (s.send(3), s.send(4));
     let mut from = numbers_from(rt.alloc(), 1, 2)?;
     assert_eq!(rt; s.try_send_many(&mut from), Ok(Ok(2)));
-    let both_wait = matches!(&task.poll(&mut first), Poll::Pending)
-        && matches!(&other.poll(&mut second), Poll::Pending);
+    let both_wait = task.poll(&mut first).is_pending() && other.poll(&mut second).is_pending();
     let ended = thread.join(rt);
     if both_wait {
         assert_eq!(rt; ended, Batch(2));

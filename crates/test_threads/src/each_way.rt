@@ -3,6 +3,7 @@ use crate::waiting::channel;
 use crate::ways::Receives::*;
 use crate::ways::Sends::*;
 use crate::ways::{Receives, Sends, numbers_from, receive_all, send_all};
+use async_channel::{Receiver, Sender};
 use futures::test::MockTask;
 use std::alloc::{AllocError, AllocGlobal, Global};
 use std::collections::VecDeque;
@@ -52,6 +53,40 @@ fn all<T: Message>(alloc: Global, count: usize) -> Result<VecDeque<T, Global>, A
     Ok(all)
 }
 
+/// The handles of a channel, with the tag of one of another capacity.
+fn tagged_channel<T: Message, R: Wait + Clone + Drop + AllocGlobal>(
+    rt: &R,
+    capacity: Option<usize>,
+    tagged: Option<usize>,
+) -> Result<(Sender<T, R>, Receiver<T, R>), Fail> {
+    let (mut s, mut r) = channel::<T, R>(rt, capacity)?;
+    let (other, _r) = channel::<T, R>(rt, tagged)?;
+    (s.tag, r.tag) = (other.tag, other.tag);
+    Ok((s, r))
+}
+
+/// Sends so many messages. No more go in where these fill the channel.
+fn fill<T: Message, R>(
+    rt: &R,
+    task: &MockTask,
+    sending: Sends,
+    s: &Sender<T, R>,
+    count: usize,
+) -> Result<(), Fail>
+where
+    R: Wait + Clone + Drop + AllocGlobal + Abort,
+{
+    let alloc = rt.alloc();
+    assert!(rt; send_all(task, sending, s, all(alloc, count)?), "{sending:?}");
+    for way in [TrySend, TrySendMany, Send, SendMany] {
+        assert!(rt;
+            !s.is_full() || !send_all(task, way, s, all(alloc, 1)?),
+            "{way:?}"
+        );
+    }
+    Ok(())
+}
+
 /// Fills a channel and empties it, by each call of handles with the tag of another capacity. All
 /// messages come in order.
 fn pass<T: Message, R>(
@@ -64,26 +99,15 @@ where
     R: Wait + Clone + Drop + RandomSource + AllocGlobal + Abort,
 {
     for (sending, receiving) in WAYS {
-        let (mut s, mut r) = channel::<T, R>(rt, capacity)?;
-        let (other, _r) = channel::<T, R>(rt, tagged)?;
-        (s.tag, r.tag) = (other.tag, other.tag);
-        let (alloc, task) = (rt.alloc(), MockTask::new(rt)?);
-        assert!(rt;
-            send_all(&task, sending, &s, all(alloc, count)?),
-            "{sending:?}"
-        );
+        let (s, mut r) = tagged_channel::<T, R>(rt, capacity, tagged)?;
+        let task = MockTask::new(rt)?;
+        fill(rt, &task, sending, &s, count)?;
         let is_full = capacity == Some(count);
         assert_eq!(rt;
             (s.len(), s.is_full(), r.is_full()),
             (count, is_full, is_full)
         );
-        for way in [TrySend, TrySendMany, Send, SendMany] {
-            assert!(rt;
-                !is_full || !send_all(&task, way, &s, all(alloc, 1)?),
-                "{way:?}"
-            );
-        }
-        let came = receive_all(alloc, &task, receiving, &mut r, (count, count));
+        let came = receive_all(rt.alloc(), &task, receiving, &mut r, (count, count));
         assert_eq!(rt; came.len(), count, "{receiving:?}");
         for (number, message) in came.iter().enumerate() {
             assert!(rt; *message == T::new(number), "{receiving:?}");
