@@ -202,8 +202,7 @@ impl<'a, R: Wait + Clone + Drop> At<'a, '_, R> {
     }
 
     fn looks(&self, deed: Deed, left: &AtomicU64) -> Result<bool, Fail> {
-        let (s, r, task) = (self.s, self.r, &self.tasks.one);
-        let (weak_s, weak_r) = (s.downgrade()?, r.downgrade()?);
+        let (s, task) = (self.s, &self.tasks.one);
         Ok(match deed {
             IntoMsg => {
                 let mut send = s.send(self.message());
@@ -216,11 +215,15 @@ impl<'a, R: Wait + Clone + Drop> At<'a, '_, R> {
                     && task.is_woken()
             }
             Copy(count) => self.copies(left, count)?,
-            UpgradeLate => {
-                s.close() && weak_s.upgrade()?.is_none() && weak_r.upgrade()?.is_none()
-            }
-            _ => numbers(&weak_s, Group::Receives) == (0, 0) && s.len() == r.len(),
+            UpgradeLate => self.upgrades_nothing()?,
+            _ => self.nobody_waits()? && s.len() == self.r.len(),
         })
+    }
+
+    /// Closes the channel, and answers whether no weak handle is upgraded then.
+    fn upgrades_nothing(&self) -> Result<bool, Fail> {
+        let (weak_s, weak_r) = (self.s.downgrade()?, self.r.downgrade()?);
+        Ok(self.s.close() && weak_s.upgrade()?.is_none() && weak_r.upgrade()?.is_none())
     }
 
     /// Whether handles are made only where the runtime is copied, and count no longer then.
@@ -259,6 +262,36 @@ impl<'a, R: Wait + Clone + Drop> At<'a, '_, R> {
     }
 }
 
+/// Does it at this channel, and answers whether all went well. So many copies of the runtime are
+/// left, and so many messages live.
+fn is_well_done<'a, Q, R>(
+    rt: &Q,
+    deed: Deed,
+    (left, live): (&AtomicU64, &'a AtomicU64),
+    s: &Sender<Counted<'a>, R>,
+    r: &Receiver<Counted<'a>, R>,
+) -> Result<bool, Fail>
+where
+    Q: RandomSource + AllocGlobal,
+    R: Wait + Clone + Drop,
+{
+    let tasks = Tasks {
+        one: MockTask::new(rt)?,
+        other: MockTask::new(rt)?,
+        polls: AtomicU64::new(0),
+        is_well: AtomicBool::new(true),
+    };
+    let (alloc, tasks) = (rt.alloc(), &tasks);
+    let at = At {
+        alloc,
+        tasks,
+        live,
+        s,
+        r,
+    };
+    Ok(at.act(deed, left)? && at.nobody_waits()? && tasks.have_let_go())
+}
+
 /// Does one thing at a new channel, with a message in it or none. It answers whether that went
 /// well, and how many copies of the runtime are left then, and how many messages.
 fn leaves<R>(rt: &R, deed: Deed, is_full: bool) -> Result<(bool, u64, u64), Fail>
@@ -277,20 +310,7 @@ where
     if is_full {
         drop(s.try_send(Counted::new(&live)));
     }
-    let tasks = Tasks {
-        one: MockTask::new(rt)?,
-        other: MockTask::new(rt)?,
-        polls: AtomicU64::new(0),
-        is_well: AtomicBool::new(true),
-    };
-    let at = At {
-        alloc: rt.alloc(),
-        tasks: &tasks,
-        live: &live,
-        s: &s,
-        r: &r,
-    };
-    let is_well = at.act(deed, &left)? && at.nobody_waits()? && tasks.have_let_go();
+    let is_well = is_well_done(rt, deed, (&left, &live), &s, &r)?;
     // so that a channel that is kept has a message
     drop(s.try_send(Counted::new(&live)));
     drop((s, r));
