@@ -77,7 +77,10 @@ where
     R: Wait + Clone + Drop + AllocGlobal + Abort,
 {
     let alloc = rt.alloc();
-    assert!(rt; send_all(task, sending, s, all(alloc, count)?), "{sending:?}");
+    assert!(rt;
+        send_all(task, sending, s, all(alloc, count)?),
+        "{sending:?}"
+    );
     for way in [TrySend, TrySendMany, Send, SendMany] {
         assert!(rt;
             !s.is_full() || !send_all(task, way, s, all(alloc, 1)?),
