@@ -119,8 +119,8 @@ class Tried:
             changed = of_type(changed, right.split('\n'), self.call)
         return changed.split('\n')
 
-    def last_before(self, lines):
-        """How many lines of the file come before its copy."""
+    def lines_before(self, lines):
+        """How many lines of the file come before its copy, or how many end with its function."""
         return lines.index('}', self.call.last) + 1 if self.is_moved else self.call.last
 
     def put_proofs(self, proofs):
@@ -203,6 +203,11 @@ def with_one_clause(lines, clause):
     return kept + lines[end:]
 
 
+def can_be_copied(call):
+    """Whether a function may have a copy: a poll only if its clauses are its own."""
+    return call.trait in POLLED and (call.clauses or not call.trait) and call.name != 'main'
+
+
 def of_type(changed, lines, call):
     """A trait's method as one of its type's own."""
     begin = next(at for at in range(call.line - 1, -1, -1) if lines[at].startswith('impl'))
@@ -238,8 +243,8 @@ def text_with(changes, right, rest):
     """The text of a file with these changes in it, and the rest as given. Each change learns its
     lines."""
     lines, written, at = rest.split('\n'), [], 0
-    for change in sorted(changes, key=lambda it: it.last_before(lines)):
-        changed, after = change.changed_lines(right), change.last_before(lines)
+    for change in sorted(changes, key=lambda it: it.lines_before(lines)):
+        changed, after = change.changed_lines(right), change.lines_before(lines)
         written += lines[at : after if change.ending else change.call.line - 1]
         change.lines = range(len(written) + 1, len(written) + len(changed) + 1)
         written, at = written + changed, after
@@ -392,9 +397,7 @@ class Trial:
 def tried_in(crate, changes, rtlib):
     """Each change of a crate, with whether it was proved or what is wrong with it."""
     for number, change in enumerate(changes):
-        call = change.call
-        can_be_copied = call.trait in POLLED and (call.clauses or not call.trait)
-        if change.is_local and can_be_copied and call.name != 'main':
+        if change.is_local and can_be_copied(change.call):
             change.ending = f'_changed_{number}'
     rounds = [*rounds_of(changes)]
     with tempfile.TemporaryDirectory() as room, ThreadPoolExecutor(len(rounds)) as pool:

@@ -351,8 +351,8 @@ fn an_unpark_that_comes_during_a_blocking_call_is_its_callers() {
     assert!(waiting.join().unwrap() < Duration::from_secs(10));
 }
 
-/// Returns once the thread of this name has slept for so long that also a busy system would have run
-/// it, if anything had woken it. It fails if that doesn't come in ten seconds.
+/// Returns once the thread of this name has slept for half a second: if anything wakes it, a busy
+/// system runs it sooner. It fails if that doesn't come in ten seconds.
 #[cfg(target_os = "linux")]
 fn await_sleep(thread: &std::path::Path) {
     let look = || {
@@ -365,10 +365,8 @@ fn await_sleep(thread: &std::path::Path) {
     for _ in 0..500 {
         let before = look();
         let_others_run();
-        asleep += 1;
-        if !before.contains("sleeping") || before != look() {
-            asleep = 0;
-        }
+        let is_asleep = before.contains("sleeping") && before == look();
+        asleep = if is_asleep { asleep + 1 } else { 0 };
         if asleep == 25 {
             return;
         }

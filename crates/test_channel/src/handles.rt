@@ -274,7 +274,7 @@ impl<'a, R: Wait + Clone + Drop + RandomSource + AllocGlobal> Handles<'a, R> {
         })
     }
 
-    /// Asks one side, or closes the channel by it, or gives a name.
+    /// Asks a side, or closes the channel by it. What is no such step makes a name or gives one up.
     fn step_of_side(&mut self, step: Step<u64>) -> Result<Reply<u64>> {
         Ok(match step {
             Step::Close(side) => Reply::Flag(ask!(self, side, close)),

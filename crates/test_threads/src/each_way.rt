@@ -65,7 +65,7 @@ fn tagged_channel<T: Message, R: Wait + Clone + Drop + AllocGlobal>(
     Ok((s, r))
 }
 
-/// Sends so many messages. No more go in where these fill the channel.
+/// Sends so many messages. If these fill the channel, no more go in.
 fn fill<T: Message, R>(
     rt: &R,
     task: &MockTask,

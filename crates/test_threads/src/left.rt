@@ -262,8 +262,8 @@ impl<'a, R: Wait + Clone + Drop> At<'a, '_, R> {
     }
 }
 
-/// Does it at this channel, and answers whether all went well. So many copies of the runtime are
-/// left, and so many messages live.
+/// Does one thing at this channel, and answers whether that went well. So many copies of the runtime
+/// are left, and so many messages live.
 fn is_well_done<'a, Q, R>(
     rt: &Q,
     deed: Deed,
