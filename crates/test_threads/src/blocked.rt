@@ -323,14 +323,11 @@ where
 }
 
 /// The same, of a thread that sleeps.
-fn both_are_woken<R>(
+fn both_are_woken<R: Threads + Wait + Clone + Drop + RandomSource + AllocGlobal + Abort>(
     rt: &R,
     s: &Sender<u64, R>,
     thread: JoinHandle<Said>,
-) -> Result<Option<bool>, Fail>
-where
-    R: Threads + Wait + Clone + Drop + RandomSource + AllocGlobal + Abort,
-{
+) -> Result<Option<bool>, Fail> {
     let (task, other) = (MockTask::new(rt)?, MockTask::new(rt)?);
     let (mut first, mut second) = (s.send(3), s.send(4));
     let mut from = numbers_from(rt.alloc(), 1, 2)?;

@@ -66,16 +66,13 @@ fn tagged_channel<T: Message, R: Wait + Clone + Drop + AllocGlobal>(
 }
 
 /// Sends so many messages. If these fill the channel, no more go in.
-fn fill<T: Message, R>(
+fn fill<T: Message, R: Wait + Clone + Drop + AllocGlobal + Abort>(
     rt: &R,
     task: &MockTask,
     sending: Sends,
     s: &Sender<T, R>,
     count: usize,
-) -> Result<(), Fail>
-where
-    R: Wait + Clone + Drop + AllocGlobal + Abort,
-{
+) -> Result<(), Fail> {
     let alloc = rt.alloc();
     assert!(rt;
         send_all(task, sending, s, all(alloc, count)?),
@@ -92,15 +89,12 @@ where
 
 /// Fills a channel and empties it, by each call of handles with the tag of another capacity. All
 /// messages come in order.
-fn pass<T: Message, R>(
+fn pass<T: Message, R: Wait + Clone + Drop + RandomSource + AllocGlobal + Abort>(
     rt: &R,
     capacity: Option<usize>,
     tagged: Option<usize>,
     count: usize,
-) -> Result<(), Fail>
-where
-    R: Wait + Clone + Drop + RandomSource + AllocGlobal + Abort,
-{
+) -> Result<(), Fail> {
     for (sending, receiving) in WAYS {
         let (s, mut r) = tagged_channel::<T, R>(rt, capacity, tagged)?;
         let task = MockTask::new(rt)?;

@@ -264,17 +264,13 @@ impl<'a, R: Wait + Clone + Drop> At<'a, '_, R> {
 
 /// Does one thing at this channel, and answers whether that went well. So many copies of the runtime
 /// are left, and so many messages live.
-fn is_well_done<'a, Q, R>(
+fn is_well_done<'a, Q: RandomSource + AllocGlobal, R: Wait + Clone + Drop>(
     rt: &Q,
     deed: Deed,
     (left, live): (&AtomicU64, &'a AtomicU64),
     s: &Sender<Counted<'a>, R>,
     r: &Receiver<Counted<'a>, R>,
-) -> Result<bool, Fail>
-where
-    Q: RandomSource + AllocGlobal,
-    R: Wait + Clone + Drop,
-{
+) -> Result<bool, Fail> {
     let tasks = Tasks {
         one: MockTask::new(rt)?,
         other: MockTask::new(rt)?,

@@ -68,13 +68,14 @@ fn two_threads_relay_a_list(rt: HostRuntime) -> Result<(), Fail> {
 
 #[test]
 fn sends_that_wait_keep_their_place(rt: HostRuntime) -> Result<(), Fail> {
-    let (channel, mut hub) = bounded(rt.alloc(), 1).expect(&rt, "a channel");
+    let (list, last) = (numbers(rt.alloc(), 2)?, numbers(rt.alloc(), 1)?);
     let (task, other) = (MockTask::new(&rt)?, MockTask::new(&rt)?);
+    let (channel, mut hub) = bounded(rt.alloc(), 1).expect(&rt, "a channel");
     let (sender, next) = (hub.sender(&channel), hub.sender(&channel));
-    let mut send = sender.send_each(&rt, &channel, numbers(rt.alloc(), 2)?);
-    let mut later = next.send_each(&rt, &channel, numbers(rt.alloc(), 1)?);
-    assert!(rt; task.poll(&mut send).is_pending() && other.poll(&mut later).is_pending());
-    assert!(rt; task.poll(&mut send).is_pending());
+    let mut send = sender.send_each(&rt, &channel, list);
+    let mut later = next.send_each(&rt, &channel, last);
+    let both_wait = task.poll(&mut send).is_pending() && other.poll(&mut later).is_pending();
+    assert!(rt; both_wait && task.poll(&mut send).is_pending());
     assert_eq!(rt; hub.receiver(&channel).try_recv(&rt, &channel), Ok(0));
     assert!(rt; task.is_woken() && !other.is_woken());
     assert!(rt; task.poll(&mut send).is_ready() && !other.is_woken());
@@ -83,13 +84,13 @@ fn sends_that_wait_keep_their_place(rt: HostRuntime) -> Result<(), Fail> {
 
 #[test]
 fn receives_that_wait_keep_their_place(rt: HostRuntime) -> Result<(), Fail> {
-    let (channel, mut hub) = bounded(rt.alloc(), 1).expect(&rt, "a channel");
     let (task, other) = (MockTask::new(&rt)?, MockTask::new(&rt)?);
+    let (channel, mut hub) = bounded(rt.alloc(), 1).expect(&rt, "a channel");
     let (receiver, next) = (hub.receiver(&channel), hub.receiver(&channel));
     let mut collect = receiver.collect(&rt, &channel, Vec::new(rt.alloc()));
     let mut later = next.collect(&rt, &channel, Vec::new(rt.alloc()));
-    assert!(rt; task.poll(&mut collect).is_pending() && other.poll(&mut later).is_pending());
-    assert!(rt; task.poll(&mut collect).is_pending());
+    let both_wait = task.poll(&mut collect).is_pending() && other.poll(&mut later).is_pending();
+    assert!(rt; both_wait && task.poll(&mut collect).is_pending());
     assert_eq!(rt; hub.sender(&channel).try_send(&rt, &channel, 1), Ok(Ok(())));
     assert!(rt; task.is_woken() && !other.is_woken());
     Ok(())

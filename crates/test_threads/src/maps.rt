@@ -201,17 +201,14 @@ impl Gate for Meets {
 }
 
 /// Maps at such a gate, which tells of it.
-fn met<R>(
+fn met<R: Wait + Threads + Clone + Drop + Send + Sync>(
     rt: &R,
     alloc: Global,
     map: Map,
     below: usize,
     wanted: u64,
     looks: u32,
-) -> Result<Meets, Fail>
-where
-    R: Wait + Threads + Clone + Drop + Send + Sync,
-{
+) -> Result<Meets, Fail> {
     let gate = Meets {
         below,
         looks,

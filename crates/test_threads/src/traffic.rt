@@ -56,15 +56,12 @@ fn none_seen(alloc: Global) -> Result<Vec<AtomicU64>, AllocError> {
 }
 
 /// Sends and receives by so many threads on either side. From one to one, messages come in order.
-fn pass<R>(
+fn pass<R: Threads + Wait + Clone + Drop + RandomSource + AllocGlobal + Abort + Send + Sync>(
     rt: &R,
     ways: (Sends, Receives),
     threads: u64,
     capacity: Option<usize>,
-) -> Result<(), Fail>
-where
-    R: Threads + Wait + Clone + Drop + RandomSource + AllocGlobal + Abort + Send + Sync,
-{
+) -> Result<(), Fail> {
     let (s, r) = channel(rt, capacity)?;
     let seen = none_seen(rt.alloc())?;
     let (sender, noted, (sending, receiving)) = (&s, seen.as_slice(), ways);

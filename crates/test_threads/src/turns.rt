@@ -34,6 +34,16 @@ struct Handles<R: Wait + Clone + Drop> {
     weak: WeakSender<u64, R>,
 }
 
+impl<R: Wait + Clone + Drop> Handles<R> {
+    fn new(s: &Sender<u64, R>, r: Receiver<u64, R>) -> Result<Handles<R>, Fail> {
+        Ok(Handles {
+            s: s.try_clone()?,
+            r: Some(r),
+            weak: s.downgrade()?,
+        })
+    }
+}
+
 impl<R: Wait + Clone + Drop> Line for Handles<R> {
     fn tell(&mut self, group: Group) {
         match (group, &self.r) {
@@ -112,46 +122,61 @@ where
     let (first, mut second) = (wait(&task, first)?, wait(&other, second)?);
     drop(wait(&MockTask::new(rt)?, third)?);
     let first = wait(&task, first)?;
+    let is_kept = !task.is_woken() && line.numbers(group) == (2, 0);
+    let mut first = wait(&last, first)?;
     assert!(rt;
-        !task.is_woken() && line.numbers(group) == (2, 0),
+        is_kept && !last.is_woken() && !other.is_woken(),
         "{group:?}"
     );
-    let mut first = wait(&last, first)?;
-    assert!(rt; !last.is_woken() && !other.is_woken(), "{group:?}");
     line.tell(group);
     let are_all_told = matches!(group, Group::Closeds);
-    assert!(rt;
-        last.is_woken() && other.is_woken() == are_all_told,
-        "{group:?}"
-    );
-    assert_eq!(rt; line.numbers(group), (2, if are_all_told { 2 } else { 1 }));
+    let is_told = last.is_woken() && other.is_woken() == are_all_told;
+    let told = if are_all_told { 2 } else { 1 };
+    assert!(rt; is_told && line.numbers(group) == (2, told), "{group:?}");
     if goes_on {
-        assert!(rt; last.poll(&mut first).is_ready(), "{group:?}");
-        assert_eq!(rt; other.is_woken(), are_all_told);
-        assert_eq!(rt; line.numbers(group), (1, usize::from(are_all_told)));
+        let is_ready = last.poll(&mut first).is_ready() && other.is_woken() == are_all_told;
+        assert!(rt;
+            is_ready && line.numbers(group) == (1, usize::from(are_all_told)),
+            "{group:?}"
+        );
         return Ok(());
     }
     drop(first);
-    assert!(rt;
-        other.is_woken() && line.numbers(group) == (1, 1),
-        "{group:?}"
-    );
-    assert!(rt; other.poll(&mut second).is_ready(), "{group:?}");
+    let is_told = other.is_woken() && line.numbers(group) == (1, 1);
+    assert!(rt; is_told && other.poll(&mut second).is_ready(), "{group:?}");
     assert_eq!(rt; line.numbers(group), (0, 0));
     Ok(())
 }
 
+/// Three of them.
+macro_rules! three {
+    ($operation:expr) => {
+        ($operation, $operation, $operation)
+    };
+}
+
 #[test]
-fn operations_take_turns(rt: HostRuntime) -> Result<(), Fail> {
+fn receives_take_turns(rt: HostRuntime) -> Result<(), Fail> {
+    let (s, r) = channel(&rt, Some(1))?;
+    let mut line = Handles::new(&s, r.try_clone()?)?;
+    let Ok((ruled, pass)) = bounded_with::<u32, (), Unruled>(rt.alloc(), 1) else {
+        return Err(AllocError.into());
+    };
+    let party = Party::new(&ruled, pass);
+    let mut ruled_line = Ruled { rt: &rt, party };
     for goes_on in [false, true] {
-        let (a, (s, r)) = (rt.alloc(), channel(&rt, Some(1))?);
-        let mut line = Handles {
-            s: s.try_clone()?,
-            r: Some(r.try_clone()?),
-            weak: s.downgrade()?,
-        };
-        let receives = (r.recv(), r.recv(), r.recv());
-        take_turns(&rt, &mut line, Group::Receives, receives, goes_on)?;
+        take_turns(&rt, &mut line, Group::Receives, three!(r.recv()), goes_on)?;
+        let receives = three!(ruled.recv_as::<Unruled, Unruled, _>(&rt, ruled.pass()));
+        take_turns(&rt, &mut ruled_line, Group::Receives, receives, goes_on)?;
+    }
+    Ok(())
+}
+
+#[test]
+fn receives_of_many_take_turns(rt: HostRuntime) -> Result<(), Fail> {
+    let (a, (s, r)) = (rt.alloc(), channel(&rt, Some(1))?);
+    let mut line = Handles::new(&s, r.try_clone()?)?;
+    for goes_on in [false, true] {
         let (mut one, mut two, mut three) = (Vec::new(a), Vec::new(a), Vec::new(a));
         // one without a limit waits, too, and takes no room for what isn't there
         let receives = (
@@ -165,54 +190,61 @@ fn operations_take_turns(rt: HostRuntime) -> Result<(), Fail> {
             if goes_on { (1, 0) } else { (0, 1) }
         );
         assert!(rt; (goes_on || one.capacity() == 0) && three.capacity() == 0);
-        line.tell(Group::Receives);
-        let sends = (s.send(2), s.send(3), s.send(4));
-        take_turns(&rt, &mut line, Group::Sends, sends, goes_on)?;
-        let sends = (
-            s.send_many(numbers_from(a, 2, 1)?),
-            s.send_many(numbers_from(a, 3, 1)?),
-            s.send_many(numbers_from(a, 4, 1)?),
-        );
-        take_turns(&rt, &mut line, Group::Sends, sends, goes_on)?;
-        drop(wait(&MockTask::new(&rt)?, s.closed())?);
-        assert!(rt; !s.is_closed());
-        drop(r);
-        let closeds = (s.closed(), s.closed(), s.closed());
-        take_turns(&rt, &mut line, Group::Closeds, closeds, goes_on)?;
     }
     Ok(())
 }
 
 #[test]
-fn operations_under_a_rule_take_turns(rt: HostRuntime) -> Result<(), Fail> {
+fn sends_take_turns(rt: HostRuntime) -> Result<(), Fail> {
+    let (s, r) = channel(&rt, Some(1))?;
+    let mut line = Handles::new(&s, r)?;
+    let Ok((ruled, pass)) = bounded_with::<u32, (), Unruled>(rt.alloc(), 1) else {
+        return Err(AllocError.into());
+    };
+    let party = Party::new(&ruled, pass);
+    let mut ruled_line = Ruled { rt: &rt, party };
+    line.tell(Group::Receives);
+    ruled_line.tell(Group::Receives);
     for goes_on in [false, true] {
-        let Ok((channel, pass)) = bounded_with::<u32, (), Unruled>(rt.alloc(), 1) else {
+        take_turns(&rt, &mut line, Group::Sends, three!(s.send(2)), goes_on)?;
+        let sends = three!(ruled.send_as::<Unruled, Unruled, _>(&rt, ruled.pass(), 2));
+        take_turns(&rt, &mut ruled_line, Group::Sends, sends, goes_on)?;
+    }
+    let send = ruled.send_as::<Unruled, Unruled, _>(&rt, ruled.pass(), 5);
+    let send = wait(&MockTask::new(&rt)?, send)?;
+    assert!(rt; matches!(&send.into_parts(), Some((_, 5))));
+    assert_eq!(rt; ruled_line.numbers(Group::Sends), (0, 0));
+    Ok(())
+}
+
+#[test]
+fn sends_of_many_take_turns(rt: HostRuntime) -> Result<(), Fail> {
+    let (a, (s, r)) = (rt.alloc(), channel(&rt, Some(1))?);
+    let mut line = Handles::new(&s, r)?;
+    line.tell(Group::Receives);
+    for goes_on in [false, true] {
+        let (one, two) = (numbers_from(a, 2, 1)?, numbers_from(a, 3, 1)?);
+        let three = numbers_from(a, 4, 1)?;
+        let sends = (s.send_many(one), s.send_many(two), s.send_many(three));
+        take_turns(&rt, &mut line, Group::Sends, sends, goes_on)?;
+    }
+    Ok(())
+}
+
+#[test]
+fn who_waits_for_the_last_receiver_takes_turns(rt: HostRuntime) -> Result<(), Fail> {
+    for goes_on in [false, true] {
+        let (s, r) = channel(&rt, Some(1))?;
+        let mut line = Handles::new(&s, r)?;
+        drop(wait(&MockTask::new(&rt)?, s.closed())?);
+        assert!(rt; !s.is_closed());
+        take_turns(&rt, &mut line, Group::Closeds, three!(s.closed()), goes_on)?;
+        let Ok((ruled, pass)) = bounded_with::<u32, (), Unruled>(rt.alloc(), 1) else {
             return Err(AllocError.into());
         };
-        let party = Party::new(&channel, pass);
+        let party = Party::new(&ruled, pass);
         let mut line = Ruled { rt: &rt, party };
-        let receives = (
-            channel.recv_as::<Unruled, Unruled, _>(&rt, channel.pass()),
-            channel.recv_as::<Unruled, Unruled, _>(&rt, channel.pass()),
-            channel.recv_as::<Unruled, Unruled, _>(&rt, channel.pass()),
-        );
-        take_turns(&rt, &mut line, Group::Receives, receives, goes_on)?;
-        line.tell(Group::Receives);
-        let sends = (
-            channel.send_as::<Unruled, Unruled, _>(&rt, channel.pass(), 2),
-            channel.send_as::<Unruled, Unruled, _>(&rt, channel.pass(), 3),
-            channel.send_as::<Unruled, Unruled, _>(&rt, channel.pass(), 4),
-        );
-        take_turns(&rt, &mut line, Group::Sends, sends, goes_on)?;
-        let send = channel.send_as::<Unruled, Unruled, _>(&rt, channel.pass(), 5);
-        let send = wait(&MockTask::new(&rt)?, send)?;
-        assert!(rt; matches!(&send.into_parts(), Some((_, 5))));
-        assert_eq!(rt; line.numbers(Group::Sends), (0, 0));
-        let closeds = (
-            channel.closed_as(&rt, channel.pass()),
-            channel.closed_as(&rt, channel.pass()),
-            channel.closed_as(&rt, channel.pass()),
-        );
+        let closeds = three!(ruled.closed_as(&rt, ruled.pass()));
         take_turns(&rt, &mut line, Group::Closeds, closeds, goes_on)?;
     }
     Ok(())
@@ -245,23 +277,25 @@ where
 }
 
 #[test]
-fn who_is_given_up_after_the_close_leaves_its_list(rt: HostRuntime) -> Result<(), Fail> {
+fn a_receive_that_is_given_up_after_the_close_leaves_its_list(rt: HostRuntime) -> Result<(), Fail> {
+    let (s, r) = channel(&rt, Some(1))?;
+    let (mut line, mut into) = (Handles::new(&s, r.try_clone()?)?, Vec::new(rt.alloc()));
+    let receives = (r.recv(), r.recv_many(&mut into, 5));
+    leave_after_the_close(&rt, &mut line, Group::Receives, receives)
+}
+
+#[test]
+fn a_send_that_is_given_up_after_the_close_leaves_its_list(rt: HostRuntime) -> Result<(), Fail> {
+    let (unsent, (s, r)) = (numbers_from(rt.alloc(), 2, 1)?, channel(&rt, Some(1))?);
+    let mut line = Handles::new(&s, r)?;
+    line.tell(Group::Receives);
+    let sends = (s.send(1), s.send_many(unsent));
+    leave_after_the_close(&rt, &mut line, Group::Sends, sends)
+}
+
+#[test]
+fn whoever_is_given_up_after_the_close_under_a_rule_leaves(rt: HostRuntime) -> Result<(), Fail> {
     for is_full in [false, true] {
-        let (s, r) = channel(&rt, Some(1))?;
-        let mut line = Handles {
-            s: s.try_clone()?,
-            r: None,
-            weak: s.downgrade()?,
-        };
-        let mut into = Vec::new(rt.alloc());
-        if is_full {
-            line.tell(Group::Receives);
-            let sends = (s.send(1), s.send_many(numbers_from(rt.alloc(), 2, 1)?));
-            leave_after_the_close(&rt, &mut line, Group::Sends, sends)?;
-        } else {
-            let receives = (r.recv(), r.recv_many(&mut into, 5));
-            leave_after_the_close(&rt, &mut line, Group::Receives, receives)?;
-        }
         let Ok((ruled, pass)) = bounded_with::<u32, (), Unruled>(rt.alloc(), 1) else {
             return Err(AllocError.into());
         };
