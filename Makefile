@@ -1,6 +1,6 @@
 # `make run` and `make test` do everything on a fresh machine.
 
-.PHONY: help kit run tour try test pages programs rust rust-scripts clients oldest original check facts bench
+.PHONY: help kit run tour try test pages examples programs rust rust-scripts clients oldest original check facts bench
 
 PROCESSORS := $(shell nproc)
 
@@ -15,6 +15,7 @@ help:
 	@echo 'make oldest builds the Rust crate with the compiler of Debian 12'
 	@echo 'make check  proves every crate, lowest first, over what earlier checks kept'
 	@echo 'make pages  checks what needs no proof: the pages, and the places of wrong bodies'
+	@echo 'make examples runs the examples of the documentation'
 	@echo 'make programs and make rust-scripts run the built programs on scripts, refused memory and all'
 	@echo 'make facts  writes the tables of the pages that come from the sources'
 	@echo 'make bench  measures the waiting list, the handles, the parallel map, scripts, runs and orders,'
@@ -40,7 +41,7 @@ try: kit
 
 test: kit pages
 	rt all test --jobs $(PROCESSORS)
-	$(MAKE) --no-print-directory programs rust rust-scripts
+	$(MAKE) --no-print-directory examples programs rust rust-scripts
 
 # What needs no proof.
 pages:
@@ -52,11 +53,14 @@ pages:
 	tools/refused_requests_tests
 	tools/rust_wrong_bodies_tests
 
+# What needs no proof either, and takes a minute and a half.
+examples: kit
+	tools/examples
+
 # What needs the proved programs and libraries.
 programs: kit
 	tools/compare_handles
 	tools/compare_handles_tests
-	tools/examples
 	python3 tools/chanrun_runs.py
 	python3 tools/explorations/check.py
 	tools/picture_tests
