@@ -18,6 +18,8 @@ without these answers, and whatever is open then by itself. If all goals that ar
 those that had one, `breaks_a_proof` is set: the prover may find none for a change that keeps to the
 contract, either.
 
+A change of a definition is refused if its function, a law, isn't proved: its proof is by hand.
+
 A change may have a `clause`. Then its copy ensures that clause alone, and it is refused if a goal
 of that clause isn't proved. So no time goes into the other clauses.
 
@@ -79,6 +81,8 @@ class Tried:
     call = None
     # The clause that must refuse it, if it is known.
     clause = None
+    # Whether it changes a definition.
+    is_definition = False
     # What the name of its copy ends in, if it has one.
     ending = ''
     # Its lines in the file that it was put into.
@@ -139,7 +143,7 @@ class Tried:
                     text = re.sub(OTHER % self.clause, '', text, flags=re.M | re.S)
                     text = re.sub(OWN % self.clause, r'\1', text)
                 file.write_text(text, 'utf-8')
-            if not (changed / WHOLE).exists():
+            if not self.is_definition and not (changed / WHOLE).exists():
                 self.holes.append(changed / ANSWERS)
                 with (changed / ANSWERS).open('a', encoding='utf-8') as answers:
                     answers.write(HOLE)
@@ -351,6 +355,8 @@ class Trial:
         if len(mine) != 1:
             raise Refused(f'{change.function} is no name of one function')
         name, verdict, why = mine[0].groups()
+        if change.is_definition and verdict != 'could not tell':
+            return verdict == 'proved'
         stored = f'proofs/{name.replace("::", "/")}'
         misfits = re.findall(rf'^\./{re.escape(stored)}/{ANSWERS}:(\d+):.*: error', said, re.M)
         unproved = change.unproved(said)
