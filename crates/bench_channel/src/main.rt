@@ -40,51 +40,32 @@ use std::rt::{Clock, Env, Files};
 use std::sync::Wait;
 use std::thread::Threads;
 
+/// Prints the rows of the group with this digit.
+fn group<R>(rt: &R, form: Form<'_>, digit: char) -> Result<()>
+where
+    R: Threads + Wait + Clone + Drop + AllocGlobal + Clock + RandomSource + Print + Send + Sync,
+{
+    match digit {
+        '1' => one_thread::pairs(rt, form),
+        '2' => one_thread::fills(rt, form),
+        '3' => threads::singles(rt, form),
+        '4' => threads::crowds(rt, form),
+        '5' => tasks::all(rt, form),
+        _ => one_thread::calls(rt, form),
+    }
+}
+
 /// Prints the rows of the groups whose digits stand in a text.
 fn measure<R>(rt: &R, form: Form<'_>, groups: &str) -> Result<()>
 where
     R: Threads + Wait + Clone + Drop + AllocGlobal + Clock + RandomSource + Print + Send + Sync,
 {
-    if groups.contains('1') {
-        one_thread::pairs(rt, form)?;
-    }
-    if groups.contains('2') {
-        one_thread::fills(rt, form)?;
-    }
-    if groups.contains('3') {
-        threads::singles(rt, form)?;
-    }
-    if groups.contains('4') {
-        threads::crowds(rt, form)?;
-    }
-    if groups.contains('5') {
-        tasks::all(rt, form)?;
-    }
-    if groups.contains('6') {
-        one_thread::calls(rt, form)?;
+    for digit in ['1', '2', '3', '4', '5', '6'] {
+        if groups.contains(digit) {
+            group(rt, form, digit)?;
+        }
     }
     Ok(())
-}
-
-/// Prints the table of the channel.
-fn channel<R>(rt: &R) -> Result<()>
-where
-    R: Threads
-        + Wait
-        + Clone
-        + Drop
-        + AllocGlobal
-        + Clock
-        + RandomSource
-        + Files
-        + Print
-        + Send
-        + Sync,
-{
-    println!(rt; "| Work | ns |")?;
-    println!(rt; "|---|---|")?;
-    measure(rt, Form::Table, "123456")?;
-    memory::report(rt)
 }
 
 /// Prints the table of a name, or all of them.
@@ -106,7 +87,9 @@ where
         waiters::report(rt)?;
     }
     if matches!(name, None | Some("channel")) {
-        channel(rt)?;
+        println!(rt; "| Work | ns |\n|---|---|")?;
+        measure(rt, Form::Table, "123456")?;
+        memory::report(rt)?;
     }
     if matches!(name, None | Some("map")) {
         maps::report(rt)?;

@@ -10,17 +10,13 @@ use std::rt::Clock;
 use std::sync::Wait;
 use std::thread::Threads;
 
-/// The greatest number of workers.
-const MOST_WORKERS: usize = 4;
-
-/// A number of hundredths, as text with a point.
-fn hundredths<R: AllocGlobal>(rt: &R, nanos: u128, of: u128) -> Result<String> {
-    let parts = nanos.saturating_mul(100) / of.max(1);
-    Ok(format!(in rt.alloc(); "{}.{:02}", parts / 100, parts % 100)?)
+/// How many hundredths of the second time the first one is.
+fn hundredths(nanos: u128, of: u128) -> u128 {
+    nanos.saturating_mul(100) / of.max(1)
 }
 
 /// Prints the row of one way: its time, and its ratios to the plain loop and to rayon.
-fn row<R: Print + AllocGlobal>(
+fn row<R: Print>(
     rt: &R,
     job: &str,
     way: &str,
@@ -28,10 +24,16 @@ fn row<R: Print + AllocGlobal>(
     plain: &Best,
     rayon: &Best,
 ) -> Result<()> {
-    let micros = best.nanos / 1000;
-    let to_plain = hundredths(rt, best.nanos, plain.nanos)?;
-    let to_rayon = hundredths(rt, best.nanos, rayon.nanos)?;
-    println!(rt; "| {job} | {way} | {micros} | {to_plain} | {to_rayon} |")?;
+    let to_plain = hundredths(best.nanos, plain.nanos);
+    let to_rayon = hundredths(best.nanos, rayon.nanos);
+    println!(rt;
+        "| {job} | {way} | {} | {}.{:02} | {}.{:02} |",
+        best.nanos / 1000,
+        to_plain / 100,
+        to_plain % 100,
+        to_rayon / 100,
+        to_rayon % 100
+    )?;
     Ok(())
 }
 
@@ -41,28 +43,34 @@ where
     R: Threads + Wait + Clone + Drop + AllocGlobal + Clock + Print + Send + Sync,
 {
     let inputs = (0..count).collect::<Vec<_>>(rt.alloc())?;
-    let inputs = inputs.as_slice();
+    report_ways(rt, job, name, inputs.as_slice())
+}
+
+fn report_ways<const STEPS: u64, R>(
+    rt: &R,
+    job: &Stir<STEPS>,
+    name: &str,
+    inputs: &[u64],
+) -> Result<()>
+where
+    R: Threads + Wait + Clone + Drop + AllocGlobal + Clock + Print + Send + Sync,
+{
     let plain = best_of(rt, job, inputs, Way::Plain)?;
     let rayon = best_of(rt, job, inputs, Way::Rayon)?;
-    let chunks = best_of(
-        rt,
-        job,
-        inputs,
-        Way::Chunks {
-            count: MOST_WORKERS,
-        },
-    )?;
     row(rt, name, "plain loop", &plain, &plain, &rayon)?;
     row(rt, name, "rayon", &rayon, &plain, &rayon)?;
-    row(rt, name, "`map_chunks`, chunks: 4", &chunks, &plain, &rayon)?;
-    for workers in [1, 2, MOST_WORKERS] {
-        let best = best_of(rt, job, inputs, Way::Map { workers })?;
+    for (way, text) in [
+        (Way::Chunks { count: 4 }, "`map_chunks`, chunks: 4"),
+        (Way::Map { workers: 1 }, "`map_all`, workers: 1"),
+        (Way::Map { workers: 2 }, "`map_all`, workers: 2"),
+        (Way::Map { workers: 4 }, "`map_all`, workers: 4"),
+    ] {
+        let best = best_of(rt, job, inputs, way)?;
         anyhow::ensure!(
-            [best.total, rayon.total, chunks.total] == [plain.total; 3],
+            [best.total, rayon.total] == [plain.total; 2],
             "totals differ"
         );
-        let way = format!(in rt.alloc(); "`map_all`, workers: {workers}")?;
-        row(rt, name, way.as_str(), &best, &plain, &rayon)?;
+        row(rt, name, text, &best, &plain, &rayon)?;
     }
     Ok(())
 }
@@ -72,8 +80,7 @@ pub fn report<R>(rt: &R) -> Result<()>
 where
     R: Threads + Wait + Clone + Drop + AllocGlobal + Clock + Print + Send + Sync,
 {
-    println!(rt; "| Job | Way | µs | to the plain loop | to rayon |")?;
-    println!(rt; "|---|---|---|---|---|")?;
+    println!(rt; "| Job | Way | µs | to the plain loop | to rayon |\n|---|---|---|---|---|")?;
     report_job(rt, &Stir::<1>, "1,000,000 cheap", 1_000_000)?;
     report_job(rt, &Stir::<600_000>, "1,000 dear", 1_000)
 }

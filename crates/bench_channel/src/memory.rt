@@ -2,9 +2,9 @@
 //!
 //! `held` prints a line at each moment at which the bytes that the program holds are counted, and how
 //! often it asked for some, by an allocator that is laid in front of it.
-use crate::report::channel;
+use crate::report::{Ends, channel};
 use anyhow::Result;
-use async_channel::{Receiver, Sender};
+use async_channel::{Receiver, Recv, Sender};
 use futures::task::Poll;
 use futures::test::MockTask;
 use std::alloc::AllocGlobal;
@@ -38,10 +38,25 @@ fn pages<R: Files + AllocGlobal>(rt: &R) -> Result<u64> {
 pub fn report<R: Files + Wait + Clone + Drop + AllocGlobal + Print>(rt: &R) -> Result<()> {
     let before = pages(rt)?;
     let ends = channel(rt, Some(PLACES as usize))?;
-    let taken = pages(rt)?.saturating_sub(before).saturating_mul(PAGE);
+    let after = pages(rt)?;
     drop(ends);
+    let taken = after.saturating_sub(before).saturating_mul(PAGE);
     println!(rt; "| bytes of a bounded({PLACES}) | {taken} |")?;
     Ok(())
+}
+
+fn wait<'a, R: Wait + Clone + Drop>(
+    receiver: &'a Receiver<u64, R>,
+    task: &MockTask,
+    waiting: &mut Vec<Recv<'a, u64, R>>,
+) -> Result<bool> {
+    let mut all = true;
+    for _ in 0..RECEIVES {
+        let mut recv = receiver.recv();
+        all = matches!(task.poll(&mut recv), Poll::Pending) && all;
+        waiting.push(recv)?;
+    }
+    Ok(all)
 }
 
 /// Lets receives wait, all at once, and gives them up. It answers whether each waited.
@@ -51,13 +66,7 @@ where
 {
     let task = MockTask::new(rt)?;
     let mut waiting = Vec::new(rt.alloc());
-    let mut all = true;
-    for _ in 0..RECEIVES {
-        let mut recv = receiver.recv();
-        all = matches!(task.poll(&mut recv), Poll::Pending) && all;
-        waiting.push(recv)?;
-    }
-    Ok(all)
+    wait(receiver, &task, &mut waiting)
 }
 
 /// Sends so many messages.
@@ -70,27 +79,37 @@ fn drain<R: Wait + Clone + Drop>(r: &Receiver<u64, R>, count: u64) -> bool {
     (0..count).all(|_| r.try_recv().is_ok())
 }
 
+/// Prints what was done, if no message was lost.
+fn done<R: Print>(rt: &R, is_done: bool, what: &str) -> Result<()> {
+    anyhow::ensure!(is_done, "a message was lost");
+    println!(rt; "{what}")?;
+    Ok(())
+}
+
 /// Prints what a channel without a capacity holds of the messages that went through it.
-fn held_of_messages<R>(rt: &R, s: &Sender<u64, R>, r: &Receiver<u64, R>) -> Result<()>
+fn held_of_messages<R>(rt: &R, ends: &Ends<R>) -> Result<()>
 where
     R: Wait + Clone + Drop + AllocGlobal + Print,
 {
-    let lost = "a message was lost";
-    anyhow::ensure!(fill(s, MESSAGES) && drain(r, MESSAGES), lost);
-    println!(rt; "ten million messages went in and out")?;
-    anyhow::ensure!(fill(s, MESSAGES) && drain(r, MESSAGES - 1), lost);
-    println!(rt; "ten million messages went in, and all but one out")?;
-    anyhow::ensure!(fill(s, FEW) && drain(r, 1), lost);
-    println!(rt; "a hundred messages are held")?;
-    anyhow::ensure!((0..MESSAGES).all(|_| fill(s, 1) && drain(r, 1)), lost);
-    println!(rt; "ten million messages went through beside them")?;
+    let (s, r) = (&ends.sender, &ends.receiver);
+    let through = fill(s, MESSAGES) && drain(r, MESSAGES);
+    done(rt, through, "ten million messages went in and out")?;
+    let all_but_one = fill(s, MESSAGES) && drain(r, MESSAGES - 1);
+    done(
+        rt,
+        all_but_one,
+        "ten million messages went in, and all but one out",
+    )?;
+    done(
+        rt,
+        fill(s, FEW) && drain(r, 1),
+        "a hundred messages are held",
+    )?;
+    let beside = (0..MESSAGES).all(|_| fill(s, 1) && drain(r, 1));
+    done(rt, beside, "ten million messages went through beside them")?;
     let mut into = Vec::new(rt.alloc());
-    anyhow::ensure!(
-        r.try_recv_many(&mut into, FEW as usize)? == Ok(FEW as usize),
-        lost
-    );
-    println!(rt; "a batch of a hundred was received")?;
-    Ok(())
+    let batch = r.try_recv_many(&mut into, FEW as usize)? == Ok(FEW as usize);
+    done(rt, batch, "a batch of a hundred was received")
 }
 
 /// Prints a line at each moment that counts.
@@ -99,10 +118,13 @@ pub fn held<R: Wait + Clone + Drop + AllocGlobal + RandomSource + Print>(rt: &R)
     let ends = channel(rt, Some(1))?;
     println!(rt; "idle, bounded(1)")?;
     drop(ends);
-    let (s, r) = channel(rt, None)?;
+    let ends = channel(rt, None)?;
     println!(rt; "idle, unbounded")?;
-    held_of_messages(rt, &s, &r)?;
-    anyhow::ensure!(wait_and_give_up(rt, &r)?, "a receive didn't wait");
+    held_of_messages(rt, &ends)?;
+    anyhow::ensure!(
+        wait_and_give_up(rt, &ends.receiver)?,
+        "a receive didn't wait"
+    );
     println!(rt; "a million receives waited and were given up")?;
     Ok(())
 }

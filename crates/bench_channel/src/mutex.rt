@@ -1,13 +1,14 @@
 //! What a lock and an unlock of the ruled mutex cost, in turn with those of std's mutex: the work is
 //! to lock, add 1 and unlock.
-mod plain;
 mod ruled;
 
 use anyhow::Result;
 use std::alloc::AllocGlobal;
 use std::rt::Clock;
-use std::sync::Wait;
+use std::sync::{Mutex, Wait};
+use std::thread;
 use std::thread::Threads;
+use std::time::Instant;
 
 /// How often one thread alone takes the lock.
 const ALONE: u64 = 10_000_000;
@@ -17,35 +18,62 @@ const EACH: u64 = 1_000_000;
 
 const ROUNDS: usize = 9;
 
-/// Which mutex a round is of.
-#[derive(Clone, Copy)]
-enum Kind {
-    Ruled,
-    Std,
+/// A number in a mutex.
+trait Counter {
+    /// Adds 1 so many times, under a lock each time.
+    fn add_many<R: Wait>(&self, rt: &R, count: u64);
+
+    /// The number.
+    fn sum<R: Wait>(&self, rt: &R) -> u64;
 }
 
-/// Hundredths of a nanosecond for each lock and unlock of one round.
-fn round<R>(rt: &R, kind: Kind, threads: usize) -> Result<u128>
+impl Counter for Mutex<u64> {
+    #[inline(never)]
+    fn add_many<R: Wait>(&self, rt: &R, count: u64) {
+        for _ in 0..count {
+            let mut guard = self.lock(rt);
+            *guard = guard.wrapping_add(1);
+        }
+    }
+
+    fn sum<R: Wait>(&self, rt: &R) -> u64 {
+        *self.lock(rt)
+    }
+}
+
+/// Hundredths of a nanosecond for each lock and unlock of one round, on a counter at 0.
+fn round<R, C>(rt: &R, counter: &C, threads: usize) -> Result<u128>
 where
     R: Threads + Wait + AllocGlobal + Clock + Sync,
+    C: Counter + Sync,
 {
     let each = if threads == 1 { ALONE } else { EACH };
+    let start = Instant::now(rt)?;
+    if threads == 1 {
+        counter.add_many(rt, each);
+    } else {
+        let done = thread::map_indices(
+            rt,
+            rt.alloc(),
+            threads,
+            &|_: usize| {
+                counter.add_many(rt, each);
+                1u64
+            },
+        )?;
+        drop(done);
+    }
+    let nanos = start.elapsed(rt)?.as_nanos();
     let units = each.saturating_mul(threads as u64);
-    let (nanos, sum) = match kind {
-        Kind::Ruled => ruled::count(rt, threads, each)?,
-        Kind::Std => plain::count(rt, threads, each)?,
-    };
-    anyhow::ensure!(sum == units, "a step was lost");
+    anyhow::ensure!(counter.sum(rt) == units, "a step was lost");
     Ok(nanos.saturating_mul(100) / u128::from(units.max(1)))
 }
 
 /// One row: the median of the rounds, with the least and the greatest.
-fn row<R: Print>(rt: &R, name: &str, threads: usize, mut times: Vec<u128>) -> Result<()> {
-    times.sort()?;
-    let middle = times.len() / 2;
+fn row<R: Print>(rt: &R, name: &str, threads: usize, mut times: [u128; ROUNDS]) -> Result<()> {
+    times.sort_unstable();
     print!(rt; "| {name} | {threads} ")?;
-    for place in [middle, 0, times.len().saturating_sub(1)] {
-        let time = times.get(place).copied().unwrap_or(0);
+    for time in [times[ROUNDS / 2], times[0], times[ROUNDS - 1]] {
         print!(rt; "| {}.{:02} ", time / 100, time % 100)?;
     }
     println!(rt; "|")?;
@@ -56,11 +84,10 @@ fn measure<R>(rt: &R, threads: usize) -> Result<()>
 where
     R: Threads + Wait + AllocGlobal + Clock + Print + Sync,
 {
-    let mut ruled_times = Vec::new(rt.alloc());
-    let mut std_times = Vec::new(rt.alloc());
-    for _ in 0..ROUNDS {
-        ruled_times.push(round(rt, Kind::Ruled, threads)?)?;
-        std_times.push(round(rt, Kind::Std, threads)?)?;
+    let (mut ruled_times, mut std_times) = ([0; ROUNDS], [0; ROUNDS]);
+    for place in 0..ROUNDS {
+        ruled_times[place] = round(rt, &ruled::counter(rt.alloc())?, threads)?;
+        std_times[place] = round(rt, &Mutex::new(0u64), threads)?;
     }
     row(rt, "ruled_mutex", threads, ruled_times)?;
     row(rt, "std", threads, std_times)
@@ -71,8 +98,7 @@ pub fn report<R>(rt: &R) -> Result<()>
 where
     R: Threads + Wait + AllocGlobal + Clock + Print + Sync,
 {
-    println!(rt; "| Mutex | Threads | Median, ns | Least | Greatest |")?;
-    println!(rt; "|---|---|---|---|---|")?;
+    println!(rt; "| Mutex | Threads | Median, ns | Least | Greatest |\n|---|---|---|---|---|")?;
     for threads in [1, 2, 4] {
         measure(rt, threads)?;
     }
@@ -87,9 +113,12 @@ pub fn held<R>(rt: &R) -> Result<()>
 where
     R: Threads + Wait + AllocGlobal + Clock + Print + Sync,
 {
-    round(rt, Kind::Ruled, 1)?;
-    println!(rt; "a thread took a lock alone")?;
-    round(rt, Kind::Ruled, MANY)?;
-    println!(rt; "many threads took a lock")?;
+    for (threads, who) in [
+        (1, "a thread took a lock alone"),
+        (MANY, "many threads took a lock"),
+    ] {
+        round(rt, &ruled::counter(rt.alloc())?, threads)?;
+        println!(rt; "{who}")?;
+    }
     Ok(())
 }

@@ -1,11 +1,11 @@
 //! One thread: a message in and out at once, many in and then out, and calls that pass no message.
 ghost use Rattle.std.specs.Prelude.{◌<◌};
 
-use crate::peers::{Crossbeam, Futures, Here, Peer, Tokio, UnboundedFutures, UnboundedTokio};
-use crate::report::{Form, channel, row};
+use crate::peers::{Crossbeam, Peer};
+use crate::report::{Ends, Form, channel, row};
 use crate::ruled::{Kit, Ruled};
 use anyhow::Result;
-use async_channel::Queue;
+use async_channel::{Queue, Receiver, Sender};
 use std::alloc::AllocGlobal;
 use std::rt::Clock;
 use std::sync::{Mutex, Wait};
@@ -34,79 +34,74 @@ where
     R: Wait + Clone + Drop + AllocGlobal + Clock + Print,
     requires { 0 < capacity }
 {
-    let (sender, receiver) = channel(rt, Some(capacity))?;
-    pair(rt, form, (work, "here"), Here { sender, receiver })?;
-    let (sender, receiver) = crossbeam_channel::bounded(rt.alloc(), capacity)?;
-    let crossbeam = Crossbeam {
-        rt,
-        sender,
-        receiver,
-    };
-    pair(rt, form, (work, "crossbeam_channel"), crossbeam)?;
+    shared_pairs(rt, form, work, Some(capacity))?;
     // Each sender has a place of its own beside the buffer.
-    let (sender, receiver) = futures::channel::mpsc::channel(rt.alloc(), capacity - 1)?;
-    pair(rt, form, (work, "futures"), Futures { sender, receiver })?;
-    let (sender, receiver) = tokio::sync::mpsc::channel(rt.alloc(), capacity)?;
-    pair(rt, form, (work, "tokio"), Tokio { sender, receiver })?;
-    ruled_pairs(rt, form, work, capacity)
+    let futures = futures::channel::mpsc::channel(rt.alloc(), capacity - 1)?;
+    pair(rt, form, (work, ", futures"), futures)?;
+    let tokio = tokio::sync::mpsc::channel(rt.alloc(), capacity)?;
+    pair(rt, form, (work, ", tokio"), tokio)?;
+    ruled_pair(rt, form, work, capacity)?;
+    kit_pair(rt, form, work, capacity)
 }
 
-fn ruled_pairs<R>(rt: &R, form: Form<'_>, work: &str, capacity: usize) -> Result<()>
+/// The channels whose ends threads share.
+fn shared_pairs<R>(rt: &R, form: Form<'_>, work: &str, capacity: Option<usize>) -> Result<()>
+where
+    R: Wait + Clone + Drop + AllocGlobal + Clock + Print,
+{
+    pair(rt, form, (work, ", here"), channel(rt, capacity)?)?;
+    pair(
+        rt,
+        form,
+        (work, ", crossbeam_channel"),
+        Crossbeam::new(rt, capacity)?,
+    )
+}
+
+fn ruled_pair<R>(rt: &R, form: Form<'_>, work: &str, capacity: usize) -> Result<()>
 where
     R: Wait + AllocGlobal + Clock + Print,
     requires { 0 < capacity }
 {
     let (channel, pass) = ruled_channel::bounded_with(rt.alloc(), capacity)?;
     let port = Ruled::new(rt, &channel, pass);
-    pair(rt, form, (work, "ruled_channel"), port)?;
+    pair(rt, form, (work, ", ruled_channel"), port)
+}
+
+fn kit_pair<R>(rt: &R, form: Form<'_>, work: &str, capacity: usize) -> Result<()>
+where
+    R: Wait + AllocGlobal + Clock + Print,
+    requires { 0 < capacity }
+{
     let (sender, receiver, pass) = crossbeam_channel::bounded_with(rt.alloc(), capacity)?;
     let port = Kit::new(rt, &sender, &receiver, pass);
-    pair(rt, form, (work, "bounded_with"), port)
+    pair(rt, form, (work, ", bounded_with"), port)
 }
 
 fn unbounded_pairs<R>(rt: &R, form: Form<'_>, work: &str) -> Result<()>
 where
     R: Wait + Clone + Drop + AllocGlobal + Clock + Print,
 {
-    let (sender, receiver) = channel(rt, None)?;
-    pair(rt, form, (work, "here"), Here { sender, receiver })?;
-    let (sender, receiver) = crossbeam_channel::unbounded(rt.alloc())?;
-    let crossbeam = Crossbeam {
-        rt,
-        sender,
-        receiver,
-    };
-    pair(rt, form, (work, "crossbeam_channel"), crossbeam)?;
-    let (sender, receiver) = futures::channel::mpsc::unbounded(rt.alloc())?;
-    let futures = UnboundedFutures { sender, receiver };
-    pair(rt, form, (work, "futures"), futures)?;
-    let (sender, receiver) = tokio::sync::mpsc::unbounded_channel(rt.alloc())?;
-    pair(
-        rt,
-        form,
-        (work, "tokio"),
-        UnboundedTokio { sender, receiver },
-    )
+    shared_pairs(rt, form, work, None)?;
+    let futures = futures::channel::mpsc::unbounded(rt.alloc())?;
+    pair(rt, form, (work, ", futures"), futures)?;
+    let tokio = tokio::sync::mpsc::unbounded_channel(rt.alloc())?;
+    pair(rt, form, (work, ", tokio"), tokio)
 }
 
 /// Pairs on a channel, which is named beside the work.
-fn pair<P: Peer + Drop, R>(
-    rt: &R,
-    form: Form<'_>,
-    (work, name): (&str, &str),
-    mut peer: P,
-) -> Result<()>
+fn pair<P, R>(rt: &R, form: Form<'_>, work: (&str, &str), mut peer: P) -> Result<()>
 where
-    R: AllocGlobal + Clock + Print,
+    P: Peer + Drop,
+    R: Clock + Print,
 {
-    let work = format!(in rt.alloc(); "{work}, {name}")?;
     let mut sum = 0u64;
     let start = Instant::now(rt)?;
     for number in 0..PAIRS {
         peer.send(number);
         sum = sum.wrapping_add(peer.receive());
     }
-    row(rt, form, work.as_str(), PAIRS, start, sum)
+    row(rt, form, work, PAIRS, start, sum)
 }
 
 /// A pair on a lock round the plain queue, without a channel.
@@ -121,7 +116,7 @@ where
         let _ = queue.lock(rt).push(number)?;
         sum = sum.wrapping_add(queue.lock(rt).pop().unwrap_or(0));
     }
-    row(rt, form, work, PAIRS, start, sum)
+    row(rt, form, (work, ""), PAIRS, start, sum)
 }
 
 pub fn fills<R>(rt: &R, form: Form<'_>) -> Result<()>
@@ -158,18 +153,18 @@ fn fill<R>(
 where
     R: Wait + Clone + Drop + AllocGlobal + Clock + Print,
 {
-    let (s, r) = channel(rt, capacity)?;
+    let ends = channel(rt, capacity)?;
     let mut sum = 0u64;
     let start = Instant::now(rt)?;
     for _ in 0..times {
         for number in 0..held {
-            let _ = s.try_send(number);
+            let _ = ends.sender.try_send(number);
         }
         for _ in 0..held {
-            sum = sum.wrapping_add(r.try_recv().unwrap_or(0));
+            sum = sum.wrapping_add(ends.receiver.try_recv().unwrap_or(0));
         }
     }
-    row(rt, form, work, held.saturating_mul(times), start, sum)
+    row(rt, form, (work, ""), held.saturating_mul(times), start, sum)
 }
 
 /// A copy of a sender that is given up at once, and the number of messages held.
@@ -177,16 +172,30 @@ pub fn calls<R>(rt: &R, form: Form<'_>) -> Result<()>
 where
     R: Wait + Clone + Drop + AllocGlobal + Clock + Print,
 {
-    let (s, r) = channel(rt, Some(16))?;
+    let ends = channel(rt, Some(16))?;
+    copies(rt, form, &ends.sender)?;
+    lengths(rt, form, &ends.receiver)
+}
+
+fn copies<R>(rt: &R, form: Form<'_>, sender: &Sender<u64, R>) -> Result<()>
+where
+    R: Wait + Clone + Drop + Clock + Print,
+{
     let start = Instant::now(rt)?;
     for _ in 0..PAIRS {
-        drop(s.try_clone()?);
+        drop(sender.try_clone()?);
     }
-    row(rt, form, "6 clone+drop of a sender", PAIRS, start, 0)?;
+    row(rt, form, ("6 clone+drop of a sender", ""), PAIRS, start, 0)
+}
+
+fn lengths<R>(rt: &R, form: Form<'_>, receiver: &Receiver<u64, R>) -> Result<()>
+where
+    R: Wait + Clone + Drop + Clock + Print,
+{
     let mut sum = 0u64;
     let start = Instant::now(rt)?;
     for _ in 0..PAIRS {
-        sum = sum.wrapping_add(r.len() as u64);
+        sum = sum.wrapping_add(receiver.len() as u64);
     }
-    row(rt, form, "6 len", PAIRS, start, sum)
+    row(rt, form, ("6 len", ""), PAIRS, start, sum)
 }

@@ -1,5 +1,7 @@
 //! Both ends of a channel of numbers on one thread: of this channel, and of the kit's own.
-use async_channel::{Receiver, Sender};
+use crate::report::Ends;
+use anyhow::Result;
+use std::alloc::AllocGlobal;
 use std::sync::Wait;
 
 /// Both ends, of which the caller makes each call.
@@ -11,16 +13,7 @@ pub trait Peer {
     fn receive(&mut self) -> u64;
 }
 
-/// A channel of `async_channel`.
-#[derive(Drop)]
-pub struct Here<R: Wait + Clone + Drop> {
-    /// Where numbers go in.
-    pub sender: Sender<u64, R>,
-    /// Where they come out.
-    pub receiver: Receiver<u64, R>,
-}
-
-impl<R: Wait + Clone + Drop> Peer for Here<R> {
+impl<R: Wait + Clone + Drop> Peer for Ends<R> {
     #[inline]
     fn send(&mut self, number: u64) {
         let _ = self.sender.try_send(number);
@@ -43,6 +36,21 @@ pub struct Crossbeam<'a, R: Wait> {
     pub receiver: crossbeam_channel::Receiver<u64>,
 }
 
+impl<'a, R: Wait + AllocGlobal> Crossbeam<'a, R> {
+    /// A new channel: bounded if there is a capacity, and else unbounded.
+    pub fn new(rt: &'a R, capacity: Option<usize>) -> Result<Crossbeam<'a, R>> {
+        let (sender, receiver) = match capacity {
+            Some(capacity) => crossbeam_channel::bounded(rt.alloc(), capacity)?,
+            None => crossbeam_channel::unbounded(rt.alloc())?,
+        };
+        Ok(Crossbeam {
+            rt,
+            sender,
+            receiver,
+        })
+    }
+}
+
 impl<R: Wait> Peer for Crossbeam<'_, R> {
     #[inline]
     fn send(&mut self, number: u64) {
@@ -56,85 +64,69 @@ impl<R: Wait> Peer for Crossbeam<'_, R> {
 }
 
 /// A bounded channel of the kit's `futures::channel::mpsc`.
-#[derive(Drop)]
-pub struct Futures {
-    /// Where numbers go in.
-    pub sender: futures::channel::mpsc::Sender<u64>,
-    /// Where they come out.
-    pub receiver: futures::channel::mpsc::Receiver<u64>,
-}
-
-impl Peer for Futures {
+impl Peer
+    for (
+        futures::channel::mpsc::Sender<u64>,
+        futures::channel::mpsc::Receiver<u64>,
+    ) {
     #[inline]
     fn send(&mut self, number: u64) {
-        let _ = self.sender.try_send(number);
+        let _ = self.0.try_send(number);
     }
 
     #[inline]
     fn receive(&mut self) -> u64 {
-        self.receiver.try_recv().unwrap_or(0)
+        self.1.try_recv().unwrap_or(0)
     }
 }
 
 /// An unbounded channel of the kit's `futures::channel::mpsc`.
-#[derive(Drop)]
-pub struct UnboundedFutures {
-    /// Where numbers go in.
-    pub sender: futures::channel::mpsc::UnboundedSender<u64>,
-    /// Where they come out.
-    pub receiver: futures::channel::mpsc::UnboundedReceiver<u64>,
-}
-
-impl Peer for UnboundedFutures {
+impl Peer
+    for (
+        futures::channel::mpsc::UnboundedSender<u64>,
+        futures::channel::mpsc::UnboundedReceiver<u64>,
+    ) {
     #[inline]
     fn send(&mut self, number: u64) {
-        let _ = self.sender.unbounded_send(number);
+        let _ = self.0.unbounded_send(number);
     }
 
     #[inline]
     fn receive(&mut self) -> u64 {
-        self.receiver.try_recv().unwrap_or(0)
+        self.1.try_recv().unwrap_or(0)
     }
 }
 
 /// A bounded channel of the kit's `tokio::sync::mpsc`.
-#[derive(Drop)]
-pub struct Tokio {
-    /// Where numbers go in.
-    pub sender: tokio::sync::mpsc::Sender<u64>,
-    /// Where they come out.
-    pub receiver: tokio::sync::mpsc::Receiver<u64>,
-}
-
-impl Peer for Tokio {
+impl Peer
+    for (
+        tokio::sync::mpsc::Sender<u64>,
+        tokio::sync::mpsc::Receiver<u64>,
+    ) {
     #[inline]
     fn send(&mut self, number: u64) {
-        let _ = self.sender.try_send(number);
+        let _ = self.0.try_send(number);
     }
 
     #[inline]
     fn receive(&mut self) -> u64 {
-        self.receiver.try_recv().unwrap_or(0)
+        self.1.try_recv().unwrap_or(0)
     }
 }
 
 /// An unbounded channel of the kit's `tokio::sync::mpsc`.
-#[derive(Drop)]
-pub struct UnboundedTokio {
-    /// Where numbers go in.
-    pub sender: tokio::sync::mpsc::UnboundedSender<u64>,
-    /// Where they come out.
-    pub receiver: tokio::sync::mpsc::UnboundedReceiver<u64>,
-}
-
-impl Peer for UnboundedTokio {
+impl Peer
+    for (
+        tokio::sync::mpsc::UnboundedSender<u64>,
+        tokio::sync::mpsc::UnboundedReceiver<u64>,
+    ) {
     #[inline]
     fn send(&mut self, number: u64) {
-        let _ = self.sender.send(number);
+        let _ = self.0.send(number);
     }
 
     #[inline]
     fn receive(&mut self) -> u64 {
-        self.receiver.try_recv().unwrap_or(0)
+        self.1.try_recv().unwrap_or(0)
     }
 }

@@ -16,34 +16,49 @@ pub enum Form<'a> {
     Fields(&'a str),
 }
 
-/// Prints the time since `start`, in which this many units of the work were done.
+/// Prints the time since `start`, in which this many units of the work were done. Its name is two
+/// texts, one after the other.
 pub fn row<R: Clock + Print>(
     rt: &R,
     form: Form<'_>,
-    work: &str,
+    (work, detail): (&str, &str),
     units: u64,
     start: Instant,
     sum: u64,
 ) -> Result<()> {
     let nanos = start.elapsed(rt)?.as_nanos();
-    match form {
-        Form::Fields(peer) => println!(rt; "{work}\t{peer}\t{units}\t{nanos}\t{sum}")?,
-        Form::Table => {
-            let tenths = nanos.saturating_mul(10) / u128::from(units.max(1));
-            println!(rt; "| {work} | {}.{} |", tenths / 10, tenths % 10)?;
-        }
-    }
-    Ok(())
+    let tenths = nanos.saturating_mul(10) / u128::from(units.max(1));
+    let printed = match form {
+        Form::Fields(peer) => println!(rt; "{work}{detail}\t{peer}\t{units}\t{nanos}\t{sum}"),
+        Form::Table => println!(rt; "| {work}{detail} | {}.{} |", tenths / 10, tenths % 10),
+    };
+    Ok(printed?)
 }
 
-/// Both ends of a channel: bounded if there is a capacity, and else unbounded.
+/// Both ends of a channel of numbers.
+#[derive(Drop)]
+pub struct Ends<R: Wait + Clone + Drop> {
+    /// Where numbers go in.
+    pub sender: Sender<u64, R>,
+    /// Where they come out.
+    pub receiver: Receiver<u64, R>,
+}
+
+/// A channel: bounded if there is a capacity, and else unbounded.
 pub fn channel<R: Wait + Clone + Drop + AllocGlobal>(
     rt: &R,
     capacity: Option<usize>,
-) -> Result<(Sender<u64, R>, Receiver<u64, R>)> {
+) -> Result<Ends<R>> {
     let mut maker = StampMaker::new();
-    match capacity {
-        Some(cap) if cap > 0 => Ok(bounded(rt, rt.alloc(), cap, &mut maker)?),
-        _ => Ok(unbounded(rt, rt.alloc(), &mut maker)?),
-    }
+    let (sender, receiver) = match capacity {
+        Some(cap) if cap > 0 => bounded(rt, rt.alloc(), cap, &mut maker)?,
+        _ => unbounded(rt, rt.alloc(), &mut maker)?,
+    };
+    Ok(Ends { sender, receiver })
+}
+
+/// A channel there and one back, with room for one message each.
+pub fn both_ways<R: Wait + Clone + Drop + AllocGlobal>(rt: &R) -> Result<(Ends<R>, Ends<R>)> {
+    let there = channel(rt, Some(1))?;
+    Ok((there, channel(rt, Some(1))?))
 }

@@ -198,15 +198,14 @@ impl<R: Wait> Port for Kit<'_, R> {
 fn between<P, R>(
     rt: &R,
     form: Form<'_>,
-    (work, name): (&str, &str),
+    work: (&str, &str),
     (mut left, mut right): (P, P),
     count: u64,
 ) -> Result<()>
 where
     P: Port + Drop + Send,
-    R: Threads + AllocGlobal + Clock + Print + Sync,
+    R: Threads + Clock + Print + Sync,
 {
-    let work = format!(in rt.alloc(); "{work}, {name}")?;
     let start = Instant::now(rt)?;
     let ((), sum) = join(
         rt,
@@ -223,7 +222,7 @@ where
             sum
         },
     );
-    row(rt, form, work.as_str(), count, start, sum)
+    row(rt, form, work, count, start, sum)
 }
 
 /// The rows of one thread to one, on both channels with this capacity.
@@ -232,12 +231,28 @@ where
     R: Threads + Wait + AllocGlobal + Clock + Print + Send + Sync,
     requires { 0 < capacity }
 {
+    single(rt, form, work, capacity, count)?;
+    kit_single(rt, form, work, capacity, count)
+}
+
+fn single<R>(rt: &R, form: Form<'_>, work: &str, capacity: usize, count: u64) -> Result<()>
+where
+    R: Threads + Wait + AllocGlobal + Clock + Print + Send + Sync,
+    requires { 0 < capacity }
+{
     let (channel, pass) = ruled_channel::bounded_with(rt.alloc(), capacity)?;
     let mut port = Ruled::new(rt, &channel, pass);
     let other = port.other();
-    between(rt, form, (work, "ruled_channel"), (port, other), count)?;
+    between(rt, form, (work, ", ruled_channel"), (port, other), count)
+}
+
+fn kit_single<R>(rt: &R, form: Form<'_>, work: &str, capacity: usize, count: u64) -> Result<()>
+where
+    R: Threads + Wait + AllocGlobal + Clock + Print + Send + Sync,
+    requires { 0 < capacity }
+{
     let (sender, receiver, pass) = crossbeam_channel::bounded_with(rt.alloc(), capacity)?;
     let mut port = Kit::new(rt, &sender, &receiver, pass);
     let other = port.other();
-    between(rt, form, (work, "bounded_with"), (port, other), count)
+    between(rt, form, (work, ", bounded_with"), (port, other), count)
 }

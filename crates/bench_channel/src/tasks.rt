@@ -1,11 +1,11 @@
 //! Tasks on the kit's executors.
 ghost use Rattle.futures.specs.Task.{Keeps};
 
-use crate::report::{Form, channel, row};
+use crate::report::{Ends, Form, both_ways, channel, row};
 use anyhow::Result;
 use async_channel::{Receiver, Recv, Send, Sender};
 use futures::Future;
-use futures::executor::{LocalPool, block_on};
+use futures::executor::{LocalPool, LocalSpawner, block_on};
 use futures::future::join;
 use futures::task::{Context, Poll};
 use std::alloc::AllocGlobal;
@@ -17,16 +17,13 @@ use std::time::Instant;
 const ROUNDS: u64 = 100_000;
 
 /// Polls a send and then a receive, and answers whether both were ready.
-fn ready_pair<R: Wait + Clone + Drop>(
-    sender: &Sender<u64, R>,
-    receiver: &Receiver<u64, R>,
-    number: u64,
-    cx: &mut Context<'_>,
-) -> bool
+fn ready_pair<R>(ends: &Ends<R>, number: u64, cx: &mut Context<'_>) -> bool
+where
+    R: Wait + Clone + Drop,
     ensures { Keeps cx.old cx.new }
 {
-    let mut send = sender.send(number);
-    let mut recv = receiver.recv();
+    let mut send = ends.sender.send(number);
+    let mut recv = ends.receiver.recv();
     let sent = matches!(&send.poll(cx), Poll::Ready(_));
     let received = matches!(&recv.poll(cx), Poll::Ready(_));
     sent && received
@@ -35,18 +32,17 @@ fn ready_pair<R: Wait + Clone + Drop>(
 /// A future that polls sends and receives, each of which is ready.
 #[derive(Drop)]
 struct ReadyPolls<'a, R: Wait + Clone + Drop> {
-    sender: &'a Sender<u64, R>,
-    receiver: &'a Receiver<u64, R>,
+    ends: &'a Ends<R>,
 }
 
 impl<R: Wait + Clone + Drop> Future for ReadyPolls<'_, R> {
     type Output = bool;
 
     fn poll(&mut self, cx: &mut Context<'_>) -> Poll<bool> {
-        let (sender, receiver) = (self.sender, self.receiver);
+        let ends = self.ends;
         let mut ready = true;
         for number in 0..ROUNDS {
-            ready = ready_pair(sender, receiver, number, cx) && ready;
+            ready = ready_pair(ends, number, cx) && ready;
         }
         Poll::Ready(ready)
     }
@@ -71,10 +67,11 @@ struct Player<'a, R: Wait + Clone + Drop> {
 }
 
 fn make_player<'a, R: Wait + Clone + Drop>(
-    sender: &'a Sender<u64, R>,
-    receiver: &'a Receiver<u64, R>,
+    to: &'a Ends<R>,
+    from: &'a Ends<R>,
     first: bool,
 ) -> Player<'a, R> {
+    let (sender, receiver) = (&to.sender, &from.receiver);
     Player {
         sender,
         receiver,
@@ -119,79 +116,78 @@ pub fn all<R>(rt: &R, form: Form<'_>) -> Result<()>
 where
     R: Wait + Clone + Drop + AllocGlobal + Clock + Print + RandomSource,
 {
-    let (s, r) = channel(rt, Some(16))?;
+    ready(rt, form, &channel(rt, Some(16))?)?;
+    joined(rt, form, &both_ways(rt)?)?;
+    pooled(rt, form, &both_ways(rt)?)?;
+    crowd(rt, form, &channel(rt, Some(16))?)
+}
+
+fn ready<R>(rt: &R, form: Form<'_>, ends: &Ends<R>) -> Result<()>
+where
+    R: Wait + Clone + Drop + AllocGlobal + Clock + Print + RandomSource,
+{
+    let work = ("5 executor block_on, send+recv ready", "");
     let start = Instant::now(rt)?;
-    let ready = block_on(
-        rt,
-        ReadyPolls {
-            sender: &s,
-            receiver: &r,
-        },
-    )?;
-    row(
-        rt,
-        form,
-        "5 executor block_on, send+recv ready",
-        ROUNDS,
-        start,
-        u64::from(ready),
-    )?;
-    let (there_s, there_r) = channel(rt, Some(1))?;
-    let (back_s, back_r) = channel(rt, Some(1))?;
+    let ready = block_on(rt, ReadyPolls { ends })?;
+    row(rt, form, work, ROUNDS, start, u64::from(ready))
+}
+
+fn joined<R>(rt: &R, form: Form<'_>, (there, back): &(Ends<R>, Ends<R>)) -> Result<()>
+where
+    R: Wait + Clone + Drop + AllocGlobal + Clock + Print + RandomSource,
+{
+    let work = ("5 executor block_on(join), ping-pong", "");
     let start = Instant::now(rt)?;
     block_on(
         rt,
         join(
-            make_player(&there_s, &back_r, true),
-            make_player(&back_s, &there_r, false),
+            make_player(there, back, true),
+            make_player(back, there, false),
         ),
     )?;
-    row(
-        rt,
-        form,
-        "5 executor block_on(join), ping-pong",
-        2 * ROUNDS,
-        start,
-        0,
-    )?;
-    pooled(rt, form)?;
-    crowd(rt, form)
+    row(rt, form, work, 2 * ROUNDS, start, 0)
 }
 
-fn pooled<R>(rt: &R, form: Form<'_>) -> Result<()>
+/// Spawns a player, and answers how many were spawned.
+fn spawn<'a, R>(spawner: &LocalSpawner<Player<'a, R>>, player: Player<'a, R>) -> u64
+where
+    R: Wait + Clone + Drop,
+{
+    u64::from(spawner.spawn(player).is_ok())
+}
+
+fn pooled<R>(rt: &R, form: Form<'_>, (there, back): &(Ends<R>, Ends<R>)) -> Result<()>
 where
     R: Wait + Clone + Drop + AllocGlobal + Clock + Print + RandomSource,
 {
-    let (there_s, there_r) = channel(rt, Some(1))?;
-    let (back_s, back_r) = channel(rt, Some(1))?;
+    let work = ("5 executor LocalPool, ping-pong", "");
     let mut pool = LocalPool::new(rt)?;
     let spawner = pool.spawner()?;
     let start = Instant::now(rt)?;
-    let first = spawner.spawn(make_player(&there_s, &back_r, true)).is_ok();
-    let second = spawner.spawn(make_player(&back_s, &there_r, false)).is_ok();
+    let first = spawn(&spawner, make_player(there, back, true));
+    let second = spawn(&spawner, make_player(back, there, false));
     pool.run(rt);
-    let both = u64::from(first) + u64::from(second);
     row(
         rt,
         form,
-        "5 executor LocalPool, ping-pong",
+        work,
         2 * ROUNDS,
         start,
-        both,
+        first.wrapping_add(second),
     )
 }
 
-/// A thousand tasks that receive from one channel, and one that sends.
-fn crowd<R>(rt: &R, form: Form<'_>) -> Result<()>
-where
-    R: Wait + Clone + Drop + AllocGlobal + Clock + Print + RandomSource,
-{
-    const TASKS: u64 = 1_000;
-    const EACH: u64 = 100;
-    let (sender, receiver) = channel(rt, Some(16))?;
-    let mut pool = LocalPool::new(rt)?;
-    let spawner = pool.spawner()?;
-    let start = Instant::now(rt)?;
+const TASKS: u64 = 1_000;
+
+/// How many messages each of them receives.
+const EACH: u64 = 100;
+
+/// Spawns tasks that receive from one channel, and one that sends.
+fn spawn_crowd<'a, R: Wait + Clone + Drop>(
+    spawner: &LocalSpawner<Player<'a, R>>,
+    ends: &'a Ends<R>,
+) -> u64 {
+    let (sender, receiver) = (&ends.sender, &ends.receiver);
     let mut spawned = 0u64;
     for number in 0..=TASKS {
         let (doing, left) = if number < TASKS {
@@ -200,21 +196,26 @@ where
             (Doing::Sends(sender.send(0)), TASKS * EACH)
         };
         let player = Player {
-            sender: &sender,
-            receiver: &receiver,
+            sender,
+            receiver,
             doing,
             turns: false,
             left,
         };
-        spawned = spawned.wrapping_add(u64::from(spawner.spawn(player).is_ok()));
+        spawned = spawned.wrapping_add(spawn(spawner, player));
     }
+    spawned
+}
+
+fn crowd<R>(rt: &R, form: Form<'_>, ends: &Ends<R>) -> Result<()>
+where
+    R: Wait + Clone + Drop + AllocGlobal + Clock + Print + RandomSource,
+{
+    let work = ("5 executor LocalPool, 1,000 tasks on one channel", "");
+    let mut pool = LocalPool::new(rt)?;
+    let spawner = pool.spawner()?;
+    let start = Instant::now(rt)?;
+    let spawned = spawn_crowd(&spawner, ends);
     pool.run(rt);
-    row(
-        rt,
-        form,
-        "5 executor LocalPool, 1,000 tasks on one channel",
-        TASKS * EACH,
-        start,
-        spawned,
-    )
+    row(rt, form, work, TASKS * EACH, start, spawned)
 }

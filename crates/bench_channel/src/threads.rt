@@ -1,8 +1,8 @@
 //! Threads that block.
-use crate::report::{Form, channel, row};
+use crate::peers::Crossbeam;
+use crate::report::{Ends, Form, both_ways, channel, row};
 use crate::ruled;
 use anyhow::Result;
-use async_channel::{Receiver, Sender};
 use std::alloc::AllocGlobal;
 use std::collections::VecDeque;
 use std::rt::Clock;
@@ -11,7 +11,7 @@ use std::thread;
 use std::thread::Threads;
 use std::time::Instant;
 
-/// How many messages a batch has at most.
+/// How many messages a batch has at most, as its rows say.
 const BATCH: usize = 32;
 
 /// Both ends of a channel of numbers, which threads share.
@@ -23,14 +23,7 @@ trait Line {
     fn receive_some(&self, count: u64) -> u64;
 }
 
-/// A channel of `async_channel`.
-#[derive(Drop)]
-struct Here<R: Wait + Clone + Drop> {
-    sender: Sender<u64, R>,
-    receiver: Receiver<u64, R>,
-}
-
-impl<R: Wait + Clone + Drop> Line for Here<R> {
+impl<R: Wait + Clone + Drop> Line for Ends<R> {
     fn send_some(&self, count: u64) {
         for number in 0..count {
             let _ = self.sender.send_blocking(number);
@@ -52,7 +45,7 @@ impl<R: Wait + Clone + Drop> Line for Here<R> {
 #[derive(Drop)]
 struct Batches<'a, R: Wait + Clone + Drop + AllocGlobal> {
     rt: &'a R,
-    here: Here<R>,
+    ends: Ends<R>,
 }
 
 impl<R: Wait + Clone + Drop + AllocGlobal> Line for Batches<'_, R> {
@@ -61,10 +54,10 @@ impl<R: Wait + Clone + Drop + AllocGlobal> Line for Batches<'_, R> {
         for number in 0..count {
             let _ = batch.push_back(number);
             if batch.len() >= BATCH {
-                let _ = self.here.sender.send_many_blocking(&mut batch);
+                let _ = self.ends.sender.send_many_blocking(&mut batch);
             }
         }
-        let _ = self.here.sender.send_many_blocking(&mut batch);
+        let _ = self.ends.sender.send_many_blocking(&mut batch);
     }
 
     fn receive_some(&self, count: u64) -> u64 {
@@ -76,7 +69,7 @@ impl<R: Wait + Clone + Drop + AllocGlobal> Line for Batches<'_, R> {
                 return sum;
             }
             let _ = self
-                .here
+                .ends
                 .receiver
                 .recv_many_blocking(&mut batch, left.min(BATCH));
             left = left.saturating_sub(batch.len());
@@ -87,14 +80,6 @@ impl<R: Wait + Clone + Drop + AllocGlobal> Line for Batches<'_, R> {
         }
         sum
     }
-}
-
-/// A channel of the kit's `crossbeam_channel`.
-#[derive(Drop)]
-struct Crossbeam<'a, R: Wait> {
-    rt: &'a R,
-    sender: crossbeam_channel::Sender<u64>,
-    receiver: crossbeam_channel::Receiver<u64>,
 }
 
 impl<R: Wait> Line for Crossbeam<'_, R> {
@@ -115,42 +100,47 @@ impl<R: Wait> Line for Crossbeam<'_, R> {
     }
 }
 
-fn handles<R: Wait + Clone + Drop + AllocGlobal>(
-    rt: &R,
-    capacity: Option<usize>,
-) -> Result<Here<R>> {
-    let (sender, receiver) = channel(rt, capacity)?;
-    Ok(Here { sender, receiver })
-}
-
 /// As many senders as receivers, each on a thread of its own.
 fn between<R, L>(
     rt: &R,
     form: Form<'_>,
-    work: &str,
-    line: &L,
+    work: (&str, &str),
+    line: L,
     side: usize,
     count: u64,
 ) -> Result<()>
 where
     R: Threads + AllocGlobal + Clock + Print + Sync,
-    L: Line + Sync,
+    L: Line + Sync + Drop,
 {
     let each = count / (side as u64).max(1);
+    let run = |i: usize| -> u64 {
+        if i % 2 == 0 {
+            line.send_some(each);
+            0
+        } else {
+            line.receive_some(each)
+        }
+    };
+    timed(rt, form, work, side.saturating_mul(2), count, &run)
+}
+
+/// Runs this on so many threads, by their numbers, and prints the row.
+fn timed<R, F>(
+    rt: &R,
+    form: Form<'_>,
+    work: (&str, &str),
+    threads: usize,
+    count: u64,
+    run: &F,
+) -> Result<()>
+where
+    R: Threads + AllocGlobal + Clock + Print + Sync,
+    F: Fn(usize) -> u64 + Sync,
+    requires { F.IsAlwaysCallable run.now }
+{
     let start = Instant::now(rt)?;
-    let sums = thread::map_indices(
-        rt,
-        rt.alloc(),
-        side.saturating_mul(2),
-        &|i: usize| {
-            if i % 2 == 0 {
-                line.send_some(each);
-                0
-            } else {
-                line.receive_some(each)
-            }
-        },
-    )?;
+    let sums = thread::map_indices(rt, rt.alloc(), threads, run)?;
     let sum = sums.iter().fold(0u64, |all, sum| all.wrapping_add(*sum));
     row(rt, form, work, count, start, sum)
 }
@@ -167,24 +157,14 @@ fn rows<R>(
 where
     R: Threads + Wait + Clone + Drop + AllocGlobal + Clock + Print + Send + Sync,
 {
-    between(rt, form, work, &handles(rt, capacity)?, side, count)?;
+    between(rt, form, (work, ""), channel(rt, capacity)?, side, count)?;
     let batches = Batches {
         rt,
-        here: handles(rt, capacity)?,
+        ends: channel(rt, capacity)?,
     };
-    let name = format!(in rt.alloc(); "{work}, batches of {BATCH}")?;
-    between(rt, form, name.as_str(), &batches, side, count)?;
-    let (sender, receiver) = match capacity {
-        Some(capacity) => crossbeam_channel::bounded(rt.alloc(), capacity)?,
-        None => crossbeam_channel::unbounded(rt.alloc())?,
-    };
-    let kit = Crossbeam {
-        rt,
-        sender,
-        receiver,
-    };
-    let name = format!(in rt.alloc(); "{work}, crossbeam_channel")?;
-    between(rt, form, name.as_str(), &kit, side, count)
+    between(rt, form, (work, ", batches of 32"), batches, side, count)?;
+    let kit = Crossbeam::new(rt, capacity)?;
+    between(rt, form, (work, ", crossbeam_channel"), kit, side, count)
 }
 
 /// A message there and back.
@@ -193,29 +173,22 @@ where
     R: Threads + Wait + Clone + Drop + AllocGlobal + Clock + Print + Send + Sync,
 {
     const COUNT: u64 = 10_000;
-    let (there, back) = (handles(rt, Some(1))?, handles(rt, Some(1))?);
-    let (there, back) = (&there, &back);
-    let start = Instant::now(rt)?;
-    let sums = thread::map_indices(
-        rt,
-        rt.alloc(),
-        2,
-        &|i: usize| {
-            let mut sum = 0u64;
-            for number in 0..COUNT {
-                if i == 0 {
-                    let _ = there.sender.send_blocking(number);
-                    sum = sum.wrapping_add(back.receive_some(1));
-                } else {
-                    let got = there.receive_some(1);
-                    let _ = back.sender.send_blocking(got);
-                }
+    let (there, back) = &both_ways(rt)?;
+    let run = |i: usize| -> u64 {
+        let mut sum = 0u64;
+        for number in 0..COUNT {
+            if i == 0 {
+                let _ = there.sender.send_blocking(number);
+                sum = sum.wrapping_add(back.receive_some(1));
+            } else {
+                let got = there.receive_some(1);
+                let _ = back.sender.send_blocking(got);
             }
-            sum
-        },
-    )?;
-    let sum = sums.iter().fold(0u64, |all, sum| all.wrapping_add(*sum));
-    row(rt, form, "3 round trip, two bounded(1)", COUNT, start, sum)
+        }
+        sum
+    };
+    let work = ("3 round trip, two bounded(1)", "");
+    timed(rt, form, work, 2, COUNT, &run)
 }
 
 pub fn singles<R>(rt: &R, form: Form<'_>) -> Result<()>

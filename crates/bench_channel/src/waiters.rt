@@ -110,6 +110,10 @@ fn time(rt: &(impl AllocGlobal + Clock), waiters: usize) -> Result<Times> {
     for _ in 0..CALLS / calls {
         crowds.push(Crowd::new(rt.alloc(), waiters, calls)?)?;
     }
+    time_calls(rt, &mut crowds, calls)
+}
+
+fn time_calls(rt: &impl Clock, crowds: &mut Vec<Crowd>, calls: usize) -> Result<Times> {
     let start = Instant::now(rt)?;
     for crowd in crowds.iter_mut() {
         crowd.register(calls)?;
@@ -134,8 +138,7 @@ fn time(rt: &(impl AllocGlobal + Clock), waiters: usize) -> Result<Times> {
 
 /// Prints the table: a row for each number of waiters.
 pub fn report(rt: &(impl AllocGlobal + Clock + Print)) -> Result<()> {
-    println!(rt; "| Waiters | register, ns | tell | cancel the middle one |")?;
-    println!(rt; "|---|---|---|---|")?;
+    println!(rt; "| Waiters | register, ns | tell | cancel the middle one |\n|---|---|---|---|")?;
     for waiters in [10, 1_000, 100_000] {
         let mut best = time(rt, waiters)?;
         for _ in 1..RUNS {
