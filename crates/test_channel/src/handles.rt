@@ -50,6 +50,12 @@ fn taken<V: Drop>(all: &mut BTreeMap<u64, V>, name: u64) -> Result<V> {
         .ok_or_else(|| anyhow!("{name} isn't live"))
 }
 
+/// Gives up what is live under a name.
+fn give_up<V: Drop>(all: &mut BTreeMap<u64, V>, name: u64) -> Result<()> {
+    drop(taken(all, name)?);
+    Ok(())
+}
+
 /// Puts something under a name.
 pub fn put<V: Drop>(all: &mut BTreeMap<u64, V>, name: u64, value: V) -> Result<()> {
     match all.insert(name, value) {
@@ -58,14 +64,65 @@ pub fn put<V: Drop>(all: &mut BTreeMap<u64, V>, name: u64, value: V) -> Result<(
     }
 }
 
-/// What a handle of a side answers.
-macro_rules! ask {
-    ($handles:expr, $side:expr, $question:ident) => {
-        match $side {
-            Side::Sender(name) => live(&$handles.senders, name)?.$question(),
-            Side::Receiver(name) => $handles.receiver(name)?.$question(),
+/// The handle that a step asks, or by which it is made at once.
+fn handle_of(step: Step<u64>) -> Option<Side> {
+    match step {
+        Step::TrySend(sender, _) | Step::ForceSend(sender, _) => Some(Side::Sender(sender)),
+        Step::TryRecv(receiver) | Step::IsTerminated(receiver) => Some(Side::Receiver(receiver)),
+        Step::Close(side)
+        | Step::IsClosed(side)
+        | Step::IsEmpty(side)
+        | Step::IsFull(side)
+        | Step::Len(side)
+        | Step::Capacity(side)
+        | Step::SenderCount(side)
+        | Step::ReceiverCount(side) => Some(side),
+        _ => None,
+    }
+}
+
+/// What a handle of either side answers. A count is without the handles that operations have.
+macro_rules! answer {
+    ($handle:expr, $step:expr, $kept:expr) => {
+        match $step {
+            Step::Close(_) => Reply::Flag($handle.close()),
+            Step::IsClosed(_) => Reply::Flag($handle.is_closed()),
+            Step::IsEmpty(_) => Reply::Flag($handle.is_empty()),
+            Step::IsFull(_) => Reply::Flag($handle.is_full()),
+            Step::Len(_) => Reply::Count($handle.len()),
+            Step::Capacity(_) => Reply::Capacity($handle.capacity()),
+            Step::SenderCount(_) => Reply::Count($handle.sender_count().saturating_sub($kept)),
+            _ => Reply::Count($handle.receiver_count().saturating_sub($kept)),
         }
     };
+}
+
+/// What a sender answers.
+fn by_sender<R>(sender: &Sender<u64, R>, step: Step<u64>, kept: usize) -> Reply<u64>
+where
+    R: Wait + Clone + Drop,
+{
+    match step {
+        Step::TrySend(_, message) => sender
+            .try_send(message)
+            .map_or_else(refused, Reply::TrySent),
+        Step::ForceSend(_, message) => sender
+            .force_send(message)
+            .map_or_else(refused, Reply::Forced),
+        step => answer!(sender, step, kept),
+    }
+}
+
+/// What a receiver answers.
+fn by_receiver<R>(receiver: &Receiver<u64, R>, step: Step<u64>, kept: usize) -> Reply<u64>
+where
+    R: Wait + Clone + Drop,
+{
+    match step {
+        Step::TryRecv(_) => Reply::Received(receiver.try_recv()),
+        Step::IsTerminated(_) => Reply::Flag(receiver.is_terminated()),
+        step => answer!(receiver, step, kept),
+    }
 }
 
 /// The answer of a send that was refused memory, with the message that came back.
@@ -182,23 +239,25 @@ impl<'a, R: Wait + Clone + Drop + RandomSource + AllocGlobal> Handles<'a, R> {
 
     /// Makes the call of a line.
     pub fn make(&mut self, line: Line) -> Result<Answer> {
-        Ok(match line {
-            Line::One(step) => Answer::Replied(self.step(step)?),
+        match line {
+            Line::One(step) => self.step(step).map(Answer::Replied),
             Line::SendBlocking(sender, message) => {
                 let sent = live(&self.senders, sender)?.send_blocking(message);
                 let polled = sent.map(Poll::Ready);
-                Answer::Replied(polled.map_or_else(refused, Reply::SendPolled))
+                Ok(Answer::Replied(polled.map_or_else(refused, Reply::SendPolled)))
             }
             Line::RecvBlocking(receiver) => {
                 let received = self.receiver(receiver)?.recv_blocking()?;
-                Answer::Replied(Reply::RecvPolled(Poll::Ready(received)))
+                Ok(Answer::Replied(Reply::RecvPolled(Poll::Ready(received))))
             }
-            Line::IntoMsg(op) => Answer::Message(taken(&mut self.operations, op)?.into_msg()?),
-            Line::SendMany(way, sender, messages) => self.send_many(way, sender, messages)?,
-            Line::RecvMany(way, receiver, limit) => self.recv_many(way, receiver, limit)?,
-            Line::TryIter(receiver, limit) => self.take_from_iter(receiver, limit)?,
-            Line::Notice(_) | Line::Settle => return Err(anyhow!("no handle makes it")),
-        })
+            Line::IntoMsg(op) => taken(&mut self.operations, op)?
+                .into_msg()
+                .map(Answer::Message),
+            Line::SendMany(way, sender, messages) => self.send_many(way, sender, messages),
+            Line::RecvMany(way, receiver, limit) => self.recv_many(way, receiver, limit),
+            Line::TryIter(receiver, limit) => self.take_from_iter(receiver, limit),
+            Line::Notice(_) | Line::Settle => Err(anyhow!("no handle makes it")),
+        }
     }
 
     fn send_many(&self, way: Way, sender: u64, messages: Messages) -> Result<Answer> {
@@ -257,70 +316,54 @@ impl<'a, R: Wait + Clone + Drop + RandomSource + AllocGlobal> Handles<'a, R> {
 
     /// Makes a single step.
     fn step(&mut self, step: Step<u64>) -> Result<Reply<u64>> {
-        Ok(match step {
-            Step::TrySend(sender, message) => live(&self.senders, sender)?
-                .try_send(message)
-                .map_or_else(refused, Reply::TrySent),
-            Step::ForceSend(sender, message) => live(&self.senders, sender)?
-                .force_send(message)
-                .map_or_else(refused, Reply::Forced),
-            Step::TryRecv(receiver) => Reply::Received(self.receiver(receiver)?.try_recv()),
-            Step::Poll(op) => self.poll(Who::Op(op))?,
-            Step::PollNext(receiver) => self.poll(Who::Receiver(receiver))?,
-            Step::IsTerminated(receiver) => Reply::Flag(self.receiver(receiver)?.is_terminated()),
-            Step::UpgradeSender { of, new } => Reply::Upgraded(self.upgrade_sender(of, new)?),
-            Step::UpgradeReceiver { of, new } => Reply::Upgraded(self.upgrade_receiver(of, new)?),
-            step => self.step_of_side(step)?,
-        })
+        let kept = match step {
+            Step::SenderCount(_) => self.kept(false),
+            Step::ReceiverCount(_) => self.kept(true),
+            _ => 0,
+        };
+        match handle_of(step) {
+            Some(Side::Sender(name)) => Ok(by_sender(live(&self.senders, name)?, step, kept)),
+            Some(Side::Receiver(name)) => Ok(by_receiver(self.receiver(name)?, step, kept)),
+            None => self.step_of_names(step),
+        }
     }
 
-    /// Asks a side, or closes the channel by it. What is no such step makes a name or gives one up.
-    fn step_of_side(&mut self, step: Step<u64>) -> Result<Reply<u64>> {
-        Ok(match step {
-            Step::Close(side) => Reply::Flag(ask!(self, side, close)),
-            Step::IsClosed(side) => Reply::Flag(ask!(self, side, is_closed)),
-            Step::IsEmpty(side) => Reply::Flag(ask!(self, side, is_empty)),
-            Step::IsFull(side) => Reply::Flag(ask!(self, side, is_full)),
-            Step::Len(side) => Reply::Count(ask!(self, side, len)),
-            Step::Capacity(side) => Reply::Capacity(ask!(self, side, capacity)),
-            Step::SenderCount(side) => {
-                Reply::Count(self.named(ask!(self, side, sender_count), false))
-            }
-            Step::ReceiverCount(side) => {
-                Reply::Count(self.named(ask!(self, side, receiver_count), true))
-            }
-            step => {
-                self.rename(step)?;
-                Reply::Done
-            }
-        })
-    }
-
-    /// So many receivers, or so many senders, without those that operations have.
-    fn named(&self, count: usize, are_receivers: bool) -> usize {
-        let mut named = count;
+    /// How many receivers, or how many senders, operations have.
+    fn kept(&self, are_receivers: bool) -> usize {
+        let mut kept = 0usize;
         for operation in self.operations.values() {
             if (operation.group() == Group::Receives) == are_receivers {
-                named = named.saturating_sub(1);
+                kept = kept.saturating_add(1);
             }
         }
-        named
+        kept
     }
 
-    fn upgrade_sender(&mut self, of: u64, new: u64) -> Result<bool> {
+    /// Polls who may wait, or makes a name or gives one up.
+    fn step_of_names(&mut self, step: Step<u64>) -> Result<Reply<u64>> {
+        match step {
+            Step::Poll(op) => self.poll(Who::Op(op)),
+            Step::PollNext(receiver) => self.poll(Who::Receiver(receiver)),
+            Step::UpgradeSender { of, new } => self.upgrade_sender(of, new),
+            Step::UpgradeReceiver { of, new } => self.upgrade_receiver(of, new),
+            step => self.rename(step).map(|()| Reply::Done),
+        }
+    }
+
+    fn upgrade_sender(&mut self, of: u64, new: u64) -> Result<Reply<u64>> {
         match live(&self.weak_senders, of)?.upgrade()? {
             Some(sender) => put(&mut self.senders, new, sender)?,
-            None => return Ok(false),
+            None => return Ok(Reply::Upgraded(false)),
         }
-        Ok(true)
+        Ok(Reply::Upgraded(true))
     }
 
-    fn upgrade_receiver(&mut self, of: u64, new: u64) -> Result<bool> {
+    fn upgrade_receiver(&mut self, of: u64, new: u64) -> Result<Reply<u64>> {
         match live(&self.weak_receivers, of)?.upgrade()? {
             Some(receiver) => self.put_receiver(new, receiver)?,
-            None => return Ok(false),
+            None => return Ok(Reply::Upgraded(false)),
         }
-        Ok(true)
+        Ok(Reply::Upgraded(true))
     }
 
     /// Makes a name, or gives one up.
@@ -356,14 +399,13 @@ impl<'a, R: Wait + Clone + Drop + RandomSource + AllocGlobal> Handles<'a, R> {
 
     fn give_up_or_begin(&mut self, step: Step<u64>) -> Result<()> {
         match step {
-            Step::DropSender(name) => drop(taken(&mut self.senders, name)?),
-            Step::DropReceiver(name) => drop(taken(&mut self.receivers, name)?),
-            Step::DropWeakSender(name) => drop(taken(&mut self.weak_senders, name)?),
-            Step::DropWeakReceiver(name) => drop(taken(&mut self.weak_receivers, name)?),
-            Step::DropOp(name) => drop(taken(&mut self.operations, name)?),
-            step => return self.begin(step),
+            Step::DropSender(name) => give_up(&mut self.senders, name),
+            Step::DropReceiver(name) => give_up(&mut self.receivers, name),
+            Step::DropWeakSender(name) => give_up(&mut self.weak_senders, name),
+            Step::DropWeakReceiver(name) => give_up(&mut self.weak_receivers, name),
+            Step::DropOp(name) => give_up(&mut self.operations, name),
+            step => self.begin(step),
         }
-        Ok(())
     }
 
     /// Begins an operation.

@@ -41,15 +41,18 @@ pub enum Line {
     IntoMsg(u64),
 }
 
+/// The word that can't be read, and why.
+type Unread<'t> = (&'t str, &'static str);
+
 /// The number behind these letters.
-fn number(letters: &str, word: &str) -> Result<u64> {
+fn number<'t>(letters: &str, word: &'t str) -> std::result::Result<u64, Unread<'t>> {
     word.strip_prefix(letters)
         .and_then(|digits| digits.parse::<u64>().ok())
-        .ok_or_else(|| anyhow!("{word}: no name, or no number"))
+        .ok_or((word, "no name, or no number"))
 }
 
 /// By which of the calls of this name a verb moves a batch.
-fn way_of(call: &str, verb: &str) -> Result<Way> {
+fn way_of<'t>(call: &str, verb: &'t str) -> std::result::Result<Way, Unread<'t>> {
     if verb == call {
         Ok(Way::Polled)
     } else if verb.strip_prefix("try_") == Some(call) {
@@ -57,20 +60,13 @@ fn way_of(call: &str, verb: &str) -> Result<Way> {
     } else if verb.strip_suffix("_blocking") == Some(call) {
         Ok(Way::Blocking)
     } else {
-        Err(anyhow!("{verb}: no verb"))
+        Err((verb, "no verb"))
     }
 }
 
-/// The line that a text says.
-pub fn line_of(alloc: Global, text: &str) -> Result<Line> {
-    match command_of(alloc, text.as_bytes())? {
-        Ok(Command::Make(step)) => return Ok(Line::One(step)),
-        Ok(Command::Settle) => return Ok(Line::Settle),
-        Ok(Command::Notice(who)) => return Ok(Line::Notice(who)),
-        Err(_) => {}
-    }
-    let words: Vec<&str> = text.split_whitespace().collect(alloc)?;
-    Ok(match words.as_slice() {
+/// The line that words say.
+fn line_of_words<'t>(words: &[&'t str], text: &'t str) -> std::result::Result<Line, Unread<'t>> {
+    Ok(match words {
         ["send_blocking", sender, message] => {
             Line::SendBlocking(number("s", sender)?, number("", message)?)
         }
@@ -88,6 +84,18 @@ pub fn line_of(alloc: Global, text: &str) -> Result<Line> {
             let messages = Messages { first, count };
             Line::SendMany(way_of("send_many", verb)?, number("s", sender)?, messages)
         }
-        _ => return Err(anyhow!("{text}: no line")),
+        _ => return Err((text, "no line")),
     })
+}
+
+/// The line that a text says.
+pub fn line_of(alloc: Global, text: &str) -> Result<Line> {
+    match command_of(alloc, text.as_bytes())? {
+        Ok(Command::Make(step)) => return Ok(Line::One(step)),
+        Ok(Command::Settle) => return Ok(Line::Settle),
+        Ok(Command::Notice(who)) => return Ok(Line::Notice(who)),
+        Err(_) => {}
+    }
+    let words: Vec<&str> = text.split_whitespace().collect(alloc)?;
+    line_of_words(words.as_slice(), text).map_err(|(word, why)| anyhow!("{word}: {why}"))
 }
