@@ -5,7 +5,6 @@ use event_list::WaitList;
 use futures::task::Poll;
 use std::process::Abort;
 use std::sync::atomic::{AtomicU64, Ordering};
-use std::test::Fail;
 
 /// One of those that live.
 struct Counted<'a> {
@@ -31,9 +30,9 @@ fn count(live: &AtomicU64) -> u64 {
 }
 
 #[test]
-fn messages_of_a_run(rt: HostRuntime) -> Result<(), Fail> {
+fn messages_of_a_run(rt: HostRuntime) {
     let live = AtomicU64::new(0);
-    let mut run = Run::new(rt.alloc(), Kind::Bounded(1))?;
+    let mut run = Run::new(rt.alloc(), Kind::Bounded(1)).expect(&rt, "memory");
     drop(run.step(Step::TrySend(0, Counted::new(&live))));
     for op in 0..2 {
         let msg = Counted::new(&live);
@@ -45,7 +44,6 @@ fn messages_of_a_run(rt: HostRuntime) -> Result<(), Fail> {
     assert_eq!(rt; count(&live), 2);
     drop(run);
     assert_eq!(rt; count(&live), 0);
-    Ok(())
 }
 
 /// The ticket of a new entry.
@@ -103,8 +101,11 @@ fn of_a_core<'a>(rt: &impl Abort, core: &mut Core<u64, Counted<'a>>, live: &'a A
 }
 
 #[test]
-fn payloads_of_a_core(rt: HostRuntime) -> Result<(), Fail> {
+fn payloads_of_a_core(rt: HostRuntime) {
     let live = AtomicU64::new(0);
-    of_a_core(&rt, &mut Core::bounded(rt.alloc(), 1)?, &live);
-    Ok(())
+    of_a_core(
+        &rt,
+        &mut Core::bounded(rt.alloc(), 1).expect(&rt, "memory"),
+        &live,
+    );
 }

@@ -5,7 +5,6 @@ use chanrun::trace::run_trace;
 use futures::task::Poll;
 use std::alloc::Global;
 use std::process::Abort;
-use std::test::Fail;
 
 const MANY: u64 = 100_000;
 
@@ -15,10 +14,10 @@ fn is_answered(run: &mut Run<u64>, step: Step<u64>, want: Reply<u64>) -> bool {
 }
 
 #[test]
-fn steps_of_a_run(rt: HostRuntime) -> Result<(), Fail> {
+fn steps_of_a_run(rt: HostRuntime) {
     let mut steps = Vec::new(rt.alloc());
     for m in 0..MANY {
-        steps.push(Step::TrySend(0, m))?;
+        steps.push(Step::TrySend(0, m)).expect(&rt, "memory");
     }
     let Ok(mut end) = run_all(rt.alloc(), Kind::Unbounded, steps) else {
         panic!(rt; "memory was refused");
@@ -26,7 +25,6 @@ fn steps_of_a_run(rt: HostRuntime) -> Result<(), Fail> {
     assert!(rt; end.replies.len() as u64 == MANY);
     let len = Step::Len(Side::Receiver(0));
     assert!(rt; is_answered(&mut end.run, len, Reply::Count(100_000)));
-    Ok(())
 }
 
 fn start(rt: &impl Abort, run: &mut Run<u64>) {
@@ -43,13 +41,12 @@ fn send(rt: &impl Abort, run: &mut Run<u64>) {
 }
 
 #[test]
-fn operations_of_a_run(rt: HostRuntime) -> Result<(), Fail> {
-    let mut run = Run::new(rt.alloc(), Kind::Unbounded)?;
+fn operations_of_a_run(rt: HostRuntime) {
+    let mut run = Run::new(rt.alloc(), Kind::Unbounded).expect(&rt, "memory");
     start(&rt, &mut run);
     send(&rt, &mut run);
-    let settled = run.settle()?;
+    let settled = run.settle().expect(&rt, "memory");
     assert!(rt; settled.polls == 100_000 && settled.finished.len() as u64 == MANY);
-    Ok(())
 }
 
 /// Copies each kind of handle until so many live.
@@ -89,12 +86,11 @@ fn give_up(rt: &impl Abort, run: &mut Run<u64>) {
 }
 
 #[test]
-fn handles_of_a_run(rt: HostRuntime) -> Result<(), Fail> {
-    let mut run = Run::new(rt.alloc(), Kind::Unbounded)?;
+fn handles_of_a_run(rt: HostRuntime) {
+    let mut run = Run::new(rt.alloc(), Kind::Unbounded).expect(&rt, "memory");
     copy(&rt, &mut run);
     count(&rt, &mut run);
     give_up(&rt, &mut run);
-    Ok(())
 }
 
 /// How many receives wait, and how many messages are held, while a trace is written.
@@ -111,22 +107,31 @@ fn traced(rt: &impl Abort, alloc: Global, script: &[u8], byte: u8, last: &str) -
 }
 
 #[test]
-fn rows_of_a_trace(rt: HostRuntime) -> Result<(), Fail> {
+fn rows_of_a_trace(rt: HostRuntime) {
     let a = rt.alloc();
     let (mut polls, mut sends) = (Vec::new(a), Vec::new(a));
-    polls.extend_from_slice(b"unbounded\n")?;
-    sends.extend_from_slice(b"unbounded\n")?;
+    polls
+        .extend_from_slice(b"unbounded\n")
+        .expect(&rt, "memory");
+    sends
+        .extend_from_slice(b"unbounded\n")
+        .expect(&rt, "memory");
     for op in 0..TRACED {
-        let lines = format!(in a; "recv o{op} r0\npoll o{op}\n")?;
-        polls.extend_from_slice(lines.as_bytes())?;
-        sends.extend_from_slice(b"try_send s0 7\n")?;
+        let lines = format!(in a; "recv o{op} r0\npoll o{op}\n").expect(&rt, "memory");
+        polls
+            .extend_from_slice(lines.as_bytes())
+            .expect(&rt, "memory");
+        sends
+            .extend_from_slice(b"try_send s0 7\n")
+            .expect(&rt, "memory");
     }
-    polls.extend_from_slice(b"close s0\nsettle\n")?;
+    polls
+        .extend_from_slice(b"close s0\nsettle\n")
+        .expect(&rt, "memory");
     let settled = "settle => settled 150 150 | held | waiting\n";
     let rows = traced(&rt, a, polls.as_slice(), b'\n', settled);
     assert_eq!(rt; rows, 3 + 3 * TRACED);
     let sevens = traced(&rt, a, sends.as_slice(), b'7', " 7 | waiting\n");
     // one in each line, and those that are held behind it
     assert_eq!(rt; sevens, TRACED + TRACED * (TRACED + 1) / 2);
-    Ok(())
 }

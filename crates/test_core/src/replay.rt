@@ -7,7 +7,6 @@ use chanrun::reply_text::ReplyText;
 use chanrun::script::run_script;
 use std::alloc::{AllocError, Global};
 use std::sync::Wait;
-use std::test::Fail;
 use std::thread::for_each_mut;
 
 /// How many pairs of calls a clerk makes.
@@ -46,13 +45,14 @@ fn reply(outcome: &Outcome<u64>) -> Reply<u64> {
 }
 
 #[test]
-fn the_history_as_a_script(rt: HostRuntime) -> Result<(), Fail> {
+fn the_history_as_a_script(rt: HostRuntime) {
     let alloc = rt.alloc();
     let mut maker = StampMaker::new();
-    let recorder = Recorder::unbounded(alloc, &mut maker)?;
+    let recorder = Recorder::unbounded(alloc, &mut maker).expect(&rt, "a recorder");
     let mut clerks = Vec::new(alloc);
     for _ in 0..4u8 {
-        clerks.push(recorder.clerk(&rt)?)?;
+        let clerk = recorder.clerk(&rt).expect(&rt, "a clerk");
+        clerks.push(clerk).expect(&rt, "memory");
     }
     for_each_mut(
         &rt,
@@ -62,20 +62,21 @@ fn the_history_as_a_script(rt: HostRuntime) -> Result<(), Fail> {
             make_pairs(&rt, &recorder, clerk, number as u64);
         },
     );
-    let book = recorder.finish(clerks)?;
+    let book = recorder.finish(clerks).expect(&rt, "a book");
     assert_eq!(rt; book.history().len(), 1_000);
-    let mut script = String::from_str(alloc, "unbounded\n")?;
+    let mut script = String::from_str(alloc, "unbounded\n").expect(&rt, "memory");
     for (call, _) in book.history() {
-        script.push_str(line(alloc, call)?.as_str())?;
+        let line = line(alloc, call).expect(&rt, "memory");
+        script.push_str(line.as_str()).expect(&rt, "memory");
     }
     let mut reader = FromStd::new(script.as_bytes());
     let mut writer = FromStd::new(Vec::new(alloc));
     assert_eq!(rt; run_script(alloc, &mut reader, &mut writer), Ok(()));
-    let written = String::from_utf8(writer.into_inner())?;
+    let written = String::from_utf8(writer.into_inner()).expect(&rt, "a text");
     let mut lines = written.lines();
     for (call, outcome) in book.history() {
         let answer = ReplyText(reply(outcome));
-        let wanted = format!(in alloc; "{answer}")?;
+        let wanted = format!(in alloc; "{answer}").expect(&rt, "memory");
         let given = lines.next();
         assert!(rt;
             given == Some(wanted.as_str()),
@@ -84,5 +85,4 @@ fn the_history_as_a_script(rt: HostRuntime) -> Result<(), Fail> {
         assert!(rt; wanted.starts_with("ok"));
     }
     assert!(rt; lines.next().is_none());
-    Ok(())
 }

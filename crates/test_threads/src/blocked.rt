@@ -1,5 +1,5 @@
 //! Threads that are blocked: what ends each call, and what it answers.
-use crate::waiting::{are_waiting, channel};
+use crate::waiting::{are_waiting, channel, new_task};
 use crate::ways::numbers_from;
 use Act::*;
 use Said::*;
@@ -10,7 +10,6 @@ use std::process::Abort;
 use std::random::RandomSource;
 use std::rt::Clock;
 use std::sync::Wait;
-use std::test::Fail;
 use std::thread;
 use std::thread::{JoinHandle, Threads};
 use std::time::Duration;
@@ -111,14 +110,24 @@ impl Act {
 type Ends<R> = (Sender<u64, R>, Receiver<u64, R>, WeakSender<u64, R>);
 
 /// A channel at which the call blocks: without a bound, or full with the message 1.
-fn start<R: Wait + Clone + Drop + AllocGlobal>(rt: &R, call: Call) -> Result<Ends<R>, Fail> {
+fn start<R: Wait + Clone + Drop + AllocGlobal + Abort>(rt: &R, call: Call) -> Ends<R> {
     let is_send = matches!(call.group(), Group::Sends);
-    let (s, r) = channel(rt, is_send.then_some(1))?;
+    let (s, r) = channel(rt, is_send.then_some(1));
     if is_send {
         drop(s.try_send(1));
     }
-    let weak = s.downgrade()?;
-    Ok((s, r, weak))
+    let weak = s.downgrade().expect(rt, "memory");
+    (s, r, weak)
+}
+
+/// A copy of each, for a thread.
+fn own_ends<R: Wait + Clone + Drop + Abort>(
+    rt: &R,
+    s: &Sender<u64, R>,
+    r: &Receiver<u64, R>,
+) -> (Sender<u64, R>, Receiver<u64, R>) {
+    let (own_s, own_r) = (s.try_clone(), r.try_clone());
+    (own_s.expect(rt, "memory"), own_r.expect(rt, "memory"))
 }
 
 /// Blocks a thread in a call, until so many wait.
@@ -129,15 +138,16 @@ fn blocked<R>(
     r: &Receiver<u64, R>,
     weak: &WeakSender<u64, R>,
     count: usize,
-) -> Result<JoinHandle<Said>, Fail>
+) -> JoinHandle<Said>
 where
     R: Threads + Wait + Clone + Drop + AllocGlobal + Abort,
     R: std::marker::Send + Sync + 'static,
 {
-    let (alloc, own_s, own_r) = (rt.alloc(), s.try_clone()?, r.try_clone()?);
-    let thread = thread::spawn(rt, move || call.make(alloc, &own_s, &own_r))?;
+    let (own_s, own_r) = own_ends(rt, s, r);
+    let alloc = rt.alloc();
+    let thread = thread::spawn(rt, move || call.make(alloc, &own_s, &own_r));
     assert!(rt; are_waiting(weak, call.group(), (count, 0)), "{call:?}");
-    Ok(thread)
+    thread.expect(rt, "a thread")
 }
 
 /// Two calls that block at one channel, one after the other; and what ends the first one, and then
@@ -168,28 +178,26 @@ const CASES: [Case; 5] = [
 ];
 
 /// Blocks two threads, and ends one after the other.
-fn ends_both<R>(rt: &R, ([first, second], [one_act, other_act]): &Case) -> Result<(), Fail>
+fn ends_both<R>(rt: &R, ([first, second], [one_act, other_act]): &Case)
 where
     R: Threads + Wait + Clone + Drop + AllocGlobal + Abort,
     R: std::marker::Send + Sync + 'static,
 {
-    let (s, r, weak) = start(rt, *first)?;
-    let one = blocked(rt, *first, &s, &r, &weak, 1)?;
-    let other = blocked(rt, *second, &s, &r, &weak, 2)?;
+    let (s, r, weak) = start(rt, *first);
+    let one = blocked(rt, *first, &s, &r, &weak, 1);
+    let other = blocked(rt, *second, &s, &r, &weak, 2);
     for (thread, (act, answer, ended)) in [(one, one_act), (other, other_act)] {
         assert_eq!(rt; act.make(&s, &r), *answer, "{act:?}");
         assert_eq!(rt; thread.join(rt), *ended, "{act:?}");
     }
     assert!(rt; are_waiting(&weak, first.group(), (0, 0)));
-    Ok(())
 }
 
 #[test]
-fn the_longest_blocked_call_ends(rt: HostRuntime) -> Result<(), Fail> {
+fn the_longest_blocked_call_ends(rt: HostRuntime) {
     for case in &CASES {
-        ends_both(&rt, case)?;
+        ends_both(&rt, case);
     }
-    Ok(())
 }
 
 /// How often a blocked thread is told, and finds nothing.
@@ -213,16 +221,16 @@ fn repeats<R: Wait + Clone + Drop + AllocGlobal>(
 }
 
 #[test]
-fn who_is_told_in_vain_is_told_again_and_tells_no_other(rt: HostRuntime) -> Result<(), Fail> {
+fn who_is_told_in_vain_is_told_again_and_tells_no_other(rt: HostRuntime) {
     // What tells the call, what takes that before it, and what ends it, with its answer.
     for (call, tells, takes, ends, last) in [
         (Call::Recv, TrySend(1), TryRecv, TrySend(9), Got(9)),
         (Call::Send(1), TryRecv, TrySend(0), Close, Closed),
     ] {
-        let (s, r, weak) = start(&rt, call)?;
-        let (own_s, own_r) = (s.try_clone()?, r.try_clone()?);
-        let thread = thread::spawn(&rt, move || repeats(&rt, call, last, &own_s, &own_r))?;
-        let task = MockTask::new(&rt)?;
+        let (s, r, weak) = start(&rt, call);
+        let (own_s, own_r) = own_ends(&rt, &s, &r);
+        let thread = thread::spawn(&rt, move || repeats(&rt, call, last, &own_s, &own_r));
+        let task = new_task(&rt);
         for _ in 0..ROUNDS {
             assert!(rt; are_waiting(&weak, call.group(), (1, 0)), "{call:?}");
             let (mut send, mut recv) = (s.send(0), r.recv());
@@ -233,10 +241,9 @@ fn who_is_told_in_vain_is_told_again_and_tells_no_other(rt: HostRuntime) -> Resu
             assert!(rt; are_waiting(&weak, call.group(), (2, 0)), "{call:?}");
         }
         assert_eq!(rt; ends.make(&s, &r), Done, "{call:?}");
-        assert!(rt; thread.join(&rt), "{call:?}");
+        assert!(rt; thread.expect(&rt, "a thread").join(&rt), "{call:?}");
         assert!(rt; are_waiting(&weak, call.group(), (0, 0)), "{call:?}");
     }
-    Ok(())
 }
 
 /// Lets others run for a while. A turn that is given away may take any time on a busy machine.
@@ -259,50 +266,48 @@ fn is_ready<R: Wait + Clone + Drop>(
 
 /// Blocks a thread in a call behind a task's, which is told. It answers whether the task goes on
 /// before what ends the thread's call, but for a close, and what the thread's call answers.
-fn sleeps<R>(rt: &R, call: Call, tells: Act, ends: Act) -> Result<(bool, Said), Fail>
+fn sleeps<R>(rt: &R, call: Call, tells: Act, ends: Act) -> (bool, Said)
 where
     R: Threads + Wait + Clone + Drop + RandomSource + AllocGlobal + Abort + Clock,
     R: std::marker::Send + Sync + 'static,
 {
-    let (s, r, weak) = start(rt, call)?;
-    let (task, mut send, mut recv) = (MockTask::new(rt)?, s.send(2), r.recv());
+    let (s, r, weak) = start(rt, call);
+    let (task, mut send, mut recv) = (new_task(rt), s.send(2), r.recv());
     assert!(rt; !is_ready(&task, call, &mut send, &mut recv));
-    let thread = blocked(rt, call, &s, &r, &weak, 2)?;
+    let thread = blocked(rt, call, &s, &r, &weak, 2);
     assert!(rt; tells.make(&s, &r) != Otherwise);
     give_time(rt);
     let goes_on = !matches!(ends, Close) && is_ready(&task, call, &mut send, &mut recv);
     assert!(rt; ends.make(&s, &r) != Otherwise);
-    Ok((goes_on, thread.join(rt)))
+    (goes_on, thread.join(rt))
 }
 
 #[test]
-fn a_blocked_call_sleeps_until_it_is_told(rt: HostRuntime) -> Result<(), Fail> {
+fn a_blocked_call_sleeps_until_it_is_told(rt: HostRuntime) {
     for (call, tells, ends, wanted) in [
         (Call::Recv, TrySend(7), TrySend(8), (true, Got(8))),
         (Call::Recv, TrySend(7), Close, (false, Got(7))),
         (Call::Send(3), TryRecv, TryRecv, (true, Done)),
     ] {
-        assert_eq!(rt; sleeps(&rt, call, tells, ends)?, wanted, "{call:?}");
+        assert_eq!(rt; sleeps(&rt, call, tells, ends), wanted, "{call:?}");
     }
-    Ok(())
 }
 
 #[test]
-fn a_told_call_wakes_no_other(rt: HostRuntime) -> Result<(), Fail> {
+fn a_told_call_wakes_no_other(rt: HostRuntime) {
     for (call, act, ended) in [
         (Call::Recv, TrySend(7), Got(7)),
         (Call::Send(2), TryRecv, Done),
     ] {
-        let (s, r, weak) = start(&rt, call)?;
-        let thread = blocked(&rt, call, &s, &r, &weak, 1)?;
+        let (s, r, weak) = start(&rt, call);
+        let thread = blocked(&rt, call, &s, &r, &weak, 1);
         give_time(&rt);
-        let (task, mut send, mut recv) = (MockTask::new(&rt)?, s.send(3), r.recv());
+        let (task, mut send, mut recv) = (new_task(&rt), s.send(3), r.recv());
         assert!(rt; !is_ready(&task, call, &mut send, &mut recv));
         assert!(rt; act.make(&s, &r) != Otherwise);
         assert_eq!(rt; thread.join(&rt), ended);
         assert!(rt; !task.is_woken(), "{call:?}");
     }
-    Ok(())
 }
 
 /// How often a thread is blocked in a batch. In some of these rounds it takes messages before both
@@ -311,13 +316,14 @@ const BATCHES: u32 = 20;
 
 /// Blocks a thread in a batch of receives until it sleeps, and sends it two messages with two sends
 /// behind them. It answers whether both of these are woken, if both had to wait.
-fn batch_wakes_both<R>(rt: &R) -> Result<Option<bool>, Fail>
+fn batch_wakes_both<R>(rt: &R) -> Option<bool>
 where
     R: Threads + Wait + Clone + Drop + RandomSource + AllocGlobal + Abort + Clock,
     R: std::marker::Send + Sync + 'static,
 {
-    let (s, r) = channel(rt, Some(2))?;
-    let thread = blocked(rt, Call::RecvMany, &s, &r, &s.downgrade()?, 1)?;
+    let (s, r) = channel(rt, Some(2));
+    let weak = s.downgrade().expect(rt, "memory");
+    let thread = blocked(rt, Call::RecvMany, &s, &r, &weak, 1);
     give_time(rt);
     both_are_woken(rt, &s, thread)
 }
@@ -327,31 +333,30 @@ fn both_are_woken<R: Threads + Wait + Clone + Drop + RandomSource + AllocGlobal 
     rt: &R,
     s: &Sender<u64, R>,
     thread: JoinHandle<Said>,
-) -> Result<Option<bool>, Fail> {
-    let (task, other) = (MockTask::new(rt)?, MockTask::new(rt)?);
+) -> Option<bool> {
+    let (task, other) = (new_task(rt), new_task(rt));
     let (mut first, mut second) = (s.send(3), s.send(4));
-    let mut from = numbers_from(rt.alloc(), 1, 2)?;
+    let mut from = numbers_from(rt.alloc(), 1, 2).expect(rt, "memory");
     assert_eq!(rt; s.try_send_many(&mut from), Ok(Ok(2)));
     let both_wait = task.poll(&mut first).is_pending() && other.poll(&mut second).is_pending();
     let ended = thread.join(rt);
     if both_wait {
         assert_eq!(rt; ended, Batch(2));
-        return Ok(Some(task.is_woken() && other.is_woken()));
+        return Some(task.is_woken() && other.is_woken());
     }
     // One that didn't wait may have sent before the batch was done.
     assert!(rt; matches!(ended, Batch(2..=4)), "{ended:?}");
-    Ok(None)
+    None
 }
 
 #[test]
-fn a_blocked_batch_tells_as_many_sends(rt: HostRuntime) -> Result<(), Fail> {
+fn a_blocked_batch_tells_as_many_sends(rt: HostRuntime) {
     let mut both_waited = false;
     for _ in 0..BATCHES {
-        if let Some(are_woken) = batch_wakes_both(&rt)? {
+        if let Some(are_woken) = batch_wakes_both(&rt) {
             assert!(rt; are_woken);
             both_waited = true;
         }
     }
     assert!(rt; both_waited);
-    Ok(())
 }

@@ -1,12 +1,13 @@
 //! Whole lists, sent and received by handles under the rule by name.
 ghost use Rattle.ruled_channel_rules.specs.Handles.{IsHubOf, IsSenderOf, IsReceiverOf};
 
+use crate::waiting::new_task;
 use futures::executor::block_on;
 use futures::task::Poll;
-use futures::test::MockTask;
 use ruled_channel_rules::{Channel, Hub, OutOfMemory, bounded, unbounded};
-use std::alloc::{AllocError, Global};
+use std::alloc::{AllocGlobal, Global};
 use std::collections::VecDeque;
+use std::process::Abort;
 use std::sync::Wait;
 use std::test::*;
 use std::thread::{Threads, join};
@@ -18,8 +19,9 @@ const MANY: u32 = 100_000;
 type Relayed = (bool, Result<Vec<u32>, OutOfMemory>);
 
 /// The numbers from 0 on.
-fn numbers(alloc: Global, count: u32) -> Result<VecDeque<u32>, AllocError> {
-    Ok(VecDeque::from((0..count).collect::<Vec<_>>(alloc)?))
+fn numbers<R: AllocGlobal + Abort>(rt: &R, count: u32) -> VecDeque<u32> {
+    let numbers = (0..count).collect::<Vec<_>>(rt.alloc());
+    VecDeque::from(numbers.expect(rt, "memory"))
 }
 
 /// One thread sends the list and closes, another receives all.
@@ -54,22 +56,23 @@ fn relay<R: Threads + Wait + Sync>(
 }
 
 #[test]
-fn two_threads_relay_a_list(rt: HostRuntime) -> Result<(), Fail> {
+fn two_threads_relay_a_list(rt: HostRuntime) {
     for (capacity, count) in [(1, 0), (1, 1000), (MANY, MANY)] {
-        let list = (0..count).collect::<Vec<_>>(rt.alloc())?;
+        let list = (0..count)
+            .collect::<Vec<_>>(rt.alloc())
+            .expect(&rt, "memory");
         let (channel, mut hub) = bounded(rt.alloc(), capacity as usize).expect(&rt, "a channel");
-        let messages = numbers(rt.alloc(), count)?;
+        let messages = numbers(&rt, count);
         let (all_sent, all) = relay(&rt, rt.alloc(), &channel, &mut hub, messages);
         assert!(rt; all_sent);
         assert!(rt; all.is_ok_and(|all| all.as_slice() == list.as_slice()));
     }
-    Ok(())
 }
 
 #[test]
-fn sends_that_wait_keep_their_place(rt: HostRuntime) -> Result<(), Fail> {
-    let (list, last) = (numbers(rt.alloc(), 2)?, numbers(rt.alloc(), 1)?);
-    let (task, other) = (MockTask::new(&rt)?, MockTask::new(&rt)?);
+fn sends_that_wait_keep_their_place(rt: HostRuntime) {
+    let (list, last) = (numbers(&rt, 2), numbers(&rt, 1));
+    let (task, other) = (new_task(&rt), new_task(&rt));
     let (channel, mut hub) = bounded(rt.alloc(), 1).expect(&rt, "a channel");
     let (sender, next) = (hub.sender(&channel), hub.sender(&channel));
     let mut send = sender.send_each(&rt, &channel, list);
@@ -79,12 +82,11 @@ fn sends_that_wait_keep_their_place(rt: HostRuntime) -> Result<(), Fail> {
     assert_eq!(rt; hub.receiver(&channel).try_recv(&rt, &channel), Ok(0));
     assert!(rt; task.is_woken() && !other.is_woken());
     assert!(rt; task.poll(&mut send).is_ready() && !other.is_woken());
-    Ok(())
 }
 
 #[test]
-fn receives_that_wait_keep_their_place(rt: HostRuntime) -> Result<(), Fail> {
-    let (task, other) = (MockTask::new(&rt)?, MockTask::new(&rt)?);
+fn receives_that_wait_keep_their_place(rt: HostRuntime) {
+    let (task, other) = (new_task(&rt), new_task(&rt));
     let (channel, mut hub) = bounded(rt.alloc(), 1).expect(&rt, "a channel");
     let (receiver, next) = (hub.receiver(&channel), hub.receiver(&channel));
     let mut collect = receiver.collect(&rt, &channel, Vec::new(rt.alloc()));
@@ -93,26 +95,24 @@ fn receives_that_wait_keep_their_place(rt: HostRuntime) -> Result<(), Fail> {
     assert!(rt; both_wait && task.poll(&mut collect).is_pending());
     assert_eq!(rt; hub.sender(&channel).try_send(&rt, &channel, 1), Ok(Ok(())));
     assert!(rt; task.is_woken() && !other.is_woken());
-    Ok(())
 }
 
 #[test]
-fn a_collect_that_waits_takes_room_for_one_message(rt: HostRuntime) -> Result<(), Fail> {
+fn a_collect_that_waits_takes_room_for_one_message(rt: HostRuntime) {
     let (channel, mut hub) = bounded(rt.alloc(), MANY as usize).expect(&rt, "a channel");
-    let (receiver, task) = (hub.receiver(&channel), MockTask::new(&rt)?);
+    let (receiver, task) = (hub.receiver(&channel), new_task(&rt));
     let mut list: Vec<u32> = Vec::new(rt.alloc());
-    list.try_reserve(1)?;
+    list.try_reserve(1).expect(&rt, "memory");
     let room = list.capacity();
     let mut collect = receiver.collect(&rt, &channel, list);
     assert!(rt; task.poll(&mut collect).is_pending());
     assert!(rt; task.poll(&mut collect).is_pending());
     let (_receiver, list) = collect.give_up();
     assert_eq!(rt; list.capacity(), room);
-    Ok(())
 }
 
 #[test]
-fn a_receive_of_all_takes_room_for_what_comes(rt: HostRuntime) -> Result<(), Fail> {
+fn a_receive_of_all_takes_room_for_what_comes(rt: HostRuntime) {
     // What is in the list before, and then.
     let rows: [(&[u32], &[u32]); 2] = [(&[], &[1]), (&[7, 8], &[7, 8, 1])];
     for (before, all) in rows {
@@ -120,27 +120,27 @@ fn a_receive_of_all_takes_room_for_what_comes(rt: HostRuntime) -> Result<(), Fai
         let (mut sender, mut receiver) = (hub.sender(&channel), hub.receiver(&channel));
         assert_eq!(rt; sender.send_blocking(&rt, &channel, 1), Ok(Ok(())));
         sender.close(&rt, &channel);
-        let mut list = Vec::from_slice(rt.alloc(), before)?;
+        let mut list = Vec::from_slice(rt.alloc(), before).expect(&rt, "memory");
         // one message, and one that might come
-        list.try_reserve(2)?;
+        list.try_reserve(2).expect(&rt, "memory");
         let room = list.capacity();
         assert_eq!(rt; receiver.recv_all(&rt, &channel, &mut list), Ok(()));
         assert!(rt; list.as_slice() == all && list.capacity() == room);
     }
-    Ok(())
 }
 
 #[test]
-fn a_list_grows_by_more_than_a_message(rt: HostRuntime) -> Result<(), Fail> {
+fn a_list_grows_by_more_than_a_message(rt: HostRuntime) {
     for is_collected in [false, true] {
         let (channel, mut hub) = unbounded(rt.alloc()).expect(&rt, "a channel");
         let (mut sender, mut receiver) = (hub.sender(&channel), hub.receiver(&channel));
-        let mut messages = numbers(rt.alloc(), 1000)?;
+        let mut messages = numbers(&rt, 1000);
         assert_eq!(rt; sender.send_all(&rt, &channel, &mut messages), Ok(Ok(())));
         sender.close(&rt, &channel);
         let mut list = Vec::new(rt.alloc());
         if is_collected {
-            let (_receiver, all, _received) = block_on(&rt, receiver.collect(&rt, &channel, list))?;
+            let collected = block_on(&rt, receiver.collect(&rt, &channel, list));
+            let (_receiver, all, _received) = collected.expect(&rt, "memory");
             list = all;
         } else {
             assert_eq!(rt; receiver.recv_all(&rt, &channel, &mut list), Ok(()));
@@ -148,30 +148,28 @@ fn a_list_grows_by_more_than_a_message(rt: HostRuntime) -> Result<(), Fail> {
         // one more might have come
         assert!(rt; list.len() == 1000 && list.capacity() > 1001);
     }
-    Ok(())
 }
 
 #[test]
-fn a_list_that_is_sent_leaves_others_a_turn(rt: HostRuntime) -> Result<(), Fail> {
+fn a_list_that_is_sent_leaves_others_a_turn(rt: HostRuntime) {
     let (channel, mut hub) = unbounded(rt.alloc()).expect(&rt, "a channel");
-    let task = MockTask::new(&rt)?;
-    let list = numbers(rt.alloc(), 1000)?;
+    let task = new_task(&rt);
+    let list = numbers(&rt, 1000);
     let mut send = hub.sender(&channel).send_each(&rt, &channel, list);
     assert!(rt; task.poll(&mut send).is_pending());
     assert!(rt; task.is_woken());
     // 128 steps: a send is begun, and then polled
     let (_sender, waits, rest) = send.give_up();
     assert_eq!(rt; (waits, rest.len()), (None, 936));
-    Ok(())
 }
 
 #[test]
-fn a_list_that_is_received_leaves_others_a_turn(rt: HostRuntime) -> Result<(), Fail> {
+fn a_list_that_is_received_leaves_others_a_turn(rt: HostRuntime) {
     let (channel, mut hub) = unbounded(rt.alloc()).expect(&rt, "a channel");
-    let mut list = numbers(rt.alloc(), 1000)?;
+    let mut list = numbers(&rt, 1000);
     let mut sender = hub.sender(&channel);
     assert_eq!(rt; sender.send_all(&rt, &channel, &mut list), Ok(Ok(())));
-    let task = MockTask::new(&rt)?;
+    let task = new_task(&rt);
     let mut collect = hub
         .receiver(&channel)
         .collect(&rt, &channel, Vec::new(rt.alloc()));
@@ -179,5 +177,4 @@ fn a_list_that_is_received_leaves_others_a_turn(rt: HostRuntime) -> Result<(), F
     assert!(rt; task.is_woken());
     let (_receiver, all) = collect.give_up();
     assert_eq!(rt; all.len(), 128);
-    Ok(())
 }

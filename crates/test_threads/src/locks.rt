@@ -2,7 +2,6 @@
 ghost use Rattle.ruled_mutex.specs.Passes.{IsPassOf};
 
 use ruled_mutex::{Pass, RuledMutex, Unruled};
-use std::alloc::AllocError;
 use std::rt::Clock;
 use std::sync::Wait;
 use std::sync::atomic::{AtomicU64, Ordering};
@@ -28,10 +27,8 @@ fn misses(mutex: &Mutex, pass: &mut Pass<u64, ()>) -> bool
 }
 
 #[test]
-fn a_held_lock_is_refused(rt: HostRuntime) -> Result<(), Fail> {
-    let Ok((mutex, mut pass)) = Mutex::new(rt.alloc(), 4) else {
-        return Err(AllocError.into());
-    };
+fn a_held_lock_is_refused(rt: HostRuntime) {
+    let (mutex, mut pass) = Mutex::new(rt.alloc(), 4).expect(&rt, "memory");
     let mut other = mutex.pass();
     let held = mutex.lock(&rt, &mut pass);
     let missed = misses(&mutex, &mut other);
@@ -45,7 +42,6 @@ fn a_held_lock_is_refused(rt: HostRuntime) -> Result<(), Fail> {
         mutex.with_as::<Unruled, _, _, _>(&rt, &mut other, |value| *value),
         6
     );
-    Ok(())
 }
 
 const ROUNDS: u64 = 200;
@@ -101,10 +97,8 @@ fn while_below<R: Wait>(rt: &R, number: &AtomicU64, least: u64) {
 // A lock that wakes nobody leaves both other threads asleep, and one that forgets the second of them
 // leaves it asleep. The test does not end then.
 #[test]
-fn whoever_sleeps_is_woken(rt: HostRuntime) -> Result<(), Fail> {
-    let Ok((mutex, mut pass)) = Mutex::new(rt.alloc(), 0) else {
-        return Err(AllocError.into());
-    };
+fn whoever_sleeps_is_woken(rt: HostRuntime) {
+    let (mutex, mut pass) = Mutex::new(rt.alloc(), 0).expect(&rt, "memory");
     let coming = AtomicU64::new(0);
     join(
         &rt,
@@ -115,7 +109,6 @@ fn whoever_sleeps_is_woken(rt: HostRuntime) -> Result<(), Fail> {
         mutex.with_as::<Unruled, _, _, _>(&rt, &mut pass, |value| *value),
         2 * ROUNDS
     );
-    Ok(())
 }
 
 // How often a thread locks while others take the lock as often as they can.
@@ -150,17 +143,17 @@ fn sleep_and_lock<R: Wait>(rt: &R, mutex: &Mutex) {
 // The first of them finds that somebody sleeps, and another has the lock before it wakes that one.
 // The test doesn't end if it wakes nobody then.
 #[test]
-fn a_sleeper_is_woken_when_another_has_the_lock(rt: HostRuntime) -> Result<(), Fail> {
-    let Ok((mutex, _)) = Mutex::new(rt.alloc(), 0) else {
-        return Err(AllocError.into());
-    };
+fn a_sleeper_is_woken_when_another_has_the_lock(rt: HostRuntime) {
+    let (mutex, _) = Mutex::new(rt.alloc(), 0).expect(&rt, "memory");
     let ((), barged) = join(
         &rt,
         || sleep_and_lock(&rt, &mutex),
         || thread::map_indices(&rt, rt.alloc(), BARGING, &|_: usize| barge(&rt, &mutex)),
     );
-    assert_eq!(rt; barged?.as_slice(), [LOCKED; BARGING].as_slice());
-    Ok(())
+    assert_eq!(rt;
+        barged.expect(&rt, "threads").as_slice(),
+        [LOCKED; BARGING].as_slice()
+    );
 }
 
 // How many milliseconds a thread waits for the lock.
@@ -192,16 +185,13 @@ where
 }
 
 #[test]
-fn whoever_waits_sleeps(rt: HostRuntime) -> Result<(), Fail> {
-    let Ok((mutex, _)) = Mutex::new(rt.alloc(), 0) else {
-        return Err(AllocError.into());
-    };
+fn whoever_waits_sleeps(rt: HostRuntime) {
+    let (mutex, _) = Mutex::new(rt.alloc(), 0).expect(&rt, "memory");
     let is_held = AtomicU64::new(0);
     let ((), used) = join(
         &rt,
         || hold(&rt, &mutex, &is_held),
         || wait(&rt, &mutex, &is_held),
     );
-    assert!(rt; used? < Duration::from_millis(LITTLE));
-    Ok(())
+    assert!(rt; used.expect(&rt, "a clock") < Duration::from_millis(LITTLE));
 }

@@ -14,7 +14,6 @@ use std::alloc::{AllocGlobal, Global};
 use std::process::Abort;
 use std::random::RandomSource;
 use std::sync::Wait;
-use std::test::Fail;
 use std::thread::{Threads, join};
 
 /// How many rounds a test makes.
@@ -151,24 +150,25 @@ impl<R: Wait + Clone + Drop> Own<R> {
 }
 
 /// What both threads have at a new channel, if the second does this.
-fn own_of_both<R: Wait + Clone + Drop + AllocGlobal>(
+fn own_of_both<R: Wait + Clone + Drop + AllocGlobal + Abort>(
     rt: &R,
     has_sender: bool,
     deed: Deed,
-) -> Result<(Own<R>, Own<R>), Fail> {
-    let (s, r) = channel(rt, Some(1))?;
+) -> (Own<R>, Own<R>) {
+    let (s, r) = channel(rt, Some(1));
     let copy = match deed {
-        Deed::Send(_) => Some(s.try_clone()?),
+        Deed::Send(_) => Some(s.try_clone().expect(rt, "memory")),
         _ => None,
     };
     let other = match deed {
-        Deed::Take(_) => Some(r.try_clone()?),
+        Deed::Take(_) => Some(r.try_clone().expect(rt, "memory")),
         _ => None,
     };
     if other.is_some() {
         drop(s.try_send(1));
     }
-    let (weak_sender, weak_receiver) = (s.downgrade()?, r.downgrade()?);
+    let weak_sender = s.downgrade().expect(rt, "memory");
+    let weak_receiver = r.downgrade().expect(rt, "memory");
     let (mut first, mut second) = (Own::nothing(), Own::nothing());
     if has_sender {
         first.sender = Some(s);
@@ -181,7 +181,7 @@ fn own_of_both<R: Wait + Clone + Drop + AllocGlobal>(
         second.receiver = other;
         second.weak_receiver = Some(weak_receiver);
     }
-    Ok((first, second))
+    (first, second)
 }
 
 /// Does this with what the thread has in each round, when the other thread is there and some looks
@@ -224,15 +224,15 @@ fn is_well<R: Wait + Clone + Drop + AllocGlobal>(
 }
 
 /// How many deeds of both threads go well, each round at a channel of its own.
-fn count_of_both<R>(rt: &R, has_sender: bool, [deed, others]: [Deed; 2]) -> Result<u64, Fail>
+fn count_of_both<R>(rt: &R, has_sender: bool, [deed, others]: [Deed; 2]) -> u64
 where
-    R: Wait + Threads + Clone + Drop + RandomSource + AllocGlobal + Send + Sync,
+    R: Wait + Threads + Clone + Drop + RandomSource + AllocGlobal + Abort + Send + Sync,
 {
     let (mut first, mut second) = (Vec::new(rt.alloc()), Vec::new(rt.alloc()));
     for _ in 0..ROUNDS {
-        let (one, other) = own_of_both(rt, has_sender, others)?;
-        first.push(one)?;
-        second.push(other)?;
+        let (one, other) = own_of_both(rt, has_sender, others);
+        first.push(one).expect(rt, "memory");
+        second.push(other).expect(rt, "memory");
     }
     let meeting = Meeting::new();
     let (one, other) = (first.as_mut_slice(), second.as_mut_slice());
@@ -241,90 +241,85 @@ where
         || count_well(rt, &meeting, 63, deed, one),
         || count_well(rt, &meeting, 0, others, other),
     );
-    Ok(one.wrapping_add(other))
+    one.wrapping_add(other)
 }
 
 /// Makes a race of these deeds, with the sender for the first thread or the receiver.
-fn race<R>(rt: &R, has_sender: bool, deeds: [Deed; 2], goes_well: u64) -> Result<(), Fail>
+fn race<R>(rt: &R, has_sender: bool, deeds: [Deed; 2], goes_well: u64)
 where
     R: Wait + Threads + Clone + Drop + RandomSource + AllocGlobal + Abort + Send + Sync,
 {
     assert_eq!(rt;
-        count_of_both(rt, has_sender, deeds)?,
+        count_of_both(rt, has_sender, deeds),
         goes_well.wrapping_mul(ROUNDS),
         "{has_sender}, {deeds:?}"
     );
-    Ok(())
 }
 
 #[test]
-fn the_last_handle_closes_and_goes_at_once(rt: HostRuntime) -> Result<(), Fail> {
+fn the_last_handle_closes_and_goes_at_once(rt: HostRuntime) {
     for has_sender in [true, false] {
         for deed in [Deed::Upgrade, Deed::Count] {
-            race(&rt, has_sender, [Deed::GiveUp, deed], 2)?;
+            race(&rt, has_sender, [Deed::GiveUp, deed], 2);
         }
     }
-    Ok(())
 }
 
 #[test]
-fn one_of_two_closes_or_has_the_last_place(rt: HostRuntime) -> Result<(), Fail> {
-    race(&rt, true, [Deed::Close; 2], 1)?;
-    race(&rt, true, [Deed::Send(Sends::TrySend); 2], 1)
+fn one_of_two_closes_or_has_the_last_place(rt: HostRuntime) {
+    race(&rt, true, [Deed::Close; 2], 1);
+    race(&rt, true, [Deed::Send(Sends::TrySend); 2], 1);
 }
 
 #[test]
-fn a_send_that_comes_too_late_waits_for_nothing(rt: HostRuntime) -> Result<(), Fail> {
+fn a_send_that_comes_too_late_waits_for_nothing(rt: HostRuntime) {
     // what is full loses its oldest message
-    race(&rt, true, [Deed::Send(Sends::ForceSend); 2], 2)?;
-    race(&rt, true, [Deed::Send(Sends::TrySendMany); 2], 1)
+    race(&rt, true, [Deed::Send(Sends::ForceSend); 2], 2);
+    race(&rt, true, [Deed::Send(Sends::TrySendMany); 2], 1);
 }
 
 #[test]
-fn a_polled_send_that_comes_too_late_is_pending(rt: HostRuntime) -> Result<(), Fail> {
-    race(&rt, true, [Deed::Send(Sends::Send); 2], 1)?;
-    race(&rt, true, [Deed::Send(Sends::SendMany); 2], 1)
+fn a_polled_send_that_comes_too_late_is_pending(rt: HostRuntime) {
+    race(&rt, true, [Deed::Send(Sends::Send); 2], 1);
+    race(&rt, true, [Deed::Send(Sends::SendMany); 2], 1);
 }
 
 #[test]
-fn a_receive_that_comes_too_late_waits_for_nothing(rt: HostRuntime) -> Result<(), Fail> {
+fn a_receive_that_comes_too_late_waits_for_nothing(rt: HostRuntime) {
     for way in [TryRecv, TryRecvMany, TryIter] {
-        race(&rt, false, [Deed::Take(way); 2], 1)?;
+        race(&rt, false, [Deed::Take(way); 2], 1);
     }
-    Ok(())
 }
 
 #[test]
-fn a_polled_receive_that_comes_too_late_is_pending(rt: HostRuntime) -> Result<(), Fail> {
+fn a_polled_receive_that_comes_too_late_is_pending(rt: HostRuntime) {
     for way in [Recv, RecvMany, Next] {
-        race(&rt, false, [Deed::Take(way); 2], 1)?;
+        race(&rt, false, [Deed::Take(way); 2], 1);
     }
-    Ok(())
 }
 
 /// Makes races for the message 1, which comes before the end.
-fn await_message<R>(rt: &R, ways: &[Receives]) -> Result<(), Fail>
+fn await_message<R>(rt: &R, ways: &[Receives])
 where
     R: Wait + Threads + Clone + Drop + RandomSource + AllocGlobal + Abort + Send + Sync,
 {
     for way in ways {
-        race(rt, true, [Deed::SendAndGiveUp, Deed::Await(*way)], 2)?;
+        race(rt, true, [Deed::SendAndGiveUp, Deed::Await(*way)], 2);
     }
-    Ok(())
 }
 
 #[test]
-fn the_end_of_calls_comes_behind_the_last_message(rt: HostRuntime) -> Result<(), Fail> {
-    race(&rt, true, [Deed::SendAndGiveUp, Deed::IsTerminated], 2)?;
-    await_message(&rt, &[TryRecv, TryRecvMany])
+fn the_end_of_calls_comes_behind_the_last_message(rt: HostRuntime) {
+    race(&rt, true, [Deed::SendAndGiveUp, Deed::IsTerminated], 2);
+    await_message(&rt, &[TryRecv, TryRecvMany]);
 }
 
 #[test]
-fn the_end_of_blocking_calls_comes_behind_the_last_message(rt: HostRuntime) -> Result<(), Fail> {
-    await_message(&rt, &[RecvBlocking, RecvManyBlocking])
+fn the_end_of_blocking_calls_comes_behind_the_last_message(rt: HostRuntime) {
+    await_message(&rt, &[RecvBlocking, RecvManyBlocking]);
 }
 
 #[test]
-fn the_end_of_polls_comes_behind_the_last_message(rt: HostRuntime) -> Result<(), Fail> {
-    await_message(&rt, &[Recv, RecvMany, Next])
+fn the_end_of_polls_comes_behind_the_last_message(rt: HostRuntime) {
+    await_message(&rt, &[Recv, RecvMany, Next]);
 }

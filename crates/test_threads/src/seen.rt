@@ -1,16 +1,16 @@
 //! What another thread sees of a call: all of it or nothing, but the rounds of a batch.
 use crate::meeting::{Deed, Sight, are_well};
-use crate::waiting::{channel, numbers};
+use crate::waiting::{channel, new_task, numbers};
 use crate::ways::{Receives, Sends, numbers_from, receive_all, send_all};
 use async_channel::{Group, ROUND_LIMIT, Receiver, Sender, WeakReceiver, WeakSender};
 use futures::Stream;
 use futures::task::Poll;
 use futures::test::MockTask;
 use std::alloc::{AllocGlobal, Global};
+use std::process::Abort;
 use std::random::RandomSource;
 use std::sync::Wait;
 use std::sync::atomic::{AtomicU64, Ordering};
-use std::test::Fail;
 use std::thread::Threads;
 
 /// How many messages a channel may hold: one of these two.
@@ -149,13 +149,13 @@ impl<R: Wait + Clone + Drop> Deed for Moves<'_, R> {
 
 /// Moves batches of this size while another thread looks. It answers whether all was well, and the
 /// rounds were seen if there are many.
-fn are_moved<R>(rt: &R, ways: Ways, (size, count): (usize, u64)) -> Result<bool, Fail>
+fn are_moved<R>(rt: &R, ways: Ways, (size, count): (usize, u64)) -> bool
 where
-    R: Wait + Threads + Clone + Drop + RandomSource + AllocGlobal + Send + Sync,
+    R: Wait + Threads + Clone + Drop + RandomSource + AllocGlobal + Abort + Send + Sync,
 {
-    let (counts, task) = (Counts::new(), MockTask::new(rt)?);
-    let (s, r) = channel(rt, None)?;
-    let other = r.try_clone()?;
+    let (counts, task) = (Counts::new(), new_task(rt));
+    let (s, r) = channel(rt, None);
+    let other = r.try_clone().expect(rt, "memory");
     let mut moves = Moves {
         alloc: rt.alloc(),
         task,
@@ -167,7 +167,7 @@ where
         counts: &counts,
     };
     if size <= ROUND_LIMIT {
-        return Ok(are_well(rt, &mut moves, &Holds(&other, 0, size)));
+        return are_well(rt, &mut moves, &Holds(&other, 0, size));
     }
     let rounds = Rounds {
         r: other,
@@ -175,34 +175,30 @@ where
         by_itself: usize::from(matches!(ways.0, Sends::SendManyBlocking)),
         counts: &counts,
     };
-    Ok(are_well(rt, &mut moves, &rounds) && counts.are_seen())
+    are_well(rt, &mut moves, &rounds) && counts.are_seen()
 }
 
 #[test]
-fn a_batch_of_one_round_comes_and_goes_at_once(rt: HostRuntime) -> Result<(), Fail> {
+fn a_batch_of_one_round_comes_and_goes_at_once(rt: HostRuntime) {
     for ways in [PLAIN, POLLED] {
-        assert!(rt; are_moved(&rt, ways, ONE_ROUND)?, "{ways:?}");
+        assert!(rt; are_moved(&rt, ways, ONE_ROUND), "{ways:?}");
     }
-    Ok(())
 }
 
 // On a busy machine the other thread seldom comes in. So each way has the time of a test for itself.
 #[test]
-fn others_come_in_between_the_rounds_of_a_batch(rt: HostRuntime) -> Result<(), Fail> {
-    assert!(rt; are_moved(&rt, PLAIN, MANY_ROUNDS)?);
-    Ok(())
+fn others_come_in_between_the_rounds_of_a_batch(rt: HostRuntime) {
+    assert!(rt; are_moved(&rt, PLAIN, MANY_ROUNDS));
 }
 
 #[test]
-fn others_come_in_between_the_rounds_of_a_batch_that_blocks(rt: HostRuntime) -> Result<(), Fail> {
-    assert!(rt; are_moved(&rt, BLOCKING, MANY_ROUNDS)?);
-    Ok(())
+fn others_come_in_between_the_rounds_of_a_batch_that_blocks(rt: HostRuntime) {
+    assert!(rt; are_moved(&rt, BLOCKING, MANY_ROUNDS));
 }
 
 #[test]
-fn others_come_in_between_the_rounds_of_a_polled_batch(rt: HostRuntime) -> Result<(), Fail> {
-    assert!(rt; are_moved(&rt, POLLED, MANY_ROUNDS)?);
-    Ok(())
+fn others_come_in_between_the_rounds_of_a_polled_batch(rt: HostRuntime) {
+    assert!(rt; are_moved(&rt, POLLED, MANY_ROUNDS));
 }
 
 /// Lets a stream wait, and beside it another one.
@@ -256,16 +252,15 @@ impl<R: Wait + Clone + Drop> Sight for Alone<R> {
 }
 
 #[test]
-fn a_look_at_who_waits_is_one_step(rt: HostRuntime) -> Result<(), Fail> {
-    let (s, r) = channel(&rt, None)?;
-    let alone = Alone(s.downgrade()?);
+fn a_look_at_who_waits_is_one_step(rt: HostRuntime) {
+    let (s, r) = channel(&rt, None);
+    let alone = Alone(s.downgrade().expect(&rt, "memory"));
     let mut streams = Streams {
-        task: MockTask::new(&rt)?,
+        task: new_task(&rt),
         s: &s,
         first: r,
     };
     assert!(rt; are_well(&rt, &mut streams, &alone));
-    Ok(())
 }
 
 /// How often handles are copied, or upgraded.
@@ -310,11 +305,12 @@ impl<R: Wait + Clone + Drop> Sight for AtMost<R> {
 }
 
 #[test]
-fn a_copy_counts_once_and_one_that_comes_too_late_never(rt: HostRuntime) -> Result<(), Fail> {
+fn a_copy_counts_once_and_one_that_comes_too_late_never(rt: HostRuntime) {
     for is_closed in [false, true] {
-        let (s, r) = channel(&rt, None)?;
-        let counts = AtMost(r.try_clone()?, usize::from(!is_closed));
-        let (weak_s, weak_r) = (s.downgrade()?, r.downgrade()?);
+        let (s, r) = channel(&rt, None);
+        let counts = AtMost(r.try_clone().expect(&rt, "memory"), usize::from(!is_closed));
+        let weak_s = s.downgrade().expect(&rt, "memory");
+        let weak_r = r.downgrade().expect(&rt, "memory");
         assert!(rt; !is_closed || s.close());
         let mut copies = Copies {
             s,
@@ -324,5 +320,4 @@ fn a_copy_counts_once_and_one_that_comes_too_late_never(rt: HostRuntime) -> Resu
         };
         assert!(rt; are_well(&rt, &mut copies, &counts));
     }
-    Ok(())
 }

@@ -1,10 +1,11 @@
 //! A hundred thousand of each that may wait, and of each handle: no limit shows that the contracts
 //! don't tell.
-use crate::waiting::{channel, numbers};
+use crate::waiting::{channel, new_task, numbers};
 use crate::ways::numbers_from;
 use Kept::*;
 use async_channel::{
-    Closed, Group, Receiver, Recv, Send, SendError, SendMany, Sender, WeakReceiver, WeakSender,
+    CloneError, Closed, Group, Receiver, Recv, Send, SendError, SendMany, Sender, WeakReceiver,
+    WeakSender,
 };
 use futures::Stream;
 use futures::task::Poll;
@@ -13,7 +14,6 @@ use std::alloc::AllocGlobal;
 use std::process::Abort;
 use std::random::RandomSource;
 use std::sync::Wait;
-use std::test::Fail;
 
 const MANY: usize = 100_000;
 
@@ -29,7 +29,11 @@ enum Kept<'a, R: Wait + Clone + Drop> {
 
 impl<'a, R: Wait + Clone + Drop> Kept<'a, R> {
     /// One of a group. A send has the message 7.
-    fn new(group: Group, s: &'a Sender<u64, R>, r: &Receiver<u64, R>) -> Result<Kept<'a, R>, Fail> {
+    fn new(
+        group: Group,
+        s: &'a Sender<u64, R>,
+        r: &Receiver<u64, R>,
+    ) -> Result<Kept<'a, R>, CloneError> {
         Ok(match group {
             Group::Sends => Sending(s.send(7)),
             Group::Receives => Receiving(r.try_clone()?.into_recv()),
@@ -59,15 +63,12 @@ fn each_waits<R: Wait + Clone + Drop + RandomSource + AllocGlobal + Abort>(
     rt: &R,
     s: &Sender<u64, R>,
     r: &Receiver<u64, R>,
-) -> Result<(), Fail> {
-    let task = MockTask::new(rt)?;
+) {
+    let task = new_task(rt);
     for group in [Group::Receives, Group::Streams, Group::Closeds] {
-        assert!(rt;
-            Kept::new(group, s, r)?.ends(&task).is_pending(),
-            "{group:?}"
-        );
+        let mut kept = Kept::new(group, s, r).expect(rt, "memory");
+        assert!(rt; kept.ends(&task).is_pending(), "{group:?}");
     }
-    Ok(())
 }
 
 /// Has as many of a group wait, closes the channel, and polls all to their end.
@@ -75,23 +76,24 @@ fn many_wait<R: Wait + Clone + Drop + RandomSource + AllocGlobal + Abort>(
     rt: &R,
     group: Group,
     is_batch: bool,
-) -> Result<(), Fail> {
-    let (s, r) = channel(rt, Some(1))?;
+) {
+    let (s, r) = channel(rt, Some(1));
     let is_full = matches!(group, Group::Sends);
     assert!(rt; !is_full || s.try_send(1) == Ok(Ok(())));
-    let (task, weak, mut all) = (MockTask::new(rt)?, s.downgrade()?, Vec::new(rt.alloc()));
+    let (task, mut all) = (new_task(rt), Vec::new(rt.alloc()));
+    let weak = s.downgrade().expect(rt, "memory");
     for _ in 0..MANY {
         let mut kept = if is_batch {
-            SendingMany(s.send_many(numbers_from(rt.alloc(), 7, 1)?))
+            SendingMany(s.send_many(numbers_from(rt.alloc(), 7, 1).expect(rt, "memory")))
         } else {
-            Kept::new(group, &s, &r)?
+            Kept::new(group, &s, &r).expect(rt, "memory")
         };
         assert!(rt; kept.ends(&task).is_pending(), "{group:?}");
-        all.push(kept)?;
+        all.push(kept).expect(rt, "memory");
     }
     assert_eq!(rt; numbers(&weak, group), (MANY, 0));
     if !is_full {
-        each_waits(rt, &s, &r)?;
+        each_waits(rt, &s, &r);
     }
     assert_eq!(rt; numbers(&weak, group), (MANY, 0));
     // those of the last group are told when no receiver is left
@@ -102,36 +104,35 @@ fn many_wait<R: Wait + Clone + Drop + RandomSource + AllocGlobal + Abort>(
         assert_eq!(rt; kept.ends(&task), Poll::Ready(true), "{group:?}");
     }
     assert_eq!(rt; numbers(&weak, group), (0, 0));
-    Ok(())
 }
 
 #[test]
-fn sends(rt: HostRuntime) -> Result<(), Fail> {
+fn sends(rt: HostRuntime) {
     many_wait(&rt, Group::Sends, false)
 }
 
 #[test]
-fn sends_of_many(rt: HostRuntime) -> Result<(), Fail> {
+fn sends_of_many(rt: HostRuntime) {
     many_wait(&rt, Group::Sends, true)
 }
 
 #[test]
-fn receives(rt: HostRuntime) -> Result<(), Fail> {
+fn receives(rt: HostRuntime) {
     many_wait(&rt, Group::Receives, false)
 }
 
 #[test]
-fn receives_of_many(rt: HostRuntime) -> Result<(), Fail> {
-    let (s, r) = channel::<u64, _>(&rt, None)?;
-    let (task, weak) = (MockTask::new(&rt)?, s.downgrade()?);
+fn receives_of_many(rt: HostRuntime) {
+    let (s, r) = channel::<u64, _>(&rt, None);
+    let (task, weak) = (new_task(&rt), s.downgrade().expect(&rt, "memory"));
     let (mut lists, mut all) = (Vec::new(rt.alloc()), Vec::new(rt.alloc()));
     for _ in 0..MANY {
-        lists.push(Vec::new(rt.alloc()))?;
+        lists.push(Vec::new(rt.alloc())).expect(&rt, "memory");
     }
     for into in &mut lists {
         let mut recv = r.recv_many(into, 2);
         assert!(rt; matches!(&task.poll(&mut recv), Poll::Pending));
-        all.push(recv)?;
+        all.push(recv).expect(&rt, "memory");
     }
     assert_eq!(rt; numbers(&weak, Group::Receives), (MANY, 0));
     assert!(rt; s.close());
@@ -139,16 +140,15 @@ fn receives_of_many(rt: HostRuntime) -> Result<(), Fail> {
         assert!(rt; matches!(&task.poll(recv), Poll::Ready(Ok(0))));
     }
     assert_eq!(rt; numbers(&weak, Group::Receives), (0, 0));
-    Ok(())
 }
 
 #[test]
-fn streams(rt: HostRuntime) -> Result<(), Fail> {
+fn streams(rt: HostRuntime) {
     many_wait(&rt, Group::Streams, false)
 }
 
 #[test]
-fn closed_operations(rt: HostRuntime) -> Result<(), Fail> {
+fn closed_operations(rt: HostRuntime) {
     many_wait(&rt, Group::Closeds, false)
 }
 
@@ -162,23 +162,25 @@ struct Handles<R: Wait + Clone + Drop> {
 }
 
 impl<R: Wait + Clone + Drop> Handles<R> {
-    fn copied(&self) -> Result<Handles<R>, Fail> {
-        Ok(Handles {
-            sender: self.sender.try_clone()?,
-            receiver: self.receiver.try_clone()?,
-            weak_sender: self.weak_sender.try_clone()?,
-            weak_receiver: self.weak_receiver.try_clone()?,
-        })
+    fn copied(&self, rt: &impl Abort) -> Handles<R> {
+        Handles {
+            sender: self.sender.try_clone().expect(rt, "memory"),
+            receiver: self.receiver.try_clone().expect(rt, "memory"),
+            weak_sender: self.weak_sender.try_clone().expect(rt, "memory"),
+            weak_receiver: self.weak_receiver.try_clone().expect(rt, "memory"),
+        }
     }
 
-    /// Each made by way of its weak one.
-    fn upgraded(&self) -> Result<Handles<R>, Fail> {
-        Ok(Handles {
-            sender: self.weak_sender.upgrade()?.ok_or("a sender")?,
-            receiver: self.weak_receiver.upgrade()?.ok_or("a receiver")?,
-            weak_sender: self.sender.downgrade()?,
-            weak_receiver: self.receiver.downgrade()?,
-        })
+    /// Each made by way of its weak one, of an open channel.
+    fn upgraded(&self, rt: &impl Abort) -> Handles<R> {
+        let sender = self.weak_sender.upgrade().expect(rt, "memory");
+        let receiver = self.weak_receiver.upgrade().expect(rt, "memory");
+        Handles {
+            sender: sender.expect(rt, "an open channel"),
+            receiver: receiver.expect(rt, "an open channel"),
+            weak_sender: self.sender.downgrade().expect(rt, "memory"),
+            weak_receiver: self.receiver.downgrade().expect(rt, "memory"),
+        }
     }
 
     /// How many senders and receivers there are, as each end says.
@@ -192,9 +194,10 @@ impl<R: Wait + Clone + Drop> Handles<R> {
 }
 
 #[test]
-fn strong_and_weak_handles(rt: HostRuntime) -> Result<(), Fail> {
-    let (sender, receiver) = channel(&rt, None)?;
-    let (weak_sender, weak_receiver) = (sender.downgrade()?, receiver.downgrade()?);
+fn strong_and_weak_handles(rt: HostRuntime) {
+    let (sender, receiver) = channel(&rt, None);
+    let weak_sender = sender.downgrade().expect(&rt, "memory");
+    let weak_receiver = receiver.downgrade().expect(&rt, "memory");
     let first = Handles {
         sender,
         receiver,
@@ -203,16 +206,16 @@ fn strong_and_weak_handles(rt: HostRuntime) -> Result<(), Fail> {
     };
     let mut all = Vec::new(rt.alloc());
     for number in 0..MANY {
-        all.push(match number % 2 {
-            0 => first.copied()?,
-            _ => first.upgraded()?,
-        })?;
+        let made = match number % 2 {
+            0 => first.copied(&rt),
+            _ => first.upgraded(&rt),
+        };
+        all.push(made).expect(&rt, "memory");
     }
     assert_eq!(rt; first.counts(), [(100_001, 100_001); 2]);
     // whoever waits beside so many handles waits like beside few
-    each_waits(&rt, &first.sender, &first.receiver)?;
+    each_waits(&rt, &first.sender, &first.receiver);
     drop(all);
     assert_eq!(rt; first.counts(), [(1, 1); 2]);
     assert!(rt; !first.sender.is_closed());
-    Ok(())
 }

@@ -7,7 +7,6 @@ use std::process::Abort;
 use std::random::RandomSource;
 use std::sync::Wait;
 use std::sync::atomic::{AtomicU64, Ordering};
-use std::test::Fail;
 use std::thread;
 use std::thread::Threads;
 
@@ -61,9 +60,9 @@ fn pass<R: Threads + Wait + Clone + Drop + RandomSource + AllocGlobal + Abort + 
     ways: (Sends, Receives),
     threads: u64,
     capacity: Option<usize>,
-) -> Result<(), Fail> {
-    let (s, r) = channel(rt, capacity)?;
-    let seen = none_seen(rt.alloc())?;
+) {
+    let (s, r) = channel(rt, capacity);
+    let seen = none_seen(rt.alloc()).expect(rt, "memory");
     let (sender, noted, (sending, receiving)) = (&s, seen.as_slice(), ways);
     thread::scope(thread::scope_env(), rt, |scope| {
         for _ in 0..threads {
@@ -83,11 +82,10 @@ fn pass<R: Threads + Wait + Clone + Drop + RandomSource + AllocGlobal + Abort + 
     for count in &seen {
         assert_eq!(rt; count.load(Ordering::SeqCst), threads);
     }
-    Ok(())
 }
 
 #[test]
-fn messages_pass_once_and_in_order(rt: HostRuntime) -> Result<(), Fail> {
+fn messages_pass_once_and_in_order(rt: HostRuntime) {
     for ways in [
         (Sends::SendBlocking, Receives::RecvBlocking),
         (Sends::Send, Receives::Recv),
@@ -96,8 +94,7 @@ fn messages_pass_once_and_in_order(rt: HostRuntime) -> Result<(), Fail> {
         (Sends::SendMany, Receives::RecvMany),
     ] {
         for (threads, capacity) in [(1, Some(3)), (1, None), (4, Some(3)), (4, None)] {
-            pass(&rt, ways, threads, capacity)?;
+            pass(&rt, ways, threads, capacity);
         }
     }
-    Ok(())
 }

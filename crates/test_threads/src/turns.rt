@@ -1,19 +1,16 @@
 //! Operations that wait in turn: each by one entry, which goes with it. A notice is handed on.
-ghost use Rattle.std.specs.Prelude.{IfOk};
-
 use crate::party::Party;
-use crate::waiting::{channel, numbers};
+use crate::waiting::{channel, new_task, numbers};
 use crate::ways::numbers_from;
 use async_channel::{Group, Receiver, Sender, WeakSender};
 use futures::task::Poll;
 use futures::test::MockTask;
 use futures::{Future, Stream};
 use ruled_channel::{Unruled, bounded_with};
-use std::alloc::{AllocError, AllocGlobal};
+use std::alloc::AllocGlobal;
 use std::process::Abort;
 use std::random::RandomSource;
 use std::sync::Wait;
-use std::test::Fail;
 
 /// A channel of one place, as whoever tells others has it.
 trait Line {
@@ -35,12 +32,12 @@ struct Handles<R: Wait + Clone + Drop> {
 }
 
 impl<R: Wait + Clone + Drop> Handles<R> {
-    fn new(s: &Sender<u64, R>, r: Receiver<u64, R>) -> Result<Handles<R>, Fail> {
-        Ok(Handles {
-            s: s.try_clone()?,
+    fn new(rt: &impl Abort, s: &Sender<u64, R>, r: Receiver<u64, R>) -> Handles<R> {
+        Handles {
+            s: s.try_clone().expect(rt, "memory"),
             r: Some(r),
-            weak: s.downgrade()?,
-        })
+            weak: s.downgrade().expect(rt, "memory"),
+        }
     }
 }
 
@@ -88,28 +85,22 @@ impl<R: Wait> Line for Ruled<'_, R> {
 }
 
 /// The operation, which waits once the task has polled it.
-fn wait<F: Future>(task: &MockTask, mut operation: F) -> Result<F, Fail>
+fn wait<F: Future>(rt: &impl Abort, task: &MockTask, mut operation: F) -> F
 where
     F::Output: Drop,
     requires { F.can_poll operation }
-    ensures { IfOk result (λ again. F.can_poll again) }
+    ensures { F.can_poll result }
 {
     match task.poll(&mut operation) {
-        Poll::Pending => Ok(operation),
-        Poll::Ready(_) => Err("it doesn't wait".into()),
+        Poll::Pending => operation,
+        Poll::Ready(_) => panic!(rt; "it doesn't wait"),
     }
 }
 
 /// Lets three operations wait, and gives the last one up. The first keeps its place when it is
 /// polled again, and lets go of no waker; another task takes it over. Once it was told, it goes on,
 /// or it is given up and tells the second.
-fn take_turns<R, L, F>(
-    rt: &R,
-    line: &mut L,
-    group: Group,
-    operations: (F, F, F),
-    goes_on: bool,
-) -> Result<(), Fail>
+fn take_turns<R, L, F>(rt: &R, line: &mut L, group: Group, operations: (F, F, F), goes_on: bool)
 where
     R: RandomSource + AllocGlobal + Abort,
     L: Line,
@@ -117,13 +108,13 @@ where
     F::Output: Drop,
     requires { F.can_poll operations.0 × F.can_poll operations.1 × F.can_poll operations.2 }
 {
-    let (task, other, last) = (MockTask::new(rt)?, MockTask::new(rt)?, MockTask::new(rt)?);
+    let (task, other, last) = (new_task(rt), new_task(rt), new_task(rt));
     let (first, second, third) = operations;
-    let (first, mut second) = (wait(&task, first)?, wait(&other, second)?);
-    drop(wait(&MockTask::new(rt)?, third)?);
-    let first = wait(&task, first)?;
+    let (first, mut second) = (wait(rt, &task, first), wait(rt, &other, second));
+    drop(wait(rt, &new_task(rt), third));
+    let first = wait(rt, &task, first);
     let is_kept = !task.is_woken() && line.numbers(group) == (2, 0);
-    let mut first = wait(&last, first)?;
+    let mut first = wait(rt, &last, first);
     assert!(rt;
         is_kept && !last.is_woken() && !other.is_woken(),
         "{group:?}"
@@ -139,13 +130,12 @@ where
             is_ready && line.numbers(group) == (1, usize::from(are_all_told)),
             "{group:?}"
         );
-        return Ok(());
+        return;
     }
     drop(first);
     let is_told = other.is_woken() && line.numbers(group) == (1, 1);
     assert!(rt; is_told && other.poll(&mut second).is_ready(), "{group:?}");
     assert_eq!(rt; line.numbers(group), (0, 0));
-    Ok(())
 }
 
 /// Three of them.
@@ -156,26 +146,24 @@ macro_rules! three {
 }
 
 #[test]
-fn receives_take_turns(rt: HostRuntime) -> Result<(), Fail> {
-    let (s, r) = channel(&rt, Some(1))?;
-    let mut line = Handles::new(&s, r.try_clone()?)?;
-    let Ok((ruled, pass)) = bounded_with::<u32, (), Unruled>(rt.alloc(), 1) else {
-        return Err(AllocError.into());
-    };
+fn receives_take_turns(rt: HostRuntime) {
+    let (s, r) = channel(&rt, Some(1));
+    let mut line = Handles::new(&rt, &s, r.try_clone().expect(&rt, "memory"));
+    let made = bounded_with::<u32, (), Unruled>(rt.alloc(), 1);
+    let (ruled, pass) = made.expect(&rt, "a channel");
     let party = Party::new(&ruled, pass);
     let mut ruled_line = Ruled { rt: &rt, party };
     for goes_on in [false, true] {
-        take_turns(&rt, &mut line, Group::Receives, three!(r.recv()), goes_on)?;
+        take_turns(&rt, &mut line, Group::Receives, three!(r.recv()), goes_on);
         let receives = three!(ruled.recv_as::<Unruled, Unruled, _>(&rt, ruled.pass()));
-        take_turns(&rt, &mut ruled_line, Group::Receives, receives, goes_on)?;
+        take_turns(&rt, &mut ruled_line, Group::Receives, receives, goes_on);
     }
-    Ok(())
 }
 
 #[test]
-fn receives_of_many_take_turns(rt: HostRuntime) -> Result<(), Fail> {
-    let (a, (s, r)) = (rt.alloc(), channel(&rt, Some(1))?);
-    let mut line = Handles::new(&s, r.try_clone()?)?;
+fn receives_of_many_take_turns(rt: HostRuntime) {
+    let (a, (s, r)) = (rt.alloc(), channel(&rt, Some(1)));
+    let mut line = Handles::new(&rt, &s, r.try_clone().expect(&rt, "memory"));
     for goes_on in [false, true] {
         let (mut one, mut two, mut three) = (Vec::new(a), Vec::new(a), Vec::new(a));
         // one without a limit waits, too, and takes no room for what isn't there
@@ -184,79 +172,69 @@ fn receives_of_many_take_turns(rt: HostRuntime) -> Result<(), Fail> {
             r.recv_many(&mut two, 5),
             r.recv_many(&mut three, 5),
         );
-        take_turns(&rt, &mut line, Group::Receives, receives, goes_on)?;
+        take_turns(&rt, &mut line, Group::Receives, receives, goes_on);
         assert_eq!(rt;
             (one.len(), two.len()),
             if goes_on { (1, 0) } else { (0, 1) }
         );
         assert!(rt; (goes_on || one.capacity() == 0) && three.capacity() == 0);
     }
-    Ok(())
 }
 
 #[test]
-fn sends_take_turns(rt: HostRuntime) -> Result<(), Fail> {
-    let (s, r) = channel(&rt, Some(1))?;
-    let mut line = Handles::new(&s, r)?;
-    let Ok((ruled, pass)) = bounded_with::<u32, (), Unruled>(rt.alloc(), 1) else {
-        return Err(AllocError.into());
-    };
+fn sends_take_turns(rt: HostRuntime) {
+    let (s, r) = channel(&rt, Some(1));
+    let mut line = Handles::new(&rt, &s, r);
+    let made = bounded_with::<u32, (), Unruled>(rt.alloc(), 1);
+    let (ruled, pass) = made.expect(&rt, "a channel");
     let party = Party::new(&ruled, pass);
     let mut ruled_line = Ruled { rt: &rt, party };
     line.tell(Group::Receives);
     ruled_line.tell(Group::Receives);
     for goes_on in [false, true] {
-        take_turns(&rt, &mut line, Group::Sends, three!(s.send(2)), goes_on)?;
+        take_turns(&rt, &mut line, Group::Sends, three!(s.send(2)), goes_on);
         let sends = three!(ruled.send_as::<Unruled, Unruled, _>(&rt, ruled.pass(), 2));
-        take_turns(&rt, &mut ruled_line, Group::Sends, sends, goes_on)?;
+        take_turns(&rt, &mut ruled_line, Group::Sends, sends, goes_on);
     }
     let send = ruled.send_as::<Unruled, Unruled, _>(&rt, ruled.pass(), 5);
-    let send = wait(&MockTask::new(&rt)?, send)?;
+    let send = wait(&rt, &new_task(&rt), send);
     assert!(rt; matches!(&send.into_parts(), Some((_, 5))));
     assert_eq!(rt; ruled_line.numbers(Group::Sends), (0, 0));
-    Ok(())
 }
 
 #[test]
-fn sends_of_many_take_turns(rt: HostRuntime) -> Result<(), Fail> {
-    let (a, (s, r)) = (rt.alloc(), channel(&rt, Some(1))?);
-    let mut line = Handles::new(&s, r)?;
+fn sends_of_many_take_turns(rt: HostRuntime) {
+    let (a, (s, r)) = (rt.alloc(), channel(&rt, Some(1)));
+    let mut line = Handles::new(&rt, &s, r);
     line.tell(Group::Receives);
     for goes_on in [false, true] {
-        let (one, two) = (numbers_from(a, 2, 1)?, numbers_from(a, 3, 1)?);
-        let three = numbers_from(a, 4, 1)?;
+        let one = numbers_from(a, 2, 1).expect(&rt, "memory");
+        let two = numbers_from(a, 3, 1).expect(&rt, "memory");
+        let three = numbers_from(a, 4, 1).expect(&rt, "memory");
         let sends = (s.send_many(one), s.send_many(two), s.send_many(three));
-        take_turns(&rt, &mut line, Group::Sends, sends, goes_on)?;
+        take_turns(&rt, &mut line, Group::Sends, sends, goes_on);
     }
-    Ok(())
 }
 
 #[test]
-fn who_waits_for_the_last_receiver_takes_turns(rt: HostRuntime) -> Result<(), Fail> {
+fn who_waits_for_the_last_receiver_takes_turns(rt: HostRuntime) {
     for goes_on in [false, true] {
-        let (s, r) = channel(&rt, Some(1))?;
-        let mut line = Handles::new(&s, r)?;
-        drop(wait(&MockTask::new(&rt)?, s.closed())?);
+        let (s, r) = channel(&rt, Some(1));
+        let mut line = Handles::new(&rt, &s, r);
+        drop(wait(&rt, &new_task(&rt), s.closed()));
         assert!(rt; !s.is_closed());
-        take_turns(&rt, &mut line, Group::Closeds, three!(s.closed()), goes_on)?;
-        let Ok((ruled, pass)) = bounded_with::<u32, (), Unruled>(rt.alloc(), 1) else {
-            return Err(AllocError.into());
-        };
+        take_turns(&rt, &mut line, Group::Closeds, three!(s.closed()), goes_on);
+        let made = bounded_with::<u32, (), Unruled>(rt.alloc(), 1);
+        let (ruled, pass) = made.expect(&rt, "a channel");
         let party = Party::new(&ruled, pass);
         let mut line = Ruled { rt: &rt, party };
         let closeds = three!(ruled.closed_as(&rt, ruled.pass()));
-        take_turns(&rt, &mut line, Group::Closeds, closeds, goes_on)?;
+        take_turns(&rt, &mut line, Group::Closeds, closeds, goes_on);
     }
-    Ok(())
 }
 
 /// Lets two operations wait, closes the channel, and gives both up.
-fn leave_after_the_close<R, L, F, G>(
-    rt: &R,
-    line: &mut L,
-    group: Group,
-    operations: (F, G),
-) -> Result<(), Fail>
+fn leave_after_the_close<R, L, F, G>(rt: &R, line: &mut L, group: Group, operations: (F, G))
 where
     R: RandomSource + AllocGlobal + Abort,
     L: Line,
@@ -267,38 +245,38 @@ where
     requires { F.can_poll operations.0 × G.can_poll operations.1 }
 {
     let (first, second) = operations;
-    let first = wait(&MockTask::new(rt)?, first)?;
-    let second = wait(&MockTask::new(rt)?, second)?;
+    let first = wait(rt, &new_task(rt), first);
+    let second = wait(rt, &new_task(rt), second);
     line.close();
     assert_eq!(rt; line.numbers(group), (2, 2), "{group:?}");
     drop((first, second));
     assert_eq!(rt; line.numbers(group), (0, 0), "{group:?}");
-    Ok(())
 }
 
 #[test]
-fn a_receive_that_is_given_up_after_the_close_leaves_its_list(rt: HostRuntime) -> Result<(), Fail> {
-    let (s, r) = channel(&rt, Some(1))?;
-    let (mut line, mut into) = (Handles::new(&s, r.try_clone()?)?, Vec::new(rt.alloc()));
+fn a_receive_that_is_given_up_after_the_close_leaves_its_list(rt: HostRuntime) {
+    let (s, r) = channel(&rt, Some(1));
+    let mut line = Handles::new(&rt, &s, r.try_clone().expect(&rt, "memory"));
+    let mut into = Vec::new(rt.alloc());
     let receives = (r.recv(), r.recv_many(&mut into, 5));
-    leave_after_the_close(&rt, &mut line, Group::Receives, receives)
+    leave_after_the_close(&rt, &mut line, Group::Receives, receives);
 }
 
 #[test]
-fn a_send_that_is_given_up_after_the_close_leaves_its_list(rt: HostRuntime) -> Result<(), Fail> {
-    let (unsent, (s, r)) = (numbers_from(rt.alloc(), 2, 1)?, channel(&rt, Some(1))?);
-    let mut line = Handles::new(&s, r)?;
+fn a_send_that_is_given_up_after_the_close_leaves_its_list(rt: HostRuntime) {
+    let (s, r) = channel(&rt, Some(1));
+    let unsent = numbers_from(rt.alloc(), 2, 1).expect(&rt, "memory");
+    let mut line = Handles::new(&rt, &s, r);
     line.tell(Group::Receives);
     let sends = (s.send(1), s.send_many(unsent));
-    leave_after_the_close(&rt, &mut line, Group::Sends, sends)
+    leave_after_the_close(&rt, &mut line, Group::Sends, sends);
 }
 
 #[test]
-fn whoever_is_given_up_after_the_close_under_a_rule_leaves(rt: HostRuntime) -> Result<(), Fail> {
+fn whoever_is_given_up_after_the_close_under_a_rule_leaves(rt: HostRuntime) {
     for is_full in [false, true] {
-        let Ok((ruled, pass)) = bounded_with::<u32, (), Unruled>(rt.alloc(), 1) else {
-            return Err(AllocError.into());
-        };
+        let made = bounded_with::<u32, (), Unruled>(rt.alloc(), 1);
+        let (ruled, pass) = made.expect(&rt, "a channel");
         let party = Party::new(&ruled, pass);
         let mut line = Ruled { rt: &rt, party };
         if is_full {
@@ -307,59 +285,53 @@ fn whoever_is_given_up_after_the_close_under_a_rule_leaves(rt: HostRuntime) -> R
                 ruled.send_as::<Unruled, Unruled, _>(&rt, ruled.pass(), 2),
                 ruled.send_as::<Unruled, Unruled, _>(&rt, ruled.pass(), 3),
             );
-            leave_after_the_close(&rt, &mut line, Group::Sends, sends)?;
+            leave_after_the_close(&rt, &mut line, Group::Sends, sends);
         } else {
             let receives = (
                 ruled.recv_as::<Unruled, Unruled, _>(&rt, ruled.pass()),
                 ruled.recv_as::<Unruled, Unruled, _>(&rt, ruled.pass()),
             );
-            leave_after_the_close(&rt, &mut line, Group::Receives, receives)?;
+            leave_after_the_close(&rt, &mut line, Group::Receives, receives);
         }
     }
-    Ok(())
 }
 
 #[test]
-fn a_told_send_of_many_that_gives_its_messages_back_hands_on(rt: HostRuntime) -> Result<(), Fail> {
-    let (s, r) = channel(&rt, Some(1))?;
+fn a_told_send_of_many_that_gives_its_messages_back_hands_on(rt: HostRuntime) {
+    let (s, r) = channel(&rt, Some(1));
     assert_eq!(rt; s.try_send(1), Ok(Ok(())));
-    let (task, other, weak) = (MockTask::new(&rt)?, MockTask::new(&rt)?, s.downgrade()?);
-    let first = wait(&task, s.send_many(numbers_from(rt.alloc(), 2, 2)?))?;
-    let _second = wait(&other, s.send(4))?;
+    let (task, other) = (new_task(&rt), new_task(&rt));
+    let weak = s.downgrade().expect(&rt, "memory");
+    let list = numbers_from(rt.alloc(), 2, 2).expect(&rt, "memory");
+    let first = wait(&rt, &task, s.send_many(list));
+    let _second = wait(&rt, &other, s.send(4));
     assert_eq!(rt; r.try_recv(), Ok(1));
     assert_eq!(rt; first.into_unsent().len(), 2);
     assert!(rt; other.is_woken() && s.is_empty() && !s.is_closed());
     assert_eq!(rt; numbers(&weak, Group::Sends), (1, 1));
-    Ok(())
 }
 
 #[test]
-fn operations_that_are_not_polled_change_nothing(rt: HostRuntime) -> Result<(), Fail> {
+fn operations_that_are_not_polled_change_nothing(rt: HostRuntime) {
     let alloc = rt.alloc();
-    let (s, r) = channel(&rt, Some(3))?;
+    let (s, r) = channel(&rt, Some(3));
     assert_eq!(rt; s.try_send(0), Ok(Ok(())));
     let mut into = Vec::new(alloc);
-    drop((
-        s.send(5),
-        s.send_many(numbers_from(alloc, 0, 2)?),
-        s.closed(),
-    ));
+    let list = numbers_from(alloc, 0, 2).expect(&rt, "memory");
+    drop((s.send(5), s.send_many(list), s.closed()));
     drop((r.recv(), r.recv_many(&mut into, 1)));
     assert_eq!(rt; s.send(5).into_msg(), Some(5));
-    assert_eq!(rt;
-        s.send_many(numbers_from(alloc, 0, 2)?).into_unsent().len(),
-        2
-    );
+    let list = numbers_from(alloc, 0, 2).expect(&rt, "memory");
+    assert_eq!(rt; s.send_many(list).into_unsent().len(), 2);
     assert!(rt; into.is_empty() && !s.is_closed());
     assert_eq!(rt; (s.len(), r.try_recv()), (1, Ok(0)));
-    Ok(())
 }
 
 #[test]
-fn an_owned_receive_takes_the_wait_of_its_stream_with_it(rt: HostRuntime) -> Result<(), Fail> {
-    let (s, r) = channel(&rt, None)?;
-    let (weak, task) = (s.downgrade()?, MockTask::new(&rt)?);
-    let mut stream = r.try_clone()?;
+fn an_owned_receive_takes_the_wait_of_its_stream_with_it(rt: HostRuntime) {
+    let (s, r) = channel(&rt, None);
+    let (weak, task) = (s.downgrade().expect(&rt, "memory"), new_task(&rt));
+    let mut stream = r.try_clone().expect(&rt, "memory");
     assert!(rt; task.enter(|cx| matches!(&stream.poll_next(cx), Poll::Pending)));
     let mut recv = stream.into_recv();
     assert_eq!(rt; numbers(&weak, Group::Streams), (1, 0));
@@ -367,5 +339,4 @@ fn an_owned_receive_takes_the_wait_of_its_stream_with_it(rt: HostRuntime) -> Res
     assert!(rt; matches!(&task.poll(&mut recv), Poll::Ready(Ok(Ok(7)))));
     drop(recv);
     assert_eq!(rt; numbers(&weak, Group::Streams), (0, 0));
-    Ok(())
 }

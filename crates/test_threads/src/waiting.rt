@@ -1,9 +1,10 @@
 //! New channels, and what waits at one, as a weak sender sees it.
 use async_channel::inspect::who_waits;
-use async_channel::{
-    Group, MakeError, Receiver, Sender, StampMaker, WeakSender, bounded, unbounded,
-};
+use async_channel::{Group, Receiver, Sender, StampMaker, WeakSender, bounded, unbounded};
+use futures::test::MockTask;
 use std::alloc::AllocGlobal;
+use std::process::Abort;
+use std::random::RandomSource;
 use std::sync::Wait;
 use std::thread;
 
@@ -11,15 +12,20 @@ use std::thread;
 pub const TURNS: u32 = 10_000_000;
 
 /// A bounded channel if there is a capacity, and else an unbounded one.
-pub fn channel<T: Drop, R: Wait + Clone + Drop + AllocGlobal>(
+pub fn channel<T: Drop, R: Wait + Clone + Drop + AllocGlobal + Abort>(
     rt: &R,
     capacity: Option<usize>,
-) -> Result<(Sender<T, R>, Receiver<T, R>), MakeError> {
+) -> (Sender<T, R>, Receiver<T, R>) {
     let mut maker = StampMaker::new();
-    match capacity {
+    let made = match capacity {
         Some(capacity) if capacity > 0 => bounded(rt, rt.alloc(), capacity, &mut maker),
         _ => unbounded(rt, rt.alloc(), &mut maker),
-    }
+    };
+    made.expect(rt, "a channel")
+}
+
+pub fn new_task<R: RandomSource + AllocGlobal + Abort>(rt: &R) -> MockTask {
+    MockTask::new(rt).expect(rt, "memory")
 }
 
 /// How many wait in the group, and how many of them are told.

@@ -69,13 +69,8 @@ pub fn numbers_from(
     first: u64,
     count: usize,
 ) -> Result<VecDeque<u64, Global>, AllocError> {
-    let mut numbers = VecDeque::with_capacity(alloc, count)?;
-    for place in 0..count as u64 {
-        numbers
-            .push_back(first.wrapping_add(place))
-            .map_err(|_| AllocError)?;
-    }
-    Ok(numbers)
+    let numbers = (0..count as u64).map(|place| first.wrapping_add(place));
+    Ok(VecDeque::from(numbers.collect::<Vec<_>>(alloc)?))
 }
 
 /// Sends a message, and answers whether it went in.
