@@ -18,7 +18,7 @@ without these answers, and whatever is open then by itself. If all goals that ar
 those that had one, `breaks_a_proof` is set: the prover may find none for a change that keeps to the
 contract, either.
 
-A change of a definition is refused if its function, a law, isn't proved: its proof is by hand.
+A change of a definition names a law, which is proved by hand. It is refused if that isn't proved.
 
 A change may have a `clause`. Then its copy ensures that clause alone, and it is refused if a goal
 of that clause isn't proved. So no time goes into the other clauses.

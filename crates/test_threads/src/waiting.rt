@@ -24,6 +24,7 @@ pub fn channel<T: Drop, R: Wait + Clone + Drop + AllocGlobal + Abort>(
     made.expect(rt, "a channel")
 }
 
+/// A task whose operations the test polls.
 pub fn new_task<R: RandomSource + AllocGlobal + Abort>(rt: &R) -> MockTask {
     MockTask::new(rt).expect(rt, "memory")
 }
