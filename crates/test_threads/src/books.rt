@@ -5,7 +5,6 @@ use channel_record::{Call, Clerk, FinishError, Recorder, StampMaker};
 use std::alloc::AllocGlobal;
 use std::process::Abort;
 use std::sync::Wait;
-use std::test::Fail;
 use std::thread::join;
 
 /// A call by the clerk of that number.
@@ -37,23 +36,35 @@ const CALLS: [Row; 21] = [
     (1, TryRecv),
 ];
 
+fn new_recorder(rt: &(impl AllocGlobal + Abort), capacity: usize) -> Recorder<u64> {
+    let mut maker = StampMaker::new();
+    let made = match capacity {
+        0 => Recorder::unbounded(rt.alloc(), &mut maker),
+        _ => Recorder::bounded(rt.alloc(), capacity.max(1), &mut maker),
+    };
+    made.expect(rt, "a recorder")
+}
+
+fn new_clerk(rt: &(impl Wait + Abort), recorder: &Recorder<u64>) -> Clerk<u64> {
+    recorder.clerk(rt).expect(rt, "a clerk")
+}
+
 /// Makes each call by a clerk that is made before its first one.
 fn make(
-    rt: &impl Wait,
+    rt: &(impl Wait + Abort),
     recorder: &Recorder<u64>,
     clerks: &mut Vec<Clerk<u64>>,
     rows: &[Row],
-) -> Result<(), Fail> {
+) {
     for (number, call) in rows {
         for _ in clerks.len()..number.saturating_add(1) {
-            clerks.push(recorder.clerk(rt)?)?;
+            clerks.push(new_clerk(rt, recorder)).expect(rt, "memory");
         }
-        let clerk = clerks.get_mut(*number).ok_or("a clerk")?;
+        let clerk = clerks.get_mut(*number).expect(rt, "a clerk");
         if recorder.owns(clerk) {
-            recorder.call(rt, clerk, *call)?;
+            recorder.call(rt, clerk, *call).expect(rt, "memory");
         }
     }
-    Ok(())
 }
 
 /// Records the calls, and hands the clerks in, in this order or the other one, with one more that
@@ -63,47 +74,43 @@ fn records<R: Wait + Abort + AllocGlobal>(
     capacity: usize,
     is_reversed: bool,
     rows: &[Row],
-) -> Result<(), Fail> {
-    let (a, mut maker) = (rt.alloc(), StampMaker::new());
-    let recorder = match capacity {
-        0 => Recorder::unbounded(a, &mut maker)?,
-        _ => Recorder::bounded(a, capacity.max(1), &mut maker)?,
-    };
-    let mut clerks = Vec::new(a);
-    make(rt, &recorder, &mut clerks, rows)?;
+) {
+    let (recorder, mut clerks) = (new_recorder(rt, capacity), Vec::new(rt.alloc()));
+    make(rt, &recorder, &mut clerks, rows);
     if is_reversed {
         clerks.as_mut_slice().reverse();
     }
-    clerks.push(recorder.clerk(rt)?)?;
-    assert_eq!(rt; recorder.finish(clerks)?.history().len(), rows.len());
-    Ok(())
+    clerks.push(new_clerk(rt, &recorder)).expect(rt, "memory");
+    let book = recorder.finish(clerks).expect(rt, "a book");
+    assert_eq!(rt; book.history().len(), rows.len());
 }
 
 #[test]
-fn each_call_with_each_outcome(rt: HostRuntime) -> Result<(), Fail> {
+fn each_call_with_each_outcome(rt: HostRuntime) {
     for is_reversed in [false, true] {
-        records(&rt, 0, is_reversed, &[])?;
-        records(&rt, 0, is_reversed, &CALLS)?;
-        records(&rt, 3, is_reversed, &CALLS)?;
+        records(&rt, 0, is_reversed, &[]);
+        records(&rt, 0, is_reversed, &CALLS);
+        records(&rt, 3, is_reversed, &CALLS);
     }
-    Ok(())
 }
 
 /// What comes of a recorder whose clerks also called another one, which has the same stamp. Clerk 0
 /// is of the recorder, and clerk 1 of the other. Clerk 2 is of the recorder, and not handed in.
-fn finished<R: Wait + AllocGlobal>(
+fn finished<R: Wait + Abort + AllocGlobal>(
     rt: &R,
     others: &[Row],
     own: &[Row],
-) -> Result<Option<FinishError>, Fail> {
-    let (a, mut maker, mut another) = (rt.alloc(), StampMaker::new(), StampMaker::new());
-    let recorder = Recorder::unbounded(a, &mut maker)?;
-    let other = Recorder::unbounded(a, &mut another)?;
-    let mut clerks = vec![in a; recorder.clerk(rt)?, other.clerk(rt)?, recorder.clerk(rt)?]?;
-    make(rt, &other, &mut clerks, others)?;
-    make(rt, &recorder, &mut clerks, own)?;
+) -> Option<FinishError> {
+    let (recorder, other) = (new_recorder(rt, 0), new_recorder(rt, 0));
+    let clerks = [&recorder, &other, &recorder].into_iter();
+    let clerks = clerks
+        .map(|of| new_clerk(rt, of))
+        .collect::<Vec<_>>(rt.alloc());
+    let mut clerks = clerks.expect(rt, "memory");
+    make(rt, &other, &mut clerks, others);
+    make(rt, &recorder, &mut clerks, own);
     clerks.pop();
-    Ok(recorder.finish(clerks).err())
+    recorder.finish(clerks).err()
 }
 
 /// Calls of the other recorder, and of the recorder, whose entries aren't its history.
@@ -123,37 +130,33 @@ const MISMATCHES: [(&[Row], &[Row]); 6] = [
 ];
 
 #[test]
-fn entries_that_are_not_the_history(rt: HostRuntime) -> Result<(), Fail> {
+fn entries_that_are_not_the_history(rt: HostRuntime) {
     for (others, own) in &MISMATCHES {
-        assert_eq!(rt; finished(&rt, others, own)?, Some(FinishError::Mismatch));
+        assert_eq!(rt; finished(&rt, others, own), Some(FinishError::Mismatch));
     }
     let own = [(0, TrySend(1)), (1, Len)];
-    assert_eq!(rt; finished(&rt, &[], &own)?, None);
-    Ok(())
+    assert_eq!(rt; finished(&rt, &[], &own), None);
 }
 
 #[test]
-fn a_clerk_more_than_were_made(rt: HostRuntime) -> Result<(), Fail> {
-    let recorder = Recorder::<u64>::unbounded(rt.alloc(), &mut StampMaker::new())?;
-    let other = Recorder::<u64>::unbounded(rt.alloc(), &mut StampMaker::new())?;
-    let clerks = vec![in rt.alloc(); recorder.clerk(&rt)?, other.clerk(&rt)?]?;
-    assert!(rt; matches!(&recorder.finish(clerks), Err(FinishError::Missing)));
-    Ok(())
+fn a_clerk_more_than_were_made(rt: HostRuntime) {
+    let (recorder, other) = (new_recorder(&rt, 0), new_recorder(&rt, 0));
+    let clerks = vec![in rt.alloc(); new_clerk(&rt, &recorder), new_clerk(&rt, &other)];
+    let finished = recorder.finish(clerks.expect(&rt, "memory"));
+    assert_eq!(rt; finished.err(), Some(FinishError::Missing));
 }
 
 const MANY: usize = 100_000;
 
 #[test]
-fn many_clerks_and_many_calls(rt: HostRuntime) -> Result<(), Fail> {
-    let recorder = Recorder::unbounded(rt.alloc(), &mut StampMaker::new())?;
-    let mut clerks = Vec::new(rt.alloc());
-    make(&rt, &recorder, &mut clerks, &[(MANY - 1, TrySend(7))])?;
+fn many_clerks_and_many_calls(rt: HostRuntime) {
+    let (recorder, mut clerks) = (new_recorder(&rt, 0), Vec::new(rt.alloc()));
+    make(&rt, &recorder, &mut clerks, &[(MANY - 1, TrySend(7))]);
     for _ in 0..MANY {
-        make(&rt, &recorder, &mut clerks, &[(0, TrySend(7))])?;
+        make(&rt, &recorder, &mut clerks, &[(0, TrySend(7))]);
     }
-    let book = recorder.finish(clerks)?;
+    let book = recorder.finish(clerks).expect(&rt, "a book");
     assert_eq!(rt; (book.clerks(), book.history().len()), (MANY, MANY + 1));
-    Ok(())
 }
 
 /// How many calls a thread makes beside another one.
@@ -175,12 +178,9 @@ fn trades(rt: &impl Wait, recorder: &Recorder<u64>, clerk: &mut Clerk<u64>) -> b
 }
 
 #[test]
-fn two_threads_have_one_history(rt: HostRuntime) -> Result<(), Fail> {
-    let (recorder, meeting) = (
-        Recorder::unbounded(rt.alloc(), &mut StampMaker::new())?,
-        Meeting::new(),
-    );
-    let (mut one, mut other) = (recorder.clerk(&rt)?, recorder.clerk(&rt)?);
+fn two_threads_have_one_history(rt: HostRuntime) {
+    let (recorder, meeting) = (new_recorder(&rt, 0), Meeting::new());
+    let (mut one, mut other) = (new_clerk(&rt, &recorder), new_clerk(&rt, &recorder));
     let have_traded = join(
         &rt,
         || {
@@ -193,7 +193,7 @@ fn two_threads_have_one_history(rt: HostRuntime) -> Result<(), Fail> {
         },
     );
     assert_eq!(rt; have_traded, (true, true));
-    let book = recorder.finish(vec![in rt.alloc(); one, other]?)?;
+    let clerks = vec![in rt.alloc(); one, other].expect(&rt, "memory");
+    let book = recorder.finish(clerks).expect(&rt, "a book");
     assert_eq!(rt; book.history().len() as u64, 2 * BESIDE);
-    Ok(())
 }

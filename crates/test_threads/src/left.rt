@@ -1,19 +1,19 @@
 //! What is left of a call when all handles are gone: no message, no copy of the runtime, and of an
 //! operation that is given up no waker.
-use crate::waiting::numbers;
+use crate::waiting::{new_task, numbers};
 use crate::ways::{Polls, Receives, Sends, receive_some, send_all};
 use Deed::*;
-use async_channel::{Group, Receiver, Sender, StampMaker, bounded, unbounded};
+use async_channel::{Group, Receiver, Sender, StampMaker, WeakSender, bounded, unbounded};
 use futures::Future;
 use futures::task::Poll;
 use futures::test::MockTask;
 use ruled_channel::{Unruled, bounded_with};
 use std::alloc::{AllocError, AllocGlobal, Global};
 use std::collections::VecDeque;
+use std::process::Abort;
 use std::random::RandomSource;
 use std::sync::atomic::{AtomicBool, AtomicU64, Ordering};
 use std::sync::{Arc, Wait};
-use std::test::Fail;
 
 /// A part of a runtime, whose copies are counted: how many may still be made, and how many live.
 struct Copies<'a> {
@@ -157,34 +157,47 @@ impl Tasks {
 
 /// Both sides of a channel, and what a deed needs beside them.
 #[derive(Drop)]
-struct At<'a, 'b, R: Wait + Clone + Drop> {
-    alloc: Global,
+struct At<'a, 'b, Q, R: Wait + Clone + Drop> {
+    rt: &'b Q,
     tasks: &'b Tasks,
     live: &'a AtomicU64,
     s: &'b Sender<Counted<'a>, R>,
     r: &'b Receiver<Counted<'a>, R>,
 }
 
-impl<'a, R: Wait + Clone + Drop> At<'a, '_, R> {
+impl<'a, Q: AllocGlobal + Abort, R: Wait + Clone + Drop> At<'a, '_, Q, R> {
     /// Does it, and answers whether that went well. So many copies of the runtime are left.
-    fn act(&self, deed: Deed, left: &AtomicU64) -> Result<bool, Fail> {
-        let (s, r, mut into) = (self.s, self.r, Vec::new(self.alloc));
+    fn act(&self, deed: Deed, left: &AtomicU64) -> bool {
+        let (s, r, tasks) = (self.s, self.r, self.tasks);
         match deed {
             Sending(way) => {
-                send_all(self.tasks, way, s, self.messages(way)?);
+                send_all(tasks, way, s, self.messages(way));
             }
             Receiving(way) => {
-                receive_some(self.tasks, way, &mut r.try_clone()?, &mut into, 2);
+                let mut into = Vec::new(self.rt.alloc());
+                receive_some(tasks, way, &mut self.receiver(), &mut into, 2);
             }
-            IntoSend => drop(self.tasks.output(s.try_clone()?.into_send(self.message()))),
-            Closed => drop(self.tasks.output(s.closed())),
-            IntoClosed => drop(self.tasks.output(s.try_clone()?.into_closed())),
-            IntoRecv => drop(self.tasks.output(r.try_clone()?.into_recv())),
-            CloseSender => return Ok(s.close()),
-            CloseReceiver => return Ok(r.close()),
+            IntoSend => drop(tasks.output(self.sender().into_send(self.message()))),
+            Closed => drop(tasks.output(s.closed())),
+            IntoClosed => drop(tasks.output(self.sender().into_closed())),
+            IntoRecv => drop(tasks.output(self.receiver().into_recv())),
+            CloseSender => return s.close(),
+            CloseReceiver => return r.close(),
             deed => return self.looks(deed, left),
         }
-        Ok(true)
+        true
+    }
+
+    fn sender(&self) -> Sender<Counted<'a>, R> {
+        self.s.try_clone().expect(self.rt, "a sender")
+    }
+
+    fn receiver(&self) -> Receiver<Counted<'a>, R> {
+        self.r.try_clone().expect(self.rt, "a receiver")
+    }
+
+    fn weak(&self) -> WeakSender<Counted<'a>, R> {
+        self.s.downgrade().expect(self.rt, "a weak sender")
     }
 
     fn message(&self) -> Counted<'a> {
@@ -192,44 +205,47 @@ impl<'a, R: Wait + Clone + Drop> At<'a, '_, R> {
     }
 
     /// As many messages as a call sends.
-    fn messages(&self, way: Sends) -> Result<VecDeque<Counted<'a>, Global>, AllocError> {
-        let mut all = VecDeque::new(self.alloc);
-        all.push_back(self.message()).map_err(|_| AllocError)?;
-        if let Sends::TrySendMany | Sends::SendMany = way {
-            all.push_back(self.message()).map_err(|_| AllocError)?;
-        }
-        Ok(all)
+    fn messages(&self, way: Sends) -> VecDeque<Counted<'a>, Global> {
+        let count = match way {
+            Sends::TrySendMany | Sends::SendMany => 2,
+            _ => 1,
+        };
+        let all = (0..count).map(|_| self.message());
+        let all = all.collect::<Vec<_>>(self.rt.alloc());
+        VecDeque::from(all.expect(self.rt, "memory"))
     }
 
-    fn looks(&self, deed: Deed, left: &AtomicU64) -> Result<bool, Fail> {
+    fn looks(&self, deed: Deed, left: &AtomicU64) -> bool {
         let (s, task) = (self.s, &self.tasks.one);
-        Ok(match deed {
+        match deed {
             IntoMsg => {
                 let mut send = s.send(self.message());
                 task.poll(&mut send).is_pending() && send.into_msg().is_some() && task.is_woken()
             }
             IntoUnsent => {
-                let mut send = s.send_many(self.messages(Sends::SendMany)?);
+                let mut send = s.send_many(self.messages(Sends::SendMany));
                 task.poll(&mut send).is_pending()
                     && send.into_unsent().len() == 2
                     && task.is_woken()
             }
-            Copy(count) => self.copies(left, count)?,
-            UpgradeLate => self.upgrades_nothing()?,
-            _ => self.nobody_waits()? && s.len() == self.r.len(),
-        })
+            Copy(count) => self.copies(left, count),
+            UpgradeLate => self.upgrades_nothing(),
+            _ => self.nobody_waits() && s.len() == self.r.len(),
+        }
     }
 
     /// Closes the channel, and answers whether no weak handle is upgraded then.
-    fn upgrades_nothing(&self) -> Result<bool, Fail> {
-        let (weak_s, weak_r) = (self.s.downgrade()?, self.r.downgrade()?);
-        Ok(self.s.close() && weak_s.upgrade()?.is_none() && weak_r.upgrade()?.is_none())
+    fn upgrades_nothing(&self) -> bool {
+        let weak_r = self.r.downgrade().expect(self.rt, "a weak receiver");
+        self.s.close()
+            && matches!(&self.weak().upgrade(), Ok(None))
+            && matches!(&weak_r.upgrade(), Ok(None))
     }
 
     /// Whether handles are made only where the runtime is copied, and count no longer then.
-    fn copies(&self, left: &AtomicU64, count: u64) -> Result<bool, Fail> {
-        let (s, r) = (self.s, self.r);
-        let (weak_s, weak_r) = (s.downgrade()?, r.downgrade()?);
+    fn copies(&self, left: &AtomicU64, count: u64) -> bool {
+        let (s, r, weak_s) = (self.s, self.r, self.weak());
+        let weak_r = r.downgrade().expect(self.rt, "a weak receiver");
         left.store(count, Ordering::SeqCst);
         let are_made = [
             s.try_clone().is_ok(),
@@ -243,79 +259,74 @@ impl<'a, R: Wait + Clone + Drop> At<'a, '_, R> {
         ];
         left.store(100, Ordering::SeqCst);
         let counts = (s.sender_count(), s.receiver_count(), s.is_closed());
-        Ok(are_made == [count > 0; 8] && counts == (1, 1, false))
+        are_made == [count > 0; 8] && counts == (1, 1, false)
     }
 
     /// Whether nobody waits.
-    fn nobody_waits(&self) -> Result<bool, Fail> {
-        let weak = self.s.downgrade()?;
-        let mut is_nobody = true;
-        for group in [
+    fn nobody_waits(&self) -> bool {
+        let weak = self.weak();
+        let groups = [
             Group::Sends,
             Group::Receives,
             Group::Streams,
             Group::Closeds,
-        ] {
-            is_nobody = is_nobody && numbers(&weak, group) == (0, 0);
-        }
-        Ok(is_nobody)
+        ];
+        groups.iter().all(|group| numbers(&weak, *group) == (0, 0))
     }
 }
 
 /// Does one thing at this channel, and answers whether that went well. So many copies of the runtime
 /// are left, and so many messages live.
-fn is_well_done<'a, Q: RandomSource + AllocGlobal, R: Wait + Clone + Drop>(
+fn is_well_done<'a, Q: RandomSource + AllocGlobal + Abort, R: Wait + Clone + Drop>(
     rt: &Q,
     deed: Deed,
     (left, live): (&AtomicU64, &'a AtomicU64),
     s: &Sender<Counted<'a>, R>,
     r: &Receiver<Counted<'a>, R>,
-) -> Result<bool, Fail> {
-    let tasks = Tasks {
-        one: MockTask::new(rt)?,
-        other: MockTask::new(rt)?,
+) -> bool {
+    let tasks = &Tasks {
+        one: new_task(rt),
+        other: new_task(rt),
         polls: AtomicU64::new(0),
         is_well: AtomicBool::new(true),
     };
-    let (alloc, tasks) = (rt.alloc(), &tasks);
     let at = At {
-        alloc,
+        rt,
         tasks,
         live,
         s,
         r,
     };
-    Ok(at.act(deed, left)? && at.nobody_waits()? && tasks.have_let_go())
+    at.act(deed, left) && at.nobody_waits() && tasks.have_let_go()
 }
 
 /// Does one thing at a new channel, with a message in it or none. It answers whether that went
 /// well, and how many copies of the runtime are left then, and how many messages.
-fn leaves<R>(rt: &R, deed: Deed, is_full: bool) -> Result<(bool, u64, u64), Fail>
+fn leaves<R>(rt: &R, deed: Deed, is_full: bool) -> (bool, u64, u64)
 where
-    R: Wait + Clone + Drop + RandomSource + AllocGlobal,
+    R: Wait + Clone + Drop + RandomSource + AllocGlobal + Abort,
 {
     let (left, copies, live) = (AtomicU64::new(100), AtomicU64::new(0), AtomicU64::new(0));
-    let runtime = (
-        rt.clone()?,
-        Copies {
-            left: &left,
-            live: &copies,
-        },
-    );
-    let (s, r) = bounded(&runtime, rt.alloc(), 1, &mut StampMaker::new())?;
+    let counted = Copies {
+        left: &left,
+        live: &copies,
+    };
+    let runtime = (rt.clone().expect(rt, "a runtime"), counted);
+    let made = bounded(&runtime, rt.alloc(), 1, &mut StampMaker::new());
+    let (s, r) = made.expect(rt, "a channel");
     if is_full {
         drop(s.try_send(Counted::new(&live)));
     }
-    let is_well = is_well_done(rt, deed, (&left, &live), &s, &r)?;
+    let is_well = is_well_done(rt, deed, (&left, &live), &s, &r);
     // so that a channel that is kept has a message
     drop(s.try_send(Counted::new(&live)));
     drop((s, r));
     let (copies, live) = (copies.load(Ordering::SeqCst), live.load(Ordering::SeqCst));
-    Ok((is_well, copies, live))
+    (is_well, copies, live)
 }
 
 #[test]
-fn nothing_is_left_of_a_call(rt: HostRuntime) -> Result<(), Fail> {
+fn nothing_is_left_of_a_call(rt: HostRuntime) {
     for (deeds, is_full) in [
         (AT_BOTH.as_slice(), false),
         (AT_BOTH.as_slice(), true),
@@ -323,10 +334,9 @@ fn nothing_is_left_of_a_call(rt: HostRuntime) -> Result<(), Fail> {
         (AT_FULL.as_slice(), true),
     ] {
         for deed in deeds {
-            assert_eq!(rt; leaves(&rt, *deed, is_full)?, (true, 0, 0), "{deed:?}");
+            assert_eq!(rt; leaves(&rt, *deed, is_full), (true, 0, 0), "{deed:?}");
         }
     }
-    Ok(())
 }
 
 #[test]

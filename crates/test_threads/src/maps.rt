@@ -2,11 +2,10 @@
 use crate::waiting::TURNS;
 use async_channel::StampMaker;
 use parallel_map::{Gate, Job, MapError, Open, Piece, gather, map_all, map_in_chunks};
-use std::alloc::{AllocError, Global};
+use std::alloc::{AllocError, AllocGlobal};
 use std::process::Abort;
 use std::sync::Wait;
 use std::sync::atomic::{AtomicBool, AtomicU64, Ordering};
-use std::test::Fail;
 use std::thread;
 use std::thread::Threads;
 
@@ -25,25 +24,31 @@ impl Job<u64, u64> for Same {
 /// largest size of a chunk.
 type Map = (u64, usize, usize, Option<usize>);
 
-/// Maps the numbers below a count at this gate, and answers whether the answers, which are right,
-/// have just their room.
-fn maps<R, G>(rt: &R, alloc: Global, map: Map, gate: &G) -> Result<bool, Fail>
+/// Maps the numbers below a count at this gate by copies of a runtime, and answers whether the
+/// answers, which are right, have just their room.
+fn maps<H, R, G>(host: &H, rt: &R, map: Map, gate: &G) -> bool
 where
+    H: AllocGlobal + Abort,
     R: Wait + Threads + Clone + Drop + Send + Sync,
     G: Gate + Sync,
 {
-    let (count, workers, cap, largest) = map;
-    let inputs = (0..count).collect::<Vec<_>>(alloc)?;
+    let (alloc, (count, workers, cap, largest)) = (host.alloc(), map);
+    let inputs = numbers_below(host, count);
     let (inputs, maker) = (inputs.as_slice(), &mut StampMaker::new());
     let (workers, cap) = (workers.max(1), cap.max(1));
     let answers = match largest {
-        None => map_all(rt, alloc, &Same, gate, inputs, workers, cap, maker)?,
+        None => map_all(rt, alloc, &Same, gate, inputs, workers, cap, maker),
         Some(largest) => {
             let largest = largest.max(1);
-            map_in_chunks(rt, alloc, &Same, gate, inputs, workers, cap, largest, maker)?
+            map_in_chunks(rt, alloc, &Same, gate, inputs, workers, cap, largest, maker)
         }
     };
-    Ok(answers.capacity() == inputs.len())
+    answers.expect(host, "answers").capacity() == inputs.len()
+}
+
+fn numbers_below(rt: &(impl AllocGlobal + Abort), count: u64) -> Vec<u64> {
+    let numbers = (0..count).collect(rt.alloc());
+    numbers.expect(rt, "memory")
 }
 
 const MAPS: [Map; 11] = [
@@ -73,12 +78,11 @@ impl Clone for Single {
 }
 
 #[test]
-fn each_answer_is_at_its_place(rt: HostRuntime) -> Result<(), Fail> {
+fn each_answer_is_at_its_place(rt: HostRuntime) {
     let runtime = (rt, Single);
     for map in MAPS {
-        assert!(rt; maps(&runtime, rt.alloc(), map, &Open)?, "{map:?}");
+        assert!(rt; maps(&rt, &runtime, map, &Open), "{map:?}");
     }
-    Ok(())
 }
 
 /// The first stamp, the capacity of the places, and what is wrong if two inputs are mapped; and
@@ -90,14 +94,13 @@ const SPENT: [(u64, usize, Option<MapError>, bool); 3] = [
 ];
 
 #[test]
-fn a_map_takes_two_stamps(rt: HostRuntime) -> Result<(), Fail> {
+fn a_map_takes_two_stamps(rt: HostRuntime) {
     for (first, cap, error, is_left) in &SPENT {
         let (cap, mut maker) = ((*cap).max(1), StampMaker::starting_at(*first));
         let got = map_all(&rt, rt.alloc(), &Same, &Open, &[5, 6], 2, cap, &mut maker);
         assert_eq!(rt; got.err(), *error);
         assert_eq!(rt; maker.draw().is_some(), *is_left);
     }
-    Ok(())
 }
 
 /// How many calls there were, of the gate and the job. With one worker, the three calls at a place
@@ -138,7 +141,7 @@ impl Job<u64, u64> for Turns {
 }
 
 #[test]
-fn one_worker_goes_from_input_to_input(rt: HostRuntime) -> Result<(), Fail> {
+fn one_worker_goes_from_input_to_input(rt: HostRuntime) {
     let a = rt.alloc();
     // 6,450 inputs are in chunks of 201, and 300,000 in those of 8,192. None ask for no stamp.
     for count in [0, 1, 3, 64, 6_450, 300_000] {
@@ -146,15 +149,15 @@ fn one_worker_goes_from_input_to_input(rt: HostRuntime) -> Result<(), Fail> {
             calls: AtomicU64::new(0),
             is_wrong: AtomicBool::new(false),
         };
-        let places = (0..count).collect::<Vec<u64>>(a)?;
+        let places = numbers_below(&rt, count);
         let first = if count == 0 { u64::MAX } else { 0 };
         let (places, maker) = (places.as_slice(), &mut StampMaker::starting_at(first));
-        map_all(&rt, a, &turns, &turns, places, 1, 1, maker)?;
+        let answers = map_all(&rt, a, &turns, &turns, places, 1, 1, maker);
+        assert!(rt; answers.is_ok());
         let calls = turns.calls.load(Ordering::SeqCst);
         assert_eq!(rt; calls, count.wrapping_mul(3));
         assert!(rt; !turns.is_wrong.load(Ordering::SeqCst) && maker.draw().is_some());
     }
-    Ok(())
 }
 
 /// Workers at the first places go on once so many places were begun.
@@ -201,14 +204,13 @@ impl Gate for Meets {
 }
 
 /// Maps at such a gate, which tells of it.
-fn met<R: Wait + Threads + Clone + Drop + Send + Sync>(
+fn met<R: Wait + Threads + Clone + Drop + Send + Sync + AllocGlobal + Abort>(
     rt: &R,
-    alloc: Global,
     map: Map,
     below: usize,
     wanted: u64,
     looks: u32,
-) -> Result<Meets, Fail> {
+) -> Meets {
     let gate = Meets {
         below,
         looks,
@@ -219,12 +221,12 @@ fn met<R: Wait + Threads + Clone + Drop + Send + Sync>(
         inside: AtomicU64::new(0),
         most: AtomicU64::new(0),
     };
-    maps(rt, alloc, map, &gate)?;
-    Ok(gate)
+    maps(rt, rt, map, &gate);
+    gate
 }
 
 #[test]
-fn each_chunk_has_its_size(rt: HostRuntime) -> Result<(), Fail> {
+fn each_chunk_has_its_size(rt: HostRuntime) {
     for (count, largest, size) in [
         (127, None, 1),
         (128, None, 2),
@@ -237,36 +239,33 @@ fn each_chunk_has_its_size(rt: HostRuntime) -> Result<(), Fail> {
     ] {
         let map = (count, 2, 4, largest);
         // The worker at the first place waits for that of the second chunk.
-        let gate = met(&rt, rt.alloc(), map, 1, 2, TURNS)?;
+        let gate = met(&rt, map, 1, 2, TURNS);
         assert!(rt; !gate.is_late.load(Ordering::SeqCst), "{map:?}");
         assert_eq!(rt; gate.next.load(Ordering::SeqCst), size, "{map:?}");
     }
-    Ok(())
 }
 
 #[test]
-fn workers_run_at_once(rt: HostRuntime) -> Result<(), Fail> {
+fn workers_run_at_once(rt: HostRuntime) {
     // All wait for one another, or the first for all that it doesn't hold.
     for (count, workers, cap, below) in [(2, 2, 2, 2), (100, 100, 1, 100), (64, 2, 4, 1)] {
         let map = (count, workers, cap, None);
-        let gate = met(&rt, rt.alloc(), map, below, count, TURNS)?;
+        let gate = met(&rt, map, below, count, TURNS);
         assert!(rt; !gate.is_late.load(Ordering::SeqCst), "{map:?}");
     }
-    Ok(())
 }
 
 /// How often a worker looks for one that can't come.
 const LONELY_LOOKS: u32 = 20_000;
 
 #[test]
-fn no_more_workers_than_the_caller_says(rt: HostRuntime) -> Result<(), Fail> {
+fn no_more_workers_than_the_caller_says(rt: HostRuntime) {
     for workers in 1..4u8 {
         let map = (6, usize::from(workers), 4, None);
-        let gate = met(&rt, rt.alloc(), map, 6, u64::MAX, LONELY_LOOKS)?;
+        let gate = met(&rt, map, 6, u64::MAX, LONELY_LOOKS);
         let most = gate.most.load(Ordering::SeqCst);
         assert_eq!(rt; most, u64::from(workers), "{map:?}");
     }
-    Ok(())
 }
 
 /// Inputs, and pieces by their places and inputs.
@@ -293,31 +292,25 @@ const PIECES: [Pieces; 14] = [
 
 /// Whether memory isn't refused. Then what comes is right by its contract. Answers have just their
 /// room.
-fn are_gathered(
-    alloc: Global,
-    inputs: &[u64],
-    pieces: &[(usize, u64)],
-) -> Result<bool, AllocError> {
-    let mut made = Vec::new(alloc);
-    for (place, input) in pieces {
-        made.push(Piece::make(&Same, *place, input))?;
-    }
-    Ok(match gather(alloc, inputs, made) {
+fn are_gathered(rt: &(impl AllocGlobal + Abort), inputs: &[u64], pieces: &[(usize, u64)]) -> bool {
+    let made = pieces
+        .iter()
+        .map(|(place, input)| Piece::make(&Same, *place, input));
+    let made = made.collect::<Vec<_>>(rt.alloc()).expect(rt, "memory");
+    match gather(rt.alloc(), inputs, made) {
         Ok(answers) => answers.capacity() == inputs.len(),
         Err(error) => error != MapError::OutOfMemory,
-    })
+    }
 }
 
 #[test]
-fn pieces_are_gathered(rt: HostRuntime) -> Result<(), Fail> {
+fn pieces_are_gathered(rt: HostRuntime) {
     for (inputs, pieces) in &PIECES {
-        assert!(rt; are_gathered(rt.alloc(), inputs, pieces)?, "{pieces:?}");
+        assert!(rt; are_gathered(&rt, inputs, pieces), "{pieces:?}");
     }
-    let inputs = (0..100_000u64).collect::<Vec<_>>(rt.alloc())?;
-    let mut pieces = Vec::new(rt.alloc());
-    for (place, input) in inputs.iter().enumerate().rev() {
-        pieces.push((place, *input))?;
-    }
-    assert!(rt; are_gathered(rt.alloc(), inputs.as_slice(), pieces.as_slice())?);
-    Ok(())
+    let inputs = numbers_below(&rt, 100_000);
+    let pieces = inputs.iter().enumerate().rev();
+    let pieces = pieces.map(|(place, input)| (place, *input));
+    let pieces = pieces.collect::<Vec<_>>(rt.alloc()).expect(&rt, "memory");
+    assert!(rt; are_gathered(&rt, inputs.as_slice(), pieces.as_slice()));
 }

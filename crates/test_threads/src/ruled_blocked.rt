@@ -4,11 +4,9 @@ ghost use Rattle.ruled_channel_rules.specs.Handles.{IsSenderOf, IsReceiverOf};
 use crate::party::Party;
 use ruled_channel::{Unruled, bounded_with};
 use ruled_channel_rules::{Channel as Line, Receiver, Sender, bounded};
-use std::alloc::AllocError;
-use std::io;
+use std::process::Abort;
 use std::rt::Clock;
 use std::sync::Wait;
-use std::test::*;
 use std::thread::{Threads, join, sleep, yield_now};
 use std::time::{CpuClock, Duration, Instant};
 
@@ -17,33 +15,38 @@ const BEFORE: u64 = 50;
 
 const AFTER: u64 = 400;
 
+/// How much processor time the thread took so far.
+fn used(rt: &(impl CpuClock + Abort)) -> Duration {
+    rt.thread_cpu_time().expect(rt, "a clock")
+}
+
 /// Blocks in a send or in a receive. It answers whether that is done, and how much processor time
 /// it took.
-fn block<R: Wait + CpuClock>(
+fn block<R: Wait + CpuClock + Abort>(
     rt: &R,
     mut party: Party<'_>,
     is_send: bool,
-) -> io::Result<(bool, Duration)> {
-    let before = rt.thread_cpu_time()?;
+) -> (bool, Duration) {
+    let before = used(rt);
     let is_done = if is_send {
         party.send(rt, 2)
     } else {
         party.receive(rt).is_some()
     };
-    Ok((is_done, rt.thread_cpu_time()?.saturating_sub(before)))
+    (is_done, used(rt).saturating_sub(before))
 }
 
 /// Lets time pass without a sleep. It answers how much processor time that took, which isn't much on a
 /// busy machine.
-fn spin<R: Wait + Clock + CpuClock>(rt: &R) -> io::Result<Duration> {
-    let (start, before) = (Instant::now(rt)?, rt.thread_cpu_time()?);
+fn spin<R: Wait + Clock + CpuClock + Abort>(rt: &R) -> Duration {
+    let (start, before) = (Instant::now(rt).expect(rt, "a clock"), used(rt));
     for _ in rt.forever() {
-        if start.elapsed(rt)? > Duration::from_millis(AFTER) {
+        if start.elapsed(rt).expect(rt, "a clock") > Duration::from_millis(AFTER) {
             break;
         }
         yield_now();
     }
-    Ok(rt.thread_cpu_time()?.saturating_sub(before))
+    used(rt).saturating_sub(before)
 }
 
 /// Whether a call slept that took so much processor time while another thread spun.
@@ -53,12 +56,12 @@ fn has_slept(used: Duration, spun: Duration) -> bool {
 
 /// Lets the other call go on for good, by a close or after a moment that it is likely to miss. It
 /// answers how much processor time it took to spin meanwhile.
-fn release<R: Wait + Clock + CpuClock>(
+fn release<R: Wait + Clock + CpuClock + Abort>(
     rt: &R,
     mut party: Party<'_>,
     is_send: bool,
     is_closed: bool,
-) -> io::Result<Duration> {
+) -> Duration {
     sleep(rt, Duration::from_millis(BEFORE));
     if is_closed {
         let spun = spin(rt);
@@ -82,31 +85,25 @@ fn release<R: Wait + Clock + CpuClock>(
 }
 
 #[test]
-fn blocked_calls_sleep_until_they_can_go_on(rt: HostRuntime) -> Result<(), Fail> {
+fn blocked_calls_sleep_until_they_can_go_on(rt: HostRuntime) {
     for (is_send, is_closed) in [(false, false), (false, true), (true, false), (true, true)] {
-        let Ok((channel, pass)) = bounded_with::<u32, (), Unruled>(rt.alloc(), 1) else {
-            return Err(AllocError.into());
-        };
+        let made = bounded_with::<u32, (), Unruled>(rt.alloc(), 1);
+        let (channel, pass) = made.expect(&rt, "a channel");
         let mut party = Party::new(&channel, pass);
         assert!(rt; !is_send || party.send(&rt, 1));
         let other = party.another();
-        let (blocked, spun) = join(
+        let ((is_done, used), spun) = join(
             &rt,
             || block(&rt, other, is_send),
             || release(&rt, party, is_send, is_closed),
         );
-        let (is_done, used) = blocked?;
-        assert!(rt; is_done != is_closed && has_slept(used, spun?));
+        assert!(rt; is_done != is_closed && has_slept(used, spun));
     }
-    Ok(())
 }
 
 /// How much processor time passes in a spin, if the other call blocks; else there is none.
-fn spun<R: Wait + Clock + CpuClock>(rt: &R, is_blocked: bool) -> io::Result<Option<Duration>> {
-    if is_blocked {
-        return Ok(None);
-    }
-    Ok(Some(spin(rt)?))
+fn spun<R: Wait + Clock + CpuClock + Abort>(rt: &R, is_blocked: bool) -> Option<Duration> {
+    (!is_blocked).then(|| spin(rt))
 }
 
 /// Whether a send of a handle sleeps until there is room, or a receive until a message comes.
@@ -116,45 +113,43 @@ fn sleeps<R>(
     mut sender: Sender<u32>,
     mut receiver: Receiver<u32>,
     is_send: bool,
-) -> io::Result<bool>
+) -> bool
 where
-    R: Threads + Wait + Sync + Clock + CpuClock,
+    R: Threads + Wait + Sync + Clock + CpuClock + Abort,
     requires { IsSenderOf line.now sender × IsReceiverOf line.now receiver }
 {
     let (sent, received) = join(
         rt,
-        move || -> io::Result<Duration>
+        move || -> Duration
             requires { IsSenderOf line.now sender }
         {
-            let (spun, before) = (spun(rt, is_send)?, rt.thread_cpu_time()?);
+            let (spun, before) = (spun(rt, is_send), used(rt));
             let _sent = sender.send_blocking(rt, line, 2);
-            let used = rt.thread_cpu_time()?.saturating_sub(before);
-            Ok(spun.unwrap_or(used))
+            let used = used(rt).saturating_sub(before);
+            spun.unwrap_or(used)
         },
-        move || -> io::Result<Duration>
+        move || -> Duration
             requires { IsReceiverOf line.now receiver }
         {
-            let (spun, before) = (spun(rt, !is_send)?, rt.thread_cpu_time()?);
+            let (spun, before) = (spun(rt, !is_send), used(rt));
             let _got = receiver.recv_blocking(rt, line);
-            let used = rt.thread_cpu_time()?.saturating_sub(before);
-            Ok(spun.unwrap_or(used))
+            let used = used(rt).saturating_sub(before);
+            spun.unwrap_or(used)
         },
     );
-    let (used, spun) = if is_send {
-        (sent?, received?)
+    if is_send {
+        has_slept(sent, received)
     } else {
-        (received?, sent?)
-    };
-    Ok(has_slept(used, spun))
+        has_slept(received, sent)
+    }
 }
 
 #[test]
-fn blocked_handles_sleep(rt: HostRuntime) -> Result<(), Fail> {
+fn blocked_handles_sleep(rt: HostRuntime) {
     let (line, mut hub) = bounded::<u32>(rt.alloc(), 1).expect(&rt, "a channel");
     let (sender, receiver) = (hub.sender(&line), hub.receiver(&line));
-    assert!(rt; sleeps(&rt, &line, sender, receiver, false)?);
+    assert!(rt; sleeps(&rt, &line, sender, receiver, false));
     let (mut sender, receiver) = (hub.sender(&line), hub.receiver(&line));
     assert_eq!(rt; sender.send_blocking(&rt, &line, 1), Ok(Ok(())));
-    assert!(rt; sleeps(&rt, &line, sender, receiver, true)?);
-    Ok(())
+    assert!(rt; sleeps(&rt, &line, sender, receiver, true));
 }
