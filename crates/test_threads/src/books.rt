@@ -36,6 +36,7 @@ const CALLS: [Row; 21] = [
     (1, TryRecv),
 ];
 
+/// A recorder of a channel with so much room, or without a bound if it is 0.
 fn new_recorder(rt: &(impl AllocGlobal + Abort), capacity: usize) -> Recorder<u64> {
     let mut maker = StampMaker::new();
     let made = match capacity {
@@ -102,10 +103,11 @@ fn finished<R: Wait + Abort + AllocGlobal>(
     own: &[Row],
 ) -> Option<FinishError> {
     let (recorder, other) = (new_recorder(rt, 0), new_recorder(rt, 0));
-    let clerks = [&recorder, &other, &recorder].into_iter();
-    let clerks = clerks
-        .map(|of| new_clerk(rt, of))
-        .collect::<Vec<_>>(rt.alloc());
+    let clerks = vec![in rt.alloc();
+        new_clerk(rt, &recorder),
+        new_clerk(rt, &other),
+        new_clerk(rt, &recorder),
+    ];
     let mut clerks = clerks.expect(rt, "memory");
     make(rt, &other, &mut clerks, others);
     make(rt, &recorder, &mut clerks, own);

@@ -3,7 +3,9 @@
 use crate::waiting::{new_task, numbers};
 use crate::ways::{Polls, Receives, Sends, receive_some, send_all};
 use Deed::*;
-use async_channel::{Group, Receiver, Sender, StampMaker, WeakSender, bounded, unbounded};
+use async_channel::{
+    Group, Receiver, Sender, StampMaker, WeakReceiver, WeakSender, bounded, unbounded,
+};
 use futures::Future;
 use futures::task::Poll;
 use futures::test::MockTask;
@@ -196,8 +198,12 @@ impl<'a, Q: AllocGlobal + Abort, R: Wait + Clone + Drop> At<'a, '_, Q, R> {
         self.r.try_clone().expect(self.rt, "a receiver")
     }
 
-    fn weak(&self) -> WeakSender<Counted<'a>, R> {
+    fn weak_sender(&self) -> WeakSender<Counted<'a>, R> {
         self.s.downgrade().expect(self.rt, "a weak sender")
+    }
+
+    fn weak_receiver(&self) -> WeakReceiver<Counted<'a>, R> {
+        self.r.downgrade().expect(self.rt, "a weak receiver")
     }
 
     fn message(&self) -> Counted<'a> {
@@ -236,16 +242,16 @@ impl<'a, Q: AllocGlobal + Abort, R: Wait + Clone + Drop> At<'a, '_, Q, R> {
 
     /// Closes the channel, and answers whether no weak handle is upgraded then.
     fn upgrades_nothing(&self) -> bool {
-        let weak_r = self.r.downgrade().expect(self.rt, "a weak receiver");
+        let (weak_s, weak_r) = (self.weak_sender(), self.weak_receiver());
         self.s.close()
-            && matches!(&self.weak().upgrade(), Ok(None))
+            && matches!(&weak_s.upgrade(), Ok(None))
             && matches!(&weak_r.upgrade(), Ok(None))
     }
 
     /// Whether handles are made only where the runtime is copied, and count no longer then.
     fn copies(&self, left: &AtomicU64, count: u64) -> bool {
-        let (s, r, weak_s) = (self.s, self.r, self.weak());
-        let weak_r = r.downgrade().expect(self.rt, "a weak receiver");
+        let (s, r) = (self.s, self.r);
+        let (weak_s, weak_r) = (self.weak_sender(), self.weak_receiver());
         left.store(count, Ordering::SeqCst);
         let are_made = [
             s.try_clone().is_ok(),
@@ -264,7 +270,7 @@ impl<'a, Q: AllocGlobal + Abort, R: Wait + Clone + Drop> At<'a, '_, Q, R> {
 
     /// Whether nobody waits.
     fn nobody_waits(&self) -> bool {
-        let weak = self.weak();
+        let weak = self.weak_sender();
         let groups = [
             Group::Sends,
             Group::Receives,

@@ -24,8 +24,7 @@ impl Job<u64, u64> for Same {
 /// largest size of a chunk.
 type Map = (u64, usize, usize, Option<usize>);
 
-/// Maps the numbers below a count at this gate by copies of a runtime, and answers whether the
-/// answers, which are right, have just their room.
+/// Maps numbers at this gate by copies of a runtime, and says if the answers have just their room.
 fn maps<H, R, G>(host: &H, rt: &R, map: Map, gate: &G) -> bool
 where
     H: AllocGlobal + Abort,
@@ -290,8 +289,7 @@ const PIECES: [Pieces; 14] = [
     (&[5, 6, 6], &[(2, 6)]),
 ];
 
-/// Whether memory isn't refused. Then what comes is right by its contract. Answers have just their
-/// room.
+/// Whether memory isn't refused, and answers, which are right by contract, have just their room.
 fn are_gathered(rt: &(impl AllocGlobal + Abort), inputs: &[u64], pieces: &[(usize, u64)]) -> bool {
     let made = pieces
         .iter()

@@ -16,7 +16,7 @@ const BEFORE: u64 = 50;
 const AFTER: u64 = 400;
 
 /// How much processor time the thread took so far.
-fn used(rt: &(impl CpuClock + Abort)) -> Duration {
+fn processor_time(rt: &(impl CpuClock + Abort)) -> Duration {
     rt.thread_cpu_time().expect(rt, "a clock")
 }
 
@@ -27,26 +27,26 @@ fn block<R: Wait + CpuClock + Abort>(
     mut party: Party<'_>,
     is_send: bool,
 ) -> (bool, Duration) {
-    let before = used(rt);
+    let before = processor_time(rt);
     let is_done = if is_send {
         party.send(rt, 2)
     } else {
         party.receive(rt).is_some()
     };
-    (is_done, used(rt).saturating_sub(before))
+    (is_done, processor_time(rt).saturating_sub(before))
 }
 
 /// Lets time pass without a sleep. It answers how much processor time that took, which isn't much on a
 /// busy machine.
 fn spin<R: Wait + Clock + CpuClock + Abort>(rt: &R) -> Duration {
-    let (start, before) = (Instant::now(rt).expect(rt, "a clock"), used(rt));
+    let (start, before) = (Instant::now(rt).expect(rt, "a clock"), processor_time(rt));
     for _ in rt.forever() {
         if start.elapsed(rt).expect(rt, "a clock") > Duration::from_millis(AFTER) {
             break;
         }
         yield_now();
     }
-    used(rt).saturating_sub(before)
+    processor_time(rt).saturating_sub(before)
 }
 
 /// Whether a call slept that took so much processor time while another thread spun.
@@ -123,17 +123,17 @@ where
         move || -> Duration
             requires { IsSenderOf line.now sender }
         {
-            let (spun, before) = (spun(rt, is_send), used(rt));
+            let (spun, before) = (spun(rt, is_send), processor_time(rt));
             let _sent = sender.send_blocking(rt, line, 2);
-            let used = used(rt).saturating_sub(before);
+            let used = processor_time(rt).saturating_sub(before);
             spun.unwrap_or(used)
         },
         move || -> Duration
             requires { IsReceiverOf line.now receiver }
         {
-            let (spun, before) = (spun(rt, !is_send), used(rt));
+            let (spun, before) = (spun(rt, !is_send), processor_time(rt));
             let _got = receiver.recv_blocking(rt, line);
-            let used = used(rt).saturating_sub(before);
+            let used = processor_time(rt).saturating_sub(before);
             spun.unwrap_or(used)
         },
     );
