@@ -1,7 +1,7 @@
 -- What an answer of the core says of the channel that it found, and of what it left.
 use Rattle.futures.specs.declared.task.Poll.{Poll}
 use Rattle.futures.specs.declared.task.Poll.TheVariants.{Ready, Pending}
-use Rattle.std.proofs.Common.{◌≡◌, ◌≢◌, ℕ, Bool, true, false, true≢false, List, [], ◌∷◌, slice_get, Option, Some, None, Result, Ok, Err, ◌++◌, is_ok, is_some, drop, sym, refl, ap, ◌∙◌, subst, ◌⊎◌, inl, inr, arith}
+use Rattle.std.proofs.Common.{◌≡◌, ◌≢◌, ℕ, Bool, true, false, true≢false, List, [], ◌∷◌, slice_get, Option, Some, None, Result, Ok, Err, IfOk, OnOk, OnErr, is_ok, is_some, drop, sym, refl, ap, ◌∙◌, subst, ◌⊎◌, inl, inr, arith}
 use Rattle.std.proofs.lemmas.Bool.{leb-true}
 use Rattle.channel_core.specs.Queue.{is_full}
 use Rattle.channel_model.specs.declared.errors.OutOfMemory.{OutOfMemory}
@@ -11,12 +11,13 @@ use Rattle.channel_model.specs.declared.errors.TrySendError.TheVariants.{Full, C
 use Rattle.channel_model.specs.declared.errors.TryRecvError.{TryRecvError}
 use Rattle.channel_model.specs.declared.errors.TryRecvError.TheVariants.{Closed}
 use Rattle.channel_model.specs.Errors.{message_of, was_closed, was_ended}
-use Rattle.channel_model.specs.Tables.{OnReady, OnWait, send_error, try_send_answer, force_send_answer, try_recv_answer, send_poll, recv_poll, next_poll}
-use Rattle.channel_core.specs.Channel.{Channel, is_channel_full, sending, forcing, taking, polled_send, polled_receive, polled_stream, SendWaits, RecvWaits, NextWaits, GrowsWithMessages, oldest}
+use Rattle.channel_model.specs.Tables.{OnReady, OnWait, send_error, try_send_answer, force_send_answer, try_recv_answer, send_poll, recv_poll}
+use Rattle.channel_core.specs.Channel.{Channel, is_channel_full, sending, forcing, polled_send, SendWaits, GrowsWithMessages, oldest}
 use Rattle.channel_core.specs.Tickets.{left}
-use Rattle.channel_model.specs.declared.errors.RecvError.{RecvError}
-use Rattle.ruled_channel.specs.State.{State, state_of, IsClosed, HasPlace, IsFull, IsUnbounded, IsEmpty, holding, joined}
+use Rattle.ruled_channel.specs.State.{State, state_of, IsClosed, HasPlace, IsFull, IsUnbounded, joined}
 use Rattle.ruled_channel.specs.Passes.{LearnedOf, Refuses, WantsToSend}
+use Rattle.ruled_channel.specs.Guarded.{forced, forced_of}
+use Rattle.ruled_channel.proofs.Steps.{Goes}
 
 abbrev pub err_of : {A E : Type 0} → E → Result A E → E
 err_of d (Ok a) = d
@@ -76,56 +77,20 @@ module _ {T W : Type 0} (core now : Channel T W) where
         go false true was filled e is = absurd (true≢false (ap is_ready e))
         go false false was filled e is = ((was, filled), ap state_of is)
 
-  -- a poll of a receive that gives a message takes the oldest one
-  pub polled_taken : (m : T) (ticket : Option ℕ) (poll : Poll (Result T RecvError)) (answer : Result T RecvError)
-      → poll ≡ Ready answer → answer ≡ Ok m → poll ≡ recv_poll (oldest core) core.closed
-      → OnReady {E = OutOfMemory} (Ok poll) (now ≡ (polled_receive ticket core).channel)
-      → (core.messages ≡ m ∷ drop 1 core.messages) × (state_of now ≡ holding (drop 1 core.messages) (state_of core))
-  polled_taken m ticket poll answer ready gives reply after =
-      let is : poll ≡ Ready (Ok m) = ready ∙ ap Ready gives in
-      go core.messages core.closed refl (sym is ∙ reply)
-      (subst (λ p. OnReady {E = OutOfMemory} (Ok p) (now ≡ (polled_receive ticket core).channel)) is after) where
-        go : (messages : List T) (closed : Bool) → core.messages ≡ messages → Ready (Ok m) ≡ recv_poll (slice_get messages 0) closed
-            → now ≡ (taking messages (record core { receives = left ticket core.receives })).channel
-            → (core.messages ≡ m ∷ drop 1 core.messages) × (state_of now ≡ holding (drop 1 core.messages) (state_of core))
-        go [] true held e is = absurd (true≢false (ap went e))
-        go [] false held e is = absurd (true≢false (ap is_ready e))
-        go (x ∷ xs) closed held e is = (
-          held ∙ ap (λ z. z ∷ xs) (sym (ap (λ (p : Poll (Result T RecvError)). ok_of m (ready_of (Ok m) p)) e)) ∙ ap (λ l. m ∷ drop 1 l) (sym held),
-          ap state_of is,
-        )
-
-  -- of a stream, likewise
-  pub polled_next : (m : T) (ticket : Option ℕ) (poll : Poll (Option T)) (next : Option T)
-      → poll ≡ Ready next → next ≡ Some m → poll ≡ next_poll (oldest core) core.closed
-      → OnReady {E = OutOfMemory} (Ok poll) (now ≡ (polled_stream ticket core).channel)
-      → (core.messages ≡ m ∷ drop 1 core.messages) × (state_of now ≡ holding (drop 1 core.messages) (state_of core))
-  polled_next m ticket poll next ready gives reply after =
-      let is : poll ≡ Ready (Some m) = ready ∙ ap Ready gives in
-      go core.messages core.closed refl (sym is ∙ reply)
-      (subst (λ p. OnReady {E = OutOfMemory} (Ok p) (now ≡ (polled_stream ticket core).channel)) is after) where
-        go : (messages : List T) (closed : Bool) → core.messages ≡ messages → Ready (Some m) ≡ next_poll (slice_get messages 0) closed
-            → now ≡ (taking messages (record core { streams = left ticket core.streams })).channel
-            → (core.messages ≡ m ∷ drop 1 core.messages) × (state_of now ≡ holding (drop 1 core.messages) (state_of core))
-        go [] true held e is = absurd (true≢false (ap (λ (p : Poll (Option T)). is_some (ready_of None p)) e))
-        go [] false held e is = absurd (true≢false (ap is_ready e))
-        go (x ∷ xs) closed held e is = (
-          held ∙ ap (λ z. z ∷ xs) (sym (ap (λ (p : Poll (Option T)). some_of m (ready_of None p)) e)) ∙ ap (λ l. m ∷ drop 1 l) (sym held),
-          ap state_of is,
-        )
-
   -- one that waits changes its list alone
   pub send_waits : (m : T) (ticket ticket' : Option ℕ) (Fact : W → Type 0) (poll : Poll (Result (Unit {0}) (SendError T))) → poll ≡ Pending
       → OnWait {E = OutOfMemory} (Ok poll) ((w : W) × Fact w × SendWaits (Some m) ticket core w ticket' now) → state_of now ≡ state_of core
   send_waits m ticket ticket' Fact poll is waits = ap state_of ((subst (λ p. OnWait {E = OutOfMemory} (Ok p) ((w : W) × Fact w × SendWaits (Some m) ticket core w ticket' now)) is waits).2.0)
 
-  pub recv_waits : (ticket ticket' : Option ℕ) (Fact : W → Type 0) (poll : Poll (Result T RecvError)) → poll ≡ Pending
-      → OnWait {E = OutOfMemory} (Ok poll) ((w : W) × Fact w × RecvWaits ticket core w ticket' now) → state_of now ≡ state_of core
-  recv_waits ticket ticket' Fact poll is waits = ap state_of ((subst (λ p. OnWait {E = OutOfMemory} (Ok p) ((w : W) × Fact w × RecvWaits ticket core w ticket' now)) is waits).2.0)
-
-  pub next_waits : (ticket ticket' : Option ℕ) (Fact : W → Type 0) (poll : Poll (Option T)) → poll ≡ Pending
-      → OnWait {E = OutOfMemory} (Ok poll) ((w : W) × Fact w × NextWaits ticket core w ticket' now) → state_of now ≡ state_of core
-  next_waits ticket ticket' Fact poll is waits = ap state_of ((subst (λ p. OnWait {E = OutOfMemory} (Ok p) ((w : W) × Fact w × NextWaits ticket core w ticket' now)) is waits).2.0)
+  -- so a poll puts its message last, or changes nothing
+  pub polled_offers : {E : Type 0} (m : T) (ticket ticket' : Option ℕ) (Fact : W → Type 0) (result : Result (Poll (Result (Unit {0}) (SendError T))) E)
+      → IfOk result (λ poll. poll ≡ send_poll (Some m) core.closed (is_channel_full core)) → OnReady result (now ≡ (polled_send (Some m) ticket core).channel)
+      → OnWait result ((w : W) × Fact w × SendWaits (Some m) ticket core w ticket' now) → OnErr result (now ≡ core)
+      → (HasPlace (state_of core) × (state_of now ≡ joined m (state_of core))) ⊎ (state_of now ≡ state_of core)
+  polled_offers m ticket ticket' Fact (Ok (Ready (Ok sent))) reply after waits unchanged = inl (polled_sent m ticket (Ready (Ok tt)) (Ok tt) refl refl reply after)
+  polled_offers m ticket ticket' Fact (Ok (Ready (Err error))) reply after waits unchanged = inr (polled_closed m ticket (Ready (Err error)) (Err error) error refl refl reply after)
+  polled_offers m ticket ticket' Fact (Ok Pending) reply after waits unchanged = inr (ap state_of waits.2.0)
+  polled_offers m ticket ticket' Fact (Err error) reply after waits unchanged = inr (ap state_of unchanged)
 
 -- a channel that is full and holds no message is one for none
 no_room : {T : Type 0} (capacity : Option ℕ) (messages : List T) → is_full capacity messages ≡ true → slice_get messages 0 ≡ None → capacity ≡ Some 0
@@ -148,45 +113,48 @@ module _ {T W : Type 0} (found now : Channel T W) where
   sent_ok m false true was filled e is = absurd (true≢false (ap is_ok e))
   sent_ok m false false was filled e is = ((was, filled), ap state_of is)
 
-  pub forced_err : (m : T) (error : SendError T) (closed full : Bool) (oldest : Option T) → Err error ≡ force_send_answer closed full oldest m
-      → now ≡ (forcing closed full m found).channel → (closed ≡ true) × (error.0 ≡ m) × (now ≡ found)
-  forced_err m error true full oldest e is = (refl, ap (λ (r : SendError T). r.0) (ap (err_of error) e), is)
-  forced_err m error false true oldest e is = absurd (true≢false (sym (ap is_ok e)))
-  forced_err m error false false oldest e is = absurd (true≢false (sym (ap is_ok e)))
+  -- so it puts its message last, or changes nothing
+  pub sent_offers : {E : Type 0} (m : T) (result : Result (Result (Unit {0}) (TrySendError T)) E)
+      → IfOk result (λ answer. answer ≡ try_send_answer found.closed (is_channel_full found) m) → OnOk result (now ≡ (sending found.closed (is_channel_full found) m found).channel)
+      → OnErr result (now ≡ found) → (HasPlace (state_of found) × (state_of now ≡ joined m (state_of found))) ⊎ (state_of now ≡ state_of found)
+  sent_offers m (Ok (Ok sent)) reply after unchanged = inl (sent_ok m found.closed (is_channel_full found) refl refl reply after)
+  sent_offers m (Ok (Err error)) reply after unchanged = inr (ap state_of (sent_err m error found.closed (is_channel_full found) reply after))
+  sent_offers m (Err error) reply after unchanged = inr (ap state_of unchanged)
 
-  -- a forced send that displaces nothing found room, since a full channel holds a message
-  pub forced_none : (m : T) (closed full : Bool) → found.closed ≡ closed → is_channel_full found ≡ full → found.capacity ≢ Some 0
-      → Ok None ≡ force_send_answer closed full (oldest found) m → now ≡ (forcing closed full m found).channel
-      → HasPlace (state_of found) × (state_of now ≡ joined m (state_of found))
-  forced_none m true full was filled some e is = absurd (true≢false (ap is_ok e))
-  forced_none m false true was filled some e is = absurd (some (no_room found.capacity found.messages filled (sym (ap (λ r. ok_of None r) e))))
-  forced_none m false false was filled some e is = ((was, filled), ap state_of is)
+  -- a forced one puts its message last, for the oldest one if the channel is full, or changes nothing
+  pub forced_goes : {E : Type 0} (m : T) (result : Result (Result (Option T) (SendError T)) E) → found.capacity ≢ Some 0
+      → OnOk result (now ≡ (forcing found.closed (is_channel_full found) m found).channel) → OnErr result (now ≡ found) → OnErr result (GrowsWithMessages found)
+      → Goes found now m found.closed (is_channel_full found)
+  forced_goes m result some after unchanged wanted = go found.closed (is_channel_full found) refl refl result after unchanged wanted where
+    go : {E : Type 0} (closed full : Bool) → found.closed ≡ closed → is_channel_full found ≡ full → (result : Result (Result (Option T) (SendError T)) E)
+        → OnOk result (now ≡ (forcing closed full m found).channel) → OnErr result (now ≡ found) → OnErr result (GrowsWithMessages found) → Goes found now m closed full
+    go true full was filled (Ok answer) is unchanged wanted = ap state_of is
+    go true full was filled (Err error) after unchanged wanted = ap state_of unchanged
+    go false true was filled (Ok answer) is unchanged wanted = displaces found.messages refl where
+      displaces : (messages : List T) → found.messages ≡ messages → Goes found now m false true
+      displaces [] none = absurd (some (no_room found.capacity found.messages filled (ap (λ l. slice_get l 0) none)))
+      displaces (x ∷ xs) held = (x, held ∙ ap (λ l. x ∷ drop 1 l) (sym held), ap state_of is)
+    go false true was filled (Err error) after unchanged wanted = absurd (true≢false (sym filled ∙ ap (λ capacity. is_full capacity found.messages) wanted.1))
+    go false false was filled (Ok answer) is unchanged wanted = inl ((was, filled), ap state_of is)
+    go false false was filled (Err error) after unchanged wanted = inr (ap state_of unchanged)
 
-  -- one that displaces d found a full and open channel
-  pub forced_some : (d m : T) (closed full : Bool) (messages : List T) → found.closed ≡ closed → is_channel_full found ≡ full → found.messages ≡ messages
-      → Ok (Some d) ≡ force_send_answer closed full (slice_get messages 0) m → now ≡ (forcing closed full m found).channel
-      → IsFull (state_of found) × (found.messages ≡ d ∷ drop 1 found.messages)
-      × (state_of now ≡ holding (drop 1 found.messages ++ m ∷ []) (state_of found))
-  forced_some d m true full messages was filled held e is = absurd (true≢false (ap is_ok e))
-  forced_some d m false true [] was filled held e is = absurd (true≢false (ap (λ r. is_some (ok_of None r)) e))
-  forced_some d m false true (x ∷ xs) was filled held e is = ((was, filled), held ∙ ap (λ z. z ∷ xs) (sym (ap (λ r. some_of x (ok_of None r)) e)) ∙ ap (λ l. d ∷ drop 1 l) (sym held), ap state_of is)
-  forced_some d m false false messages was filled held e is = absurd (true≢false (ap (λ r. is_some (ok_of None r)) e))
+-- and tells by its answer what the rule says of it
+pub forced_tells : {T V W E : Type 0} (core found now : Channel T W) (shows : core ≡ found) (then : V → Option T → T → V → Type 0) (fact : V → State T → Type 0)
+    (v v' w : V) (same : v' ≡ v) (m : T) (result : Result (Result (Option T) (SendError T)) E) → forced then fact v' found now w
+    → IfOk result (λ answer. answer ≡ force_send_answer core.closed (is_channel_full core) (oldest core) m)
+    → OnOk result (now ≡ (forcing core.closed (is_channel_full core) m core).channel)
+    → IfOk result (λ answer. IfOk answer (λ displaced. then v displaced m w))
+forced_tells core found now shows then fact v v' w same m (Err error) told reply after = tt
+forced_tells {T} {V} {W} core found now shows then fact v v' w same m (Ok answer) told reply after =
+    subst (λ (a : Result (Option T) (SendError T)). IfOk a (λ displaced. then v displaced m w)) (sym reply) (go core.closed (is_channel_full core) here after) where
+      here : forced then fact v core now w
+      here = subst (λ (z : V × Channel T W). forced then fact z.0 z.1 now w) (λ i. (same i, sym shows i)) told
 
-  -- a receive takes the oldest message
-  pub taken_ok : (m : T) (closed : Bool) (messages : List T) → found.messages ≡ messages → Ok m ≡ try_recv_answer (slice_get messages 0) closed
-      → now ≡ (taking messages found).channel
-      → (found.messages ≡ m ∷ drop 1 found.messages) × (state_of now ≡ holding (drop 1 found.messages) (state_of found))
-  taken_ok m true [] held e is = absurd (true≢false (ap is_ok e))
-  taken_ok m false [] held e is = absurd (true≢false (ap is_ok e))
-  taken_ok m closed (x ∷ xs) held e is = (held ∙ ap (λ z. z ∷ xs) (sym (ap (ok_of m) e)) ∙ ap (λ l. m ∷ drop 1 l) (sym held), ap state_of is)
-
-  -- one that gets nothing changes nothing
-  pub taken_err : (error : TryRecvError) (closed : Bool) (messages : List T)
-      → Err error ≡ try_recv_answer (slice_get messages 0) closed → now ≡ (taking messages found).channel
-      → (messages ≡ []) × (closed ≡ was_ended error) × (now ≡ found)
-  taken_err error true [] e is = (refl, sym (ap (λ r. was_ended (err_of error r)) e), is)
-  taken_err error false [] e is = (refl, sym (ap (λ r. was_ended (err_of error r)) e), is)
-  taken_err error closed (x ∷ xs) e is = absurd (true≢false (sym (ap is_ok e)))
+      go : (closed full : Bool) → forced_of then fact v core now closed full w → now ≡ (forcing closed full m core).channel
+          → IfOk (force_send_answer closed full (oldest core) m) (λ displaced. then v displaced m w)
+      go true full t is = tt
+      go false true t is = t m (ap (λ (c : Channel T W). c.messages) is)
+      go false false t is = t.0 m (ap (λ (c : Channel T W). c.messages) is)
 
 -- a send that can't go on finds a full and open channel
 send_pending : {T : Type 0} (m : T) (closed full : Bool) → send_poll (Some m) closed full ≡ Pending → (closed ≡ false) × (full ≡ true)
@@ -194,21 +162,11 @@ send_pending m true full e = absurd (true≢false (ap is_ready e))
 send_pending m false true e = (refl, refl)
 send_pending m false false e = absurd (true≢false (ap is_ready e))
 
--- a receive that can't go on finds an empty and open one
-recv_pending : {T : Type 0} (messages : List T) (closed : Bool) → recv_poll (slice_get messages 0) closed ≡ Pending → (closed ≡ false) × (messages ≡ [])
-recv_pending [] true e = absurd (true≢false (ap is_ready e))
-recv_pending [] false e = (refl, refl)
-recv_pending (x ∷ xs) closed e = absurd (true≢false (ap is_ready e))
-
 module _ {T W V : Type 0} (core found : Channel T W) (shows : core ≡ found) (fact : V → State T → Type 0) (v v' : V) (same : v' ≡ v)
     (told : fact v' (state_of found)) where
   -- what is learned of the channel that was found
   pub learned : (WasSuch : State T → Type 0) → WasSuch (state_of core) → LearnedOf WasSuch (fact v)
   learned WasSuch was = (state_of core, was, subst (λ (z : V × Channel T W). fact z.0 (state_of z.1)) (λ i. (same i, sym shows i)) told)
-
-  -- of one in which a receive can't go on
-  pub learned_empty : recv_poll (oldest core) core.closed ≡ Pending → LearnedOf IsEmpty (fact v)
-  learned_empty waits = learned IsEmpty (recv_pending core.messages core.closed waits)
 
   -- of one in which a send can't go on
   pub learned_full : (m : T) → send_poll (Some m) core.closed (is_channel_full core) ≡ Pending → LearnedOf IsFull (fact v)

@@ -1,5 +1,6 @@
 pub mod Answered
 pub mod Steps
+mod Taken
 pub mod Same
 pub mod Views
 pub mod Dropped

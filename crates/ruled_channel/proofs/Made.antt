@@ -1,5 +1,5 @@
 -- What a pass has made, by what the core's call says of the channel and of its bell.
-use Rattle.std.proofs.Common.{◌≡◌, ℕ, ◌<◌, ◌==◌, Bool, true, false, true≢false, List, [], ◌∷◌, ◌++◌, length, slice_get, Option, Some, None, IsSome, IsSomeAnd, OnErr, Result, Ok, Err, arith, refl, sym, ap, ◌∙◌, subst}
+use Rattle.std.proofs.Common.{◌≡◌, ℕ, ◌<◌, ◌==◌, Bool, true, false, true≢false, List, [], ◌∷◌, ◌++◌, length, slice_get, Option, Some, None, IsSome, IsSomeAnd, OnErr, OnOk, Result, Ok, Err, arith, refl, sym, ap, ◌∙◌, subst}
 use Rattle.futures.specs.declared.task.Poll.{Poll}
 use Rattle.futures.specs.declared.task.Poll.TheVariants.{Ready, Pending}
 use Rattle.std.proofs.lemmas.Bool.{eqb-true}
@@ -20,6 +20,11 @@ use Rattle.ruled_channel.proofs.Logging.{Logs, logs}
 pub on_err : {A E X Y Z : Type 0} (result : Result A E) → (X → Y → Z) → OnErr result X → OnErr result Y → OnErr result Z
 on_err (Ok given) f x y = tt
 on_err (Err error) f x y = f x y
+
+-- and of one that didn't
+pub on_ok : {A E X Y Z : Type 0} (result : Result A E) → (X → Y → Z) → OnOk result X → OnOk result Y → OnOk result Z
+on_ok (Ok given) f x y = f x y
+on_ok (Err error) f x y = tt
 
 pub is_some_of : {A : Type 0} (a : Option A) (P : A → Type 0) → IsSomeAnd a P → IsSome a
 is_some_of None P holds = absurd holds

@@ -1,8 +1,16 @@
 -- The rule over what the lock guards, and what each step tells of that. No public clause cites this
 -- module.
-use Rattle.std.specs.Prelude.{◌≡◌, ◌≢◌, Bool, not, ◌&&◌, List, [], ◌∷◌, ◌++◌, Option, Some}
-use Rattle.channel_core.specs.Channel.{Channel}
+use Rattle.std.specs.Prelude.{◌≡◌, ◌≢◌, Bool, true, false, not, ◌&&◌, List, [], ◌∷◌, ◌++◌, drop, Option, Some, None}
+use Rattle.channel_core.specs.Channel.{Channel, is_channel_full, oldest}
 use Rattle.ruled_channel.specs.State.{State, state_of}
+
+module _ {T V : Type 0} where
+  -- what a receive tells, by the oldest message and by whether the channel is closed
+  abbrev pub taken_of : (V → T → V → Type 0) → (V → V → Type 0) → (V → State T → Type 0) → V
+      → State T → Option T → Bool → V → Type 0
+  taken_of then at_end fact v state (Some m) closed w = then v m w
+  taken_of then at_end fact v state None true w = at_end v w
+  taken_of then at_end fact v state None false w = (w ≡ v) × fact v state
 
 module _ {T V W : Type 0} where
   -- the caller's rule holds of what the channel is, and there is a place for one message
@@ -10,19 +18,6 @@ module _ {T V W : Type 0} where
   within holds channel views = (channel.capacity ≢ Some 0) × holds (state_of channel) views
 
   -- of the view, of the channel that was found, of what was made of it, and of the view after
-
-  abbrev pub pushed : (V → T → V → Type 0) → V → Channel T W → Channel T W → V → Type 0
-  pushed then v found now w =
-      (m : T) → now.messages ≡ found.messages ++ m ∷ [] → then v m w
-
-  abbrev pub displaced : (V → Option T → T → V → Type 0) → V → Channel T W → Channel T W → V
-      → Type 0
-  displaced then v found now w =
-      (d m : T) (rest : List T) → found.messages ≡ d ∷ rest → now.messages ≡ rest ++ m ∷ []
-      → then v (Some d) m w
-
-  abbrev pub popped : (V → T → V → Type 0) → V → Channel T W → Channel T W → V → Type 0
-  popped then v found now w = (m : T) → found.messages ≡ m ∷ now.messages → then v m w
 
   abbrev pub turned : (V → V → Type 0) → V → Channel T W → Channel T W → V → Type 0
   turned then v found now w = then v w
@@ -32,3 +27,29 @@ module _ {T V W : Type 0} where
 
   abbrev pub kept : (V → State T → Type 0) → V → Channel T W → Channel T W → V → Type 0
   kept fact v found now w = (w ≡ v) × fact v (state_of found)
+
+  -- a send, whether its message joined or not
+  abbrev pub offered : (V → T → V → Type 0) → (V → State T → Type 0) → V → Channel T W → Channel T W
+      → V → Type 0
+  offered then fact v found now w =
+      ((m : T) → now.messages ≡ found.messages ++ m ∷ [] → then v m w)
+      × (now.messages ≡ found.messages → kept fact v found now w)
+
+  -- a send that is forced: a full and open channel gives its oldest message for the new one
+  abbrev pub forced_of : (V → Option T → T → V → Type 0) → (V → State T → Type 0) → V → Channel T W
+      → Channel T W → Bool → Bool → V → Type 0
+  forced_of then fact v found now true full w = kept fact v found now w
+  forced_of then fact v found now false true w =
+      (m : T) → now.messages ≡ drop 1 found.messages ++ m ∷ [] → then v (oldest found) m w
+  forced_of then fact v found now false false w =
+      offered (λ u m x. then u None m x) fact v found now w
+
+  abbrev pub forced : (V → Option T → T → V → Type 0) → (V → State T → Type 0) → V → Channel T W
+      → Channel T W → V → Type 0
+  forced then fact v found now w =
+      forced_of then fact v found now found.closed (is_channel_full found) w
+
+  abbrev pub taken : (V → T → V → Type 0) → (V → V → Type 0) → (V → State T → Type 0) → V
+      → Channel T W → Channel T W → V → Type 0
+  taken then at_end fact v found now w =
+      taken_of then at_end fact v (state_of found) (oldest found) found.closed w

@@ -85,24 +85,23 @@ impl<T: Drop, V, P: Protocol<T, V>> RuledChannel<T, V, P> {
         }
         let (mut ticket, mut sleeper) = (None, Sleeper::new());
         for _turn in rt.forever() {
-            let (place, waiter) = (&mut ticket, &mut sleeper);
-            match self.send_or_wait_as::<M, L, R, _, _>(rt, pass, waiting, place, waiter, &mut ()) {
-                Ok(Ok(())) => {
-                    Ticket::destroy_none(ticket);
-                    return Ok(Ok(()));
+            let (t, waiter, cx) = (&mut ticket, &mut sleeper, &mut ());
+            let polled = self.send_or_wait_as::<M, L, R, _, _>(rt, pass, waiting, t, waiter, cx);
+            let sent = match polled {
+                Ok(Ok(())) => Ok(Ok(())),
+                Ok(Err(TrySendError::Closed(back))) => Ok(Err(SendError(back))),
+                Ok(Err(TrySendError::Full(back))) => {
+                    waiting = back;
+                    sleeper.sleep(rt);
+                    continue;
                 }
-                Ok(Err(TrySendError::Closed(back))) => {
-                    Ticket::destroy_none(ticket);
-                    return Ok(Err(SendError(back)));
-                }
-                Ok(Err(TrySendError::Full(back))) => waiting = back,
                 Err(refused) => {
                     self.give_up_send(rt, pass, &mut ticket);
-                    Ticket::destroy_none(ticket);
-                    return Err(refused);
+                    Err(refused)
                 }
-            }
-            sleeper.sleep(rt);
+            };
+            Ticket::destroy_none(ticket);
+            return sent;
         }
         unreachable!()
     }
@@ -145,19 +144,21 @@ impl<T: Drop, V, P: Protocol<T, V>> RuledChannel<T, V, P> {
         }
         let (mut ticket, mut sleeper) = (None, Sleeper::new());
         for _turn in rt.forever() {
-            let (place, waiter) = (&mut ticket, &mut sleeper);
-            match self.recv_or_wait_as::<M, E, R, _, _>(rt, pass, place, waiter, &mut ()) {
-                Ok(Poll::Ready(answer)) => {
-                    Ticket::destroy_none(ticket);
-                    return Ok(answer);
+            let (t, waiter, cx) = (&mut ticket, &mut sleeper, &mut ());
+            let polled = self.recv_or_wait_as::<M, E, R, _, _>(rt, pass, t, waiter, cx);
+            let received = match polled {
+                Ok(Poll::Ready(answer)) => Ok(answer),
+                Ok(Poll::Pending) => {
+                    sleeper.sleep(rt);
+                    continue;
                 }
-                Ok(Poll::Pending) => sleeper.sleep(rt),
                 Err(OutOfMemory) => {
                     self.give_up_recv(rt, pass, &mut ticket);
-                    Ticket::destroy_none(ticket);
-                    return Err(OutOfMemory);
+                    Err(OutOfMemory)
                 }
-            }
+            };
+            Ticket::destroy_none(ticket);
+            return received;
         }
         unreachable!()
     }

@@ -6,8 +6,7 @@ ghost use Rattle.ruled_channel.specs.Rule.{Sends, Forces, Receives, Ends, Closes
 
 use crate::mark::Mark;
 use crate::outcomes::{
-    AtEnd, Displaced, Ended, Forced, HasClosed, Kept, Lesson, Popped, Pushed, Received, Sent, Shut,
-    Undisplaced,
+    AtEnd, Forced, HasClosed, Imposed, Kept, Lesson, Offered, Received, Sent, Shut, Taken,
 };
 use crate::pass::Pass;
 use crate::protocol::{Protocol, Ruled};
@@ -220,20 +219,9 @@ impl<T: Drop, V, P: Protocol<T, V>> RuledChannel<T, V, P> {
         let held = self.mutex.lock(rt, &mut pass.lock);
         let mut bell = Ringer::new(rt);
         let core = pass.lock.value_mut(&self.mutex, &held);
-        match core.try_send(message, &mut bell) {
-            Ok(Ok(())) => {
-                self.give_back::<Pushed<M>, R>(pass, held, bell);
-                Ok(Ok(()))
-            }
-            Ok(Err(refused)) => {
-                self.give_back::<Kept<L>, R>(pass, held, bell);
-                Ok(Err(refused))
-            }
-            Err(error) => {
-                self.give_back::<Kept<L>, R>(pass, held, bell);
-                Err(error)
-            }
-        }
+        let answer = core.try_send(message, &mut bell);
+        self.give_back::<Offered<M, L>, R>(pass, held, bell);
+        answer
     }
 
     /// Puts a message last in an open channel. A full one gives its oldest message for it; a closed
@@ -276,24 +264,9 @@ impl<T: Drop, V, P: Protocol<T, V>> RuledChannel<T, V, P> {
         let held = self.mutex.lock(rt, &mut pass.lock);
         let mut bell = Ringer::new(rt);
         let core = pass.lock.value_mut(&self.mutex, &held);
-        match core.force_send(message, &mut bell) {
-            Ok(Ok(None)) => {
-                self.give_back::<Pushed<Undisplaced<M>>, R>(pass, held, bell);
-                Ok(Ok(None))
-            }
-            Ok(Ok(Some(displaced))) => {
-                self.give_back::<Displaced<M>, R>(pass, held, bell);
-                Ok(Ok(Some(displaced)))
-            }
-            Ok(Err(error)) => {
-                self.give_back::<Kept<L>, R>(pass, held, bell);
-                Ok(Err(error))
-            }
-            Err(error) => {
-                self.give_back::<Kept<L>, R>(pass, held, bell);
-                Err(error)
-            }
-        }
+        let answer = core.force_send(message, &mut bell);
+        self.give_back::<Imposed<M, L>, R>(pass, held, bell);
+        answer
     }
 
     /// Takes the oldest message. If none is held, the error says whether the channel is closed.
@@ -327,20 +300,9 @@ impl<T: Drop, V, P: Protocol<T, V>> RuledChannel<T, V, P> {
         let held = self.mutex.lock(rt, &mut pass.lock);
         let mut bell = Ringer::new(rt);
         let core = pass.lock.value_mut(&self.mutex, &held);
-        match core.try_recv(&mut bell) {
-            Ok(message) => {
-                self.give_back::<Popped<M>, R>(pass, held, bell);
-                Ok(message)
-            }
-            Err(TryRecvError::Empty) => {
-                self.give_back::<Kept<L>, R>(pass, held, bell);
-                Err(TryRecvError::Empty)
-            }
-            Err(TryRecvError::Closed) => {
-                self.give_back::<Ended<E>, R>(pass, held, bell);
-                Err(TryRecvError::Closed)
-            }
-        }
+        let answer = core.try_recv(&mut bell);
+        self.give_back::<Taken<M, E, L>, R>(pass, held, bell);
+        answer
     }
 
     /// Closes the channel, and answers whether it was open. What it holds can be received still, and

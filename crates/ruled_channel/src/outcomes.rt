@@ -1,7 +1,7 @@
 //! What each answer tells.
-ghost use Rattle.std.specs.Prelude.{◌≡◌, Bool, Option, None};
+ghost use Rattle.std.specs.Prelude.{◌≡◌, Bool, Option};
 ghost use Rattle.ruled_channel.specs.State.{State};
-ghost use Rattle.ruled_channel.specs.Guarded.{pushed, displaced, popped, turned, shut, kept};
+ghost use Rattle.ruled_channel.specs.Guarded.{forced, offered, taken, turned, shut, kept};
 
 use crate::mark::Mark;
 use crate::protocol::Protocol;
@@ -131,45 +131,33 @@ impl<T, V, P: Protocol<T, V>> Lesson<T, V> for Seen<P> {
 
 // The same, of what the lock guards.
 
-pub(crate) struct Pushed<M> {
-    sent: PhantomData<M>,
+pub(crate) struct Offered<M, L> {
+    tells: PhantomData<(M, L)>,
 }
 
-impl<T, V, M: Sent<T, V>> Outcome<Core<T, Mark>, V> for Pushed<M> {
-    ghost then = { pushed M.then };
+impl<T, V, M: Sent<T, V>, L: Lesson<T, V>> Outcome<Core<T, Mark>, V> for Offered<M, L> {
+    ghost then = { offered M.then L.fact };
 }
 
-/// A send that displaced nothing.
-pub(crate) struct Undisplaced<M> {
-    forced: PhantomData<M>,
+pub(crate) struct Imposed<M, L> {
+    tells: PhantomData<(M, L)>,
 }
 
-impl<T, V, M: Forced<T, V>> Sent<T, V> for Undisplaced<M> {
-    ghost then = { λ v m w. M.then v None m w };
+impl<T, V, M: Forced<T, V>, L: Lesson<T, V>> Outcome<Core<T, Mark>, V> for Imposed<M, L> {
+    ghost then = { forced M.then L.fact };
 }
 
-pub(crate) struct Displaced<M> {
-    forced: PhantomData<M>,
+pub(crate) struct Taken<M, E, L> {
+    tells: PhantomData<(M, E, L)>,
 }
 
-impl<T, V, M: Forced<T, V>> Outcome<Core<T, Mark>, V> for Displaced<M> {
-    ghost then = { displaced M.then };
-}
-
-pub(crate) struct Popped<M> {
-    received: PhantomData<M>,
-}
-
-impl<T, V, M: Received<T, V>> Outcome<Core<T, Mark>, V> for Popped<M> {
-    ghost then = { popped M.then };
-}
-
-pub(crate) struct Ended<E> {
-    end: PhantomData<E>,
-}
-
-impl<T, V, E: AtEnd<V>> Outcome<Core<T, Mark>, V> for Ended<E> {
-    ghost then = { turned E.then };
+impl<T, V, M, E, L> Outcome<Core<T, Mark>, V> for Taken<M, E, L>
+where
+    M: Received<T, V>,
+    E: AtEnd<V>,
+    L: Lesson<T, V>,
+{
+    ghost then = { taken M.then E.then L.fact };
 }
 
 pub(crate) struct Turned<M> {

@@ -18,7 +18,7 @@ ghost use Rattle.ruled_channel.specs.Steps.{HasMade, closed_left, found, made, r
 
 use crate::channel::RuledChannel;
 use crate::mark::{Mark, Waiter};
-use crate::outcomes::{AtEnd, Ended, Kept, Lesson, Popped, Pushed, Received, Seen, Sent};
+use crate::outcomes::{AtEnd, Kept, Lesson, Offered, Received, Seen, Sent, Taken};
 use crate::pass::Pass;
 use crate::protocol::Protocol;
 use crate::ringer::Ringer;
@@ -281,23 +281,13 @@ impl<T: Drop, V, P: Protocol<T, V>> RuledChannel<T, V, P> {
         let mut bell = Ringer::new(rt);
         let mut waiting = Some(message);
         let core = pass.lock.value_mut(&self.mutex, &held);
-        match self.poll_send(core, &mut waiting, ticket, waiter, cx, &mut bell) {
-            Ok(Poll::Ready(Ok(()))) => {
-                self.give_back::<Pushed<M>, R>(pass, held, bell);
-                Ok(Ok(()))
-            }
-            Ok(Poll::Ready(Err(SendError(back)))) => {
-                self.give_back::<Kept<L>, R>(pass, held, bell);
-                Ok(Err(TrySendError::Closed(back)))
-            }
-            Ok(Poll::Pending) => {
-                self.give_back::<Kept<L>, R>(pass, held, bell);
-                Ok(Err(TrySendError::Full(waiting.unwrap())))
-            }
-            Err(OutOfMemory) => {
-                self.give_back::<Kept<L>, R>(pass, held, bell);
-                Err(NoMemory(waiting.unwrap()))
-            }
+        let sent = self.poll_send(core, &mut waiting, ticket, waiter, cx, &mut bell);
+        self.give_back::<Offered<M, L>, R>(pass, held, bell);
+        match sent {
+            Ok(Poll::Ready(Ok(()))) => Ok(Ok(())),
+            Ok(Poll::Ready(Err(SendError(back)))) => Ok(Err(TrySendError::Closed(back))),
+            Ok(Poll::Pending) => Ok(Err(TrySendError::Full(waiting.unwrap()))),
+            Err(OutOfMemory) => Err(NoMemory(waiting.unwrap())),
         }
     }
 
@@ -362,24 +352,9 @@ impl<T: Drop, V, P: Protocol<T, V>> RuledChannel<T, V, P> {
         let held = self.mutex.lock(rt, &mut pass.lock);
         let mut bell = Ringer::new(rt);
         let core = pass.lock.value_mut(&self.mutex, &held);
-        match self.poll_recv(core, ticket, waiter, cx, &mut bell) {
-            Ok(Poll::Ready(Ok(message))) => {
-                self.give_back::<Popped<M>, R>(pass, held, bell);
-                Ok(Poll::Ready(Ok(message)))
-            }
-            Ok(Poll::Ready(Err(RecvError))) => {
-                self.give_back::<Ended<E>, R>(pass, held, bell);
-                Ok(Poll::Ready(Err(RecvError)))
-            }
-            Ok(Poll::Pending) => {
-                self.give_back::<Kept<Seen<P>>, R>(pass, held, bell);
-                Ok(Poll::Pending)
-            }
-            Err(OutOfMemory) => {
-                self.give_back::<Kept<Seen<P>>, R>(pass, held, bell);
-                Err(OutOfMemory)
-            }
-        }
+        let polled = self.poll_recv(core, ticket, waiter, cx, &mut bell);
+        self.give_back::<Taken<M, E, Seen<P>>, R>(pass, held, bell);
+        polled
     }
 
     /// Polls a stream, which waits in the list of streams if the channel is empty and open.
@@ -441,24 +416,9 @@ impl<T: Drop, V, P: Protocol<T, V>> RuledChannel<T, V, P> {
         let held = self.mutex.lock(rt, &mut pass.lock);
         let mut bell = Ringer::new(rt);
         let core = pass.lock.value_mut(&self.mutex, &held);
-        match self.poll_next(core, ticket, waiter, cx, &mut bell) {
-            Ok(Poll::Ready(Some(message))) => {
-                self.give_back::<Popped<M>, R>(pass, held, bell);
-                Ok(Poll::Ready(Some(message)))
-            }
-            Ok(Poll::Ready(None)) => {
-                self.give_back::<Ended<E>, R>(pass, held, bell);
-                Ok(Poll::Ready(None))
-            }
-            Ok(Poll::Pending) => {
-                self.give_back::<Kept<Seen<P>>, R>(pass, held, bell);
-                Ok(Poll::Pending)
-            }
-            Err(OutOfMemory) => {
-                self.give_back::<Kept<Seen<P>>, R>(pass, held, bell);
-                Err(OutOfMemory)
-            }
-        }
+        let polled = self.poll_next(core, ticket, waiter, cx, &mut bell);
+        self.give_back::<Taken<M, E, Seen<P>>, R>(pass, held, bell);
+        polled
     }
 
     /// Polls a wait for the last receiver: it is ready if none is left, and else leaves a mark in

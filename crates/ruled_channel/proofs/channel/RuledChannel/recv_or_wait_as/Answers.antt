@@ -1,24 +1,21 @@
-use Rattle.std.proofs.Common.{rules, Ok, ◌≡◌, ap, ◌∙◌}
+use Rattle.std.proofs.Common.{ap, refl, ◌∙◌}
 use Rattle.ruled_mutex.specs.Passes.{found}
+use Rattle.channel_model.specs.Tables.{recv_poll}
+use Rattle.channel_core.specs.Channel.{polled_receive}
 use Rattle.ruled_channel.specs.State.{state_of}
-use Rattle.ruled_channel.specs.Rule.{Fitted}
 use Rattle.ruled_channel.specs.Passes.{key_of}
-use Rattle.ruled_channel.proofs.Answered.{polled_taken, recv_waits}
-use Rattle.ruled_channel.proofs.Steps.{keeps, pops}
+use Rattle.ruled_channel.specs.Rule.{Fitted}
+use Rattle.ruled_channel.proofs.Made.{on_err}
+use Rattle.ruled_channel.proofs.Steps.{takes}
+use Rattle.ruled_channel.proofs.Taken.{polled_drops, recv_pending, taking_drops}
 use Rattle.ruled_channel.proofs.channel.RuledChannel.recv_or_wait_as.Goals as goal
-
-pub give_back-requires-in-Ok-Pending-clause-rule : goal.give_back-requires-in-Ok-Pending-clause-rule
-give_back-requires-in-Ok-Pending-clause-rule g c = let same = c.lock-held.ensures.same in let shows = c.value_mut-core.ensures.value ∙ c.lock-held.ensures.held.1 in
-    let here = c.in-Ok-Pending in
-    keeps c.value_mut-core.result.now c.poll_recv.new.core (found c.lock-held.result) (g.P.Protocol.holds (key_of c.args.self.now)) _ _ _ _ same.0.1 same.1 shows (Fitted g.P.Protocol.holds) (recv_waits c.value_mut-core.result.now c.poll_recv.new.core _ _ _ _ here.field-0-is here.ensures.waits) (λ state views h at. (_, _, views, h, at))
-
-pub give_back-requires-in-Err-clause-rule : goal.give_back-requires-in-Err-clause-rule
-give_back-requires-in-Err-clause-rule g c = let same = c.lock-held.ensures.same in let shows = c.value_mut-core.ensures.value ∙ c.lock-held.ensures.held.1 in
-    keeps c.value_mut-core.result.now c.poll_recv.new.core (found c.lock-held.result) (g.P.Protocol.holds (key_of c.args.self.now)) _ _ _ _ same.0.1 same.1 shows (Fitted g.P.Protocol.holds)
-    (ap state_of c.in-Err.ensures.unchanged.0) (λ state views h at. (_, _, views, h, at))
 
 pub give_back-requires-clause-rule : goal.give_back-requires-clause-rule
 give_back-requires-clause-rule g c = let same = c.lock-held.ensures.same in let shows = c.value_mut-core.ensures.value ∙ c.lock-held.ensures.held.1 in
-    let here = c.in-Ok-Ready-Ok in let gives : here.field-0-0 ≡ Ok here.message = search rules in
-    let takes = polled_taken c.value_mut-core.result.now c.poll_recv.new.core here.message _ here.field-0 here.field-0-0 here.field-0-is gives here.ensures.reply here.ensures.after in
-    pops c.value_mut-core.result.now c.poll_recv.new.core (found c.lock-held.result) (g.P.Protocol.holds (key_of c.args.self.now)) _ _ _ _ same.0.1 same.1 shows here.message _ g.M.Received.then takes.0 takes.1 c.requires.rule
+    let core = c.value_mut-core.result.now in let polled = c.poll_recv-polled.ensures in
+    takes core c.poll_recv-polled.new.core (found c.lock-held.result) (g.P.Protocol.holds (key_of c.args.self.now)) _ _ _ _ same.0.1 same.1 shows
+    g.M.Received.then g.E.AtEnd.then (Fitted g.P.Protocol.holds)
+    (polled_drops core c.poll_recv-polled.new.core recv_poll (polled_receive c.args.ticket.now) _ _ c.poll_recv-polled.result (recv_pending core.messages core.closed)
+    (taking_drops _ core.messages refl) (λ w waits. ap state_of waits.0) polled.reply polled.after polled.waits
+    (on_err c.poll_recv-polled.result (λ same _. same.0) polled.unchanged polled.unchanged) polled.wanted)
+    c.requires.rule c.requires.end (λ state views h at. (_, _, views, h, at))
