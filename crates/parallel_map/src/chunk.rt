@@ -1,5 +1,5 @@
 //! The answers for a chunk of inputs.
-ghost use Rattle.std.specs.Prelude.{◌≡◌, ◌+◌, ◌^◌, ◌<◌, IfOk, length, map};
+ghost use Rattle.std.specs.Prelude.{◌≡◌, ◌+◌, ◌^◌, ◌<◌, IfOk, length, map, vec_capacity, vec_len};
 
 use crate::job::{Gate, Job};
 use std::alloc::{AllocError, Global};
@@ -11,6 +11,8 @@ pub struct Chunk<B> {
     from: usize,
     // What the job answered to them, in their order.
     answers: Vec<B>,
+    // There is room for them, and for no others.
+    ghost room: { vec_capacity answers ≡ vec_len answers },
 }
 
 /// The first place and the answers.
