@@ -77,6 +77,8 @@ class Refused(Exception):
 class Tried:
     """A change, as it is tried, and what is found out."""
 
+    # What the prover is told beside what to prove.
+    flags = ()
     # Its function in the sources.
     call = None
     # The clause that must refuse it, if it is known.
@@ -334,7 +336,8 @@ class Trial:
         kept = copy.with_name(f'kept-{copy.name}')
         kept.mkdir(exist_ok=True)
         only = [word for it in changes for word in ('--only', it.tried)]
-        words = [*self.crate.words(['--jobs', '1', *only], keeps=False), '--incremental', str(kept)]
+        flags = ['--jobs', '1', *changes[0].flags, *only]
+        words = [*self.crate.words(flags, keeps=False), '--incremental', str(kept)]
         if (copy / SOURCE).exists():
             # It says what it is linked with.
             words = [f'{it}c' if it == f'{self.crate.name}=' else it for it in words]
