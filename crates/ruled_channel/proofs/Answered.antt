@@ -16,7 +16,7 @@ use Rattle.channel_core.specs.Channel.{Channel, is_channel_full, sending, forcin
 use Rattle.channel_core.specs.Tickets.{left}
 use Rattle.ruled_channel.specs.State.{State, state_of, IsClosed, HasPlace, IsFull, IsUnbounded, joined}
 use Rattle.ruled_channel.specs.Passes.{LearnedOf, Refuses, WantsToSend}
-use Rattle.ruled_channel.specs.Guarded.{forced, forced_of}
+use Rattle.ruled_channel.specs.Guarded.{forced_or_kept, forced_of}
 use Rattle.ruled_channel.proofs.Steps.{Goes}
 
 abbrev pub err_of : {A E : Type 0} → E → Result A E → E
@@ -140,15 +140,15 @@ module _ {T W : Type 0} (found now : Channel T W) where
 
 -- and tells by its answer what the rule says of it
 pub forced_tells : {T V W E : Type 0} (core found now : Channel T W) (shows : core ≡ found) (then : V → Option T → T → V → Type 0) (fact : V → State T → Type 0)
-    (v v' w : V) (same : v' ≡ v) (m : T) (result : Result (Result (Option T) (SendError T)) E) → forced then fact v' found now w
+    (v v' w : V) (same : v' ≡ v) (m : T) (result : Result (Result (Option T) (SendError T)) E) → forced_or_kept then fact v' found now w
     → IfOk result (λ answer. answer ≡ force_send_answer core.closed (is_channel_full core) (oldest core) m)
     → OnOk result (now ≡ (forcing core.closed (is_channel_full core) m core).channel)
     → IfOk result (λ answer. IfOk answer (λ displaced. then v displaced m w))
 forced_tells core found now shows then fact v v' w same m (Err error) told reply after = tt
 forced_tells {T} {V} {W} core found now shows then fact v v' w same m (Ok answer) told reply after =
     subst (λ (a : Result (Option T) (SendError T)). IfOk a (λ displaced. then v displaced m w)) (sym reply) (go core.closed (is_channel_full core) here after) where
-      here : forced then fact v core now w
-      here = subst (λ (z : V × Channel T W). forced then fact z.0 z.1 now w) (λ i. (same i, sym shows i)) told
+      here : forced_or_kept then fact v core now w
+      here = subst (λ (z : V × Channel T W). forced_or_kept then fact z.0 z.1 now w) (λ i. (same i, sym shows i)) told
 
       go : (closed full : Bool) → forced_of then fact v core now closed full w → now ≡ (forcing closed full m core).channel
           → IfOk (force_send_answer closed full (oldest core) m) (λ displaced. then v displaced m w)

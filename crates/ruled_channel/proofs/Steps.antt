@@ -7,7 +7,7 @@ use Rattle.crossbeam_utils.specs.Register.{TurnsAt}
 use Rattle.channel_core.specs.Channel.{Channel, is_channel_full}
 use Rattle.ruled_channel.specs.State.{State, state_of, HasPlace, IsFull, IsOver, holding, joined}
 use Rattle.ruled_channel.specs.Rule.{Allows, Sends, Forces, Receives, Ends, Shuts, Learns}
-use Rattle.ruled_channel.specs.Guarded.{within, offered, forced, forced_of, taken, taken_of, shut, kept}
+use Rattle.ruled_channel.specs.Guarded.{within, sent_or_kept, forced_or_kept, forced_of, received_or_kept, received_of, shut, kept}
 
 -- a step of a pass is one of the same pass, at the same view and value
 pub moved : {X V : Type 0} (holds : X → List V → Type 0) (then : V → X → X → V → Type 0) (pass pass' : ℕ) (v v' : V) (x x' y : X)
@@ -61,7 +61,7 @@ module _ {T V W : Type 0} (core now found : Channel T W) (holds : State T → Li
 
   -- a send puts its message last, or changes nothing
   offers_as : (m : T) (then : V → T → V → Type 0) (fact : V → State T → Type 0) (tells : V → Channel T W → Channel T W → V → Type 0)
-      → ((w : V) → offered then fact v core now w → tells v core now w)
+      → ((w : V) → sent_or_kept then fact v core now w → tells v core now w)
       → (HasPlace (state_of core) × (state_of now ≡ joined m (state_of core))) ⊎ (state_of now ≡ state_of core)
       → Sends holds pass v m then → Learns holds pass v (fact v) → TurnsAt (within holds) pass' v' found now tells
   offers_as m then fact tells says (inl goes) sends learns = turns HasPlace (joined m) (λ _ w. then v m w) tells goes.0 goes.1 refl
@@ -74,46 +74,46 @@ module _ {T V W : Type 0} (core now found : Channel T W) (holds : State T → Li
 
   pub offers : (m : T) (then : V → T → V → Type 0) (fact : V → State T → Type 0)
       → (HasPlace (state_of core) × (state_of now ≡ joined m (state_of core))) ⊎ (state_of now ≡ state_of core)
-      → Sends holds pass v m then → Learns holds pass v (fact v) → TurnsAt (within holds) pass' v' found now (offered then fact)
-  offers m then fact = offers_as m then fact (offered then fact) (λ w told. told)
+      → Sends holds pass v m then → Learns holds pass v (fact v) → TurnsAt (within holds) pass' v' found now (sent_or_kept then fact)
+  offers m then fact = offers_as m then fact (sent_or_kept then fact) (λ w told. told)
 
   -- a forced send
   pub forces : (m : T) (then : V → Option T → T → V → Type 0) (fact : V → State T → Type 0)
       → (core.capacity ≢ Some 0 → Goes core now m core.closed (is_channel_full core))
-      → Forces holds pass v m then → Learns holds pass v (fact v) → TurnsAt (within holds) pass' v' found now (forced then fact)
-  forces m then fact goes asked learns = placed (forced then fact) λ place. go core.closed (is_channel_full core) refl refl (goes place) where
-    are : (closed full : Bool) (w : V) → core.closed ≡ closed → is_channel_full core ≡ full → forced_of then fact v core now closed full w → forced then fact v core now w
+      → Forces holds pass v m then → Learns holds pass v (fact v) → TurnsAt (within holds) pass' v' found now (forced_or_kept then fact)
+  forces m then fact goes asked learns = placed (forced_or_kept then fact) λ place. go core.closed (is_channel_full core) refl refl (goes place) where
+    are : (closed full : Bool) (w : V) → core.closed ≡ closed → is_channel_full core ≡ full → forced_of then fact v core now closed full w → forced_or_kept then fact v core now w
     are closed full w was filled told = subst (λ (z : Bool × Bool). forced_of then fact v core now z.0 z.1 w) (λ i. (sym was i, sym filled i)) told
 
-    go : (closed full : Bool) → core.closed ≡ closed → is_channel_full core ≡ full → Goes core now m closed full → TurnsAt (within holds) pass' v' found now (forced then fact)
-    go true full was filled is = turns (λ _. Unit {0}) (λ s. s) (λ s w. (w ≡ v) × fact v s) (forced then fact) tt is refl
+    go : (closed full : Bool) → core.closed ≡ closed → is_channel_full core ≡ full → Goes core now m closed full → TurnsAt (within holds) pass' v' found now (forced_or_kept then fact)
+    go true full was filled is = turns (λ _. Unit {0}) (λ s. s) (λ s w. (w ≡ v) × fact v s) (forced_or_kept then fact) tt is refl
         (λ w told. are true full w was filled told) (stays fact learns)
     go false true was filled is = turns (λ s. IsFull s × (s.messages ≡ is.0 ∷ drop 1 core.messages)) (holding (drop 1 core.messages ++ m ∷ [])) (λ _ w. then v (Some is.0) m w)
-        (forced then fact) ((was, filled), is.1) is.2 refl
+        (forced_or_kept then fact) ((was, filled), is.1) is.2 refl
         (λ w told. are false true w was filled λ m' joins. subst (λ (z : Option T × T). then v z.0 z.1 w)
         (λ i. (
           ap (λ l. slice_get l 0) (sym is.1) i,
           last_same (drop 1 core.messages) m m' (sym (ap (λ (s : State T). s.messages) is.2) ∙ joins) i,
         )) told) (asked.1 is.0 (drop 1 core.messages))
-    go false false was filled is = offers_as m (λ u x w. then u None x w) fact (forced then fact) (λ w told. are false false w was filled told) is asked.0 learns
+    go false false was filled is = offers_as m (λ u x w. then u None x w) fact (forced_or_kept then fact) (λ w told. are false false w was filled told) is asked.0 learns
 
   -- a receive takes the oldest message, or finds none
   pub takes : (then : V → T → V → Type 0) (at_end : V → V → Type 0) (fact : V → State T → Type 0)
       → state_of now ≡ holding (drop 1 core.messages) (state_of core)
       → Receives holds pass v then → Ends holds pass v at_end → Learns holds pass v (fact v)
-      → TurnsAt (within holds) pass' v' found now (taken then at_end fact)
+      → TurnsAt (within holds) pass' v' found now (received_or_kept then at_end fact)
   takes then at_end fact is receives ends learns = go core.messages core.closed refl refl where
     tells : List T → Bool → V → Type 0
-    tells messages closed w = taken_of then at_end fact v (state_of core) (slice_get messages 0) closed w
+    tells messages closed w = received_of then at_end fact v (state_of core) (slice_get messages 0) closed w
 
     go : (messages : List T) (closed : Bool) → core.messages ≡ messages → core.closed ≡ closed
-        → TurnsAt (within holds) pass' v' found now (taken then at_end fact)
-    go (m ∷ rest) closed held was = turns (λ s. s.messages ≡ m ∷ rest) (holding rest) (λ _ w. then v m w) (taken then at_end fact) held
+        → TurnsAt (within holds) pass' v' found now (received_or_kept then at_end fact)
+    go (m ∷ rest) closed held was = turns (λ s. s.messages ≡ m ∷ rest) (holding rest) (λ _ w. then v m w) (received_or_kept then at_end fact) held
         (is ∙ ap (λ l. holding (drop 1 l) (state_of core)) held) refl (λ w told. subst (λ l. tells l core.closed w) (sym held) told) (receives m rest)
-    go [] true held was = turns IsOver (λ s. s) (λ _ w. at_end v w) (taken then at_end fact) (was, held)
+    go [] true held was = turns IsOver (λ s. s) (λ _ w. at_end v w) (received_or_kept then at_end fact) (was, held)
         (is ∙ ap (λ l. holding l (state_of core)) (ap (drop 1) held ∙ sym held)) refl
         (λ w told. subst (λ (z : List T × Bool). tells z.0 z.1 w) (λ i. (sym held i, sym was i)) told) ends
-    go [] false held was = turns (λ _. Unit {0}) (λ s. s) (λ s w. (w ≡ v) × fact v s) (taken then at_end fact) tt
+    go [] false held was = turns (λ _. Unit {0}) (λ s. s) (λ s w. (w ≡ v) × fact v s) (received_or_kept then at_end fact) tt
         (is ∙ ap (λ l. holding l (state_of core)) (ap (drop 1) held ∙ sym held)) refl
         (λ w told. subst (λ (z : List T × Bool). tells z.0 z.1 w) (λ i. (sym held i, sym was i)) told)
         (stays fact learns)

@@ -6,11 +6,11 @@ use Rattle.ruled_channel.specs.State.{State, state_of}
 
 module _ {T V : Type 0} where
   -- what a receive tells, by the oldest message and by whether the channel is closed
-  abbrev pub taken_of : (V → T → V → Type 0) → (V → V → Type 0) → (V → State T → Type 0) → V
+  abbrev pub received_of : (V → T → V → Type 0) → (V → V → Type 0) → (V → State T → Type 0) → V
       → State T → Option T → Bool → V → Type 0
-  taken_of then at_end fact v state (Some m) closed w = then v m w
-  taken_of then at_end fact v state None true w = at_end v w
-  taken_of then at_end fact v state None false w = (w ≡ v) × fact v state
+  received_of then at_end fact v state (Some m) closed w = then v m w
+  received_of then at_end fact v state None true w = at_end v w
+  received_of then at_end fact v state None false w = (w ≡ v) × fact v state
 
 module _ {T V W : Type 0} where
   -- the caller's rule holds of what the channel is, and there is a place for one message
@@ -29,9 +29,9 @@ module _ {T V W : Type 0} where
   kept fact v found now w = (w ≡ v) × fact v (state_of found)
 
   -- a send, whether its message joined or not
-  abbrev pub offered : (V → T → V → Type 0) → (V → State T → Type 0) → V → Channel T W → Channel T W
+  abbrev pub sent_or_kept : (V → T → V → Type 0) → (V → State T → Type 0) → V → Channel T W → Channel T W
       → V → Type 0
-  offered then fact v found now w =
+  sent_or_kept then fact v found now w =
       ((m : T) → now.messages ≡ found.messages ++ m ∷ [] → then v m w)
       × (now.messages ≡ found.messages → kept fact v found now w)
 
@@ -42,14 +42,14 @@ module _ {T V W : Type 0} where
   forced_of then fact v found now false true w =
       (m : T) → now.messages ≡ drop 1 found.messages ++ m ∷ [] → then v (oldest found) m w
   forced_of then fact v found now false false w =
-      offered (λ u m x. then u None m x) fact v found now w
+      sent_or_kept (λ u m x. then u None m x) fact v found now w
 
-  abbrev pub forced : (V → Option T → T → V → Type 0) → (V → State T → Type 0) → V → Channel T W
+  abbrev pub forced_or_kept : (V → Option T → T → V → Type 0) → (V → State T → Type 0) → V → Channel T W
       → Channel T W → V → Type 0
-  forced then fact v found now w =
+  forced_or_kept then fact v found now w =
       forced_of then fact v found now found.closed (is_channel_full found) w
 
-  abbrev pub taken : (V → T → V → Type 0) → (V → V → Type 0) → (V → State T → Type 0) → V
+  abbrev pub received_or_kept : (V → T → V → Type 0) → (V → V → Type 0) → (V → State T → Type 0) → V
       → Channel T W → Channel T W → V → Type 0
-  taken then at_end fact v found now w =
-      taken_of then at_end fact v (state_of found) (oldest found) found.closed w
+  received_or_kept then at_end fact v found now w =
+      received_of then at_end fact v (state_of found) (oldest found) found.closed w

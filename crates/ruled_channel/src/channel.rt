@@ -6,7 +6,8 @@ ghost use Rattle.ruled_channel.specs.Rule.{Sends, Forces, Receives, Ends, Closes
 
 use crate::mark::Mark;
 use crate::outcomes::{
-    AtEnd, Forced, HasClosed, Imposed, Kept, Lesson, Offered, Received, Sent, Shut, Taken,
+    AtEnd, Forced, ForcedOrKept, HasClosed, Kept, Lesson, Received, ReceivedOrKept, Sent,
+    SentOrKept, Shut,
 };
 use crate::pass::Pass;
 use crate::protocol::{Protocol, Ruled};
@@ -220,7 +221,7 @@ impl<T: Drop, V, P: Protocol<T, V>> RuledChannel<T, V, P> {
         let mut bell = Ringer::new(rt);
         let core = pass.lock.value_mut(&self.mutex, &held);
         let answer = core.try_send(message, &mut bell);
-        self.give_back::<Offered<M, L>, R>(pass, held, bell);
+        self.give_back::<SentOrKept<M, L>, R>(pass, held, bell);
         answer
     }
 
@@ -265,7 +266,7 @@ impl<T: Drop, V, P: Protocol<T, V>> RuledChannel<T, V, P> {
         let mut bell = Ringer::new(rt);
         let core = pass.lock.value_mut(&self.mutex, &held);
         let answer = core.force_send(message, &mut bell);
-        self.give_back::<Imposed<M, L>, R>(pass, held, bell);
+        self.give_back::<ForcedOrKept<M, L>, R>(pass, held, bell);
         answer
     }
 
@@ -301,7 +302,7 @@ impl<T: Drop, V, P: Protocol<T, V>> RuledChannel<T, V, P> {
         let mut bell = Ringer::new(rt);
         let core = pass.lock.value_mut(&self.mutex, &held);
         let answer = core.try_recv(&mut bell);
-        self.give_back::<Taken<M, E, L>, R>(pass, held, bell);
+        self.give_back::<ReceivedOrKept<M, E, L>, R>(pass, held, bell);
         answer
     }
 

@@ -1,7 +1,7 @@
 //! What each answer tells.
 ghost use Rattle.std.specs.Prelude.{◌≡◌, Bool, Option};
 ghost use Rattle.ruled_channel.specs.State.{State};
-ghost use Rattle.ruled_channel.specs.Guarded.{forced, offered, taken, turned, shut, kept};
+ghost use Rattle.ruled_channel.specs.Guarded.{forced_or_kept, received_or_kept, sent_or_kept, turned, shut, kept};
 
 use crate::mark::Mark;
 use crate::protocol::Protocol;
@@ -131,33 +131,33 @@ impl<T, V, P: Protocol<T, V>> Lesson<T, V> for Seen<P> {
 
 // The same, of what the lock guards.
 
-pub(crate) struct Offered<M, L> {
+pub(crate) struct SentOrKept<M, L> {
     tells: PhantomData<(M, L)>,
 }
 
-impl<T, V, M: Sent<T, V>, L: Lesson<T, V>> Outcome<Core<T, Mark>, V> for Offered<M, L> {
-    ghost then = { offered M.then L.fact };
+impl<T, V, M: Sent<T, V>, L: Lesson<T, V>> Outcome<Core<T, Mark>, V> for SentOrKept<M, L> {
+    ghost then = { sent_or_kept M.then L.fact };
 }
 
-pub(crate) struct Imposed<M, L> {
+pub(crate) struct ForcedOrKept<M, L> {
     tells: PhantomData<(M, L)>,
 }
 
-impl<T, V, M: Forced<T, V>, L: Lesson<T, V>> Outcome<Core<T, Mark>, V> for Imposed<M, L> {
-    ghost then = { forced M.then L.fact };
+impl<T, V, M: Forced<T, V>, L: Lesson<T, V>> Outcome<Core<T, Mark>, V> for ForcedOrKept<M, L> {
+    ghost then = { forced_or_kept M.then L.fact };
 }
 
-pub(crate) struct Taken<M, E, L> {
+pub(crate) struct ReceivedOrKept<M, E, L> {
     tells: PhantomData<(M, E, L)>,
 }
 
-impl<T, V, M, E, L> Outcome<Core<T, Mark>, V> for Taken<M, E, L>
+impl<T, V, M, E, L> Outcome<Core<T, Mark>, V> for ReceivedOrKept<M, E, L>
 where
     M: Received<T, V>,
     E: AtEnd<V>,
     L: Lesson<T, V>,
 {
-    ghost then = { taken M.then E.then L.fact };
+    ghost then = { received_or_kept M.then E.then L.fact };
 }
 
 pub(crate) struct Turned<M> {

@@ -18,7 +18,7 @@ ghost use Rattle.ruled_channel.specs.Steps.{HasMade, closed_left, found, made, r
 
 use crate::channel::RuledChannel;
 use crate::mark::{Mark, Waiter};
-use crate::outcomes::{AtEnd, Kept, Lesson, Offered, Received, Seen, Sent, Taken};
+use crate::outcomes::{AtEnd, Kept, Lesson, Received, ReceivedOrKept, Seen, Sent, SentOrKept};
 use crate::pass::Pass;
 use crate::protocol::Protocol;
 use crate::ringer::Ringer;
@@ -282,7 +282,7 @@ impl<T: Drop, V, P: Protocol<T, V>> RuledChannel<T, V, P> {
         let mut waiting = Some(message);
         let core = pass.lock.value_mut(&self.mutex, &held);
         let sent = self.poll_send(core, &mut waiting, ticket, waiter, cx, &mut bell);
-        self.give_back::<Offered<M, L>, R>(pass, held, bell);
+        self.give_back::<SentOrKept<M, L>, R>(pass, held, bell);
         match sent {
             Ok(Poll::Ready(Ok(()))) => Ok(Ok(())),
             Ok(Poll::Ready(Err(SendError(back)))) => Ok(Err(TrySendError::Closed(back))),
@@ -353,7 +353,7 @@ impl<T: Drop, V, P: Protocol<T, V>> RuledChannel<T, V, P> {
         let mut bell = Ringer::new(rt);
         let core = pass.lock.value_mut(&self.mutex, &held);
         let polled = self.poll_recv(core, ticket, waiter, cx, &mut bell);
-        self.give_back::<Taken<M, E, Seen<P>>, R>(pass, held, bell);
+        self.give_back::<ReceivedOrKept<M, E, Seen<P>>, R>(pass, held, bell);
         polled
     }
 
@@ -417,7 +417,7 @@ impl<T: Drop, V, P: Protocol<T, V>> RuledChannel<T, V, P> {
         let mut bell = Ringer::new(rt);
         let core = pass.lock.value_mut(&self.mutex, &held);
         let polled = self.poll_next(core, ticket, waiter, cx, &mut bell);
-        self.give_back::<Taken<M, E, Seen<P>>, R>(pass, held, bell);
+        self.give_back::<ReceivedOrKept<M, E, Seen<P>>, R>(pass, held, bell);
         polled
     }
 
