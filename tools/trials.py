@@ -77,7 +77,7 @@ class Refused(Exception):
 class Tried:
     """A change, as it is tried, and what is found out."""
 
-    # What the prover is told beside what to prove.
+    # More flags for the prover.
     flags = ()
     # Its function in the sources.
     call = None

@@ -14,8 +14,7 @@ use Rattle.channel_model.specs.Errors.{message_of, was_closed, was_ended}
 use Rattle.channel_model.specs.Tables.{OnReady, OnWait, send_error, try_send_answer, force_send_answer, try_recv_answer, send_poll, recv_poll}
 use Rattle.channel_core.specs.Channel.{Channel, is_channel_full, sending, forcing, polled_send, SendWaits, GrowsWithMessages, oldest}
 use Rattle.channel_core.specs.Tickets.{left}
-use Rattle.ruled_channel.specs.State.{State, state_of, IsClosed, HasPlace, IsFull, IsUnbounded, joined}
-use Rattle.ruled_channel.specs.Passes.{LearnedOf, Refuses, WantsToSend}
+use Rattle.ruled_channel.specs.State.{State, state_of, HasPlace, joined}
 use Rattle.ruled_channel.specs.Guarded.{forced_or_kept, forced_of}
 use Rattle.ruled_channel.proofs.Steps.{Goes}
 
@@ -27,17 +26,9 @@ abbrev pub ok_of : {A E : Type 0} → A → Result A E → A
 ok_of d (Ok a) = a
 ok_of d (Err e) = d
 
-abbrev pub some_of : {A : Type 0} → A → Option A → A
-some_of d (Some a) = a
-some_of d None = d
-
 abbrev pub is_ready : {A : Type 0} → Poll A → Bool
 is_ready (Ready answer) = true
 is_ready Pending = false
-
-abbrev pub ready_of : {A : Type 0} → A → Poll A → A
-ready_of d (Ready answer) = answer
-ready_of d Pending = d
 
 -- whether a poll isn't ready by an error
 abbrev pub went : {A E : Type 0} → Poll (Result A E) → Bool
@@ -76,11 +67,6 @@ module _ {T W : Type 0} (core now : Channel T W) where
         go true full was filled e is = absurd (true≢false (ap went e))
         go false true was filled e is = absurd (true≢false (ap is_ready e))
         go false false was filled e is = ((was, filled), ap state_of is)
-
-  -- one that waits changes its list alone
-  pub send_waits : (m : T) (ticket ticket' : Option ℕ) (Fact : W → Type 0) (poll : Poll (Result (Unit {0}) (SendError T))) → poll ≡ Pending
-      → OnWait {E = OutOfMemory} (Ok poll) ((w : W) × Fact w × SendWaits (Some m) ticket core w ticket' now) → state_of now ≡ state_of core
-  send_waits m ticket ticket' Fact poll is waits = ap state_of ((subst (λ p. OnWait {E = OutOfMemory} (Ok p) ((w : W) × Fact w × SendWaits (Some m) ticket core w ticket' now)) is waits).2.0)
 
   -- so a poll puts its message last, or changes nothing
   pub polled_offers : {E : Type 0} (m : T) (ticket ticket' : Option ℕ) (Fact : W → Type 0) (result : Result (Poll (Result (Unit {0}) (SendError T))) E)
@@ -155,37 +141,6 @@ forced_tells {T} {V} {W} core found now shows then fact v v' w same m (Ok answer
       go true full t is = tt
       go false true t is = t m (ap (λ (c : Channel T W). c.messages) is)
       go false false t is = t.0 m (ap (λ (c : Channel T W). c.messages) is)
-
--- a send that can't go on finds a full and open channel
-send_pending : {T : Type 0} (m : T) (closed full : Bool) → send_poll (Some m) closed full ≡ Pending → (closed ≡ false) × (full ≡ true)
-send_pending m true full e = absurd (true≢false (ap is_ready e))
-send_pending m false true e = (refl, refl)
-send_pending m false false e = absurd (true≢false (ap is_ready e))
-
-module _ {T W V : Type 0} (core found : Channel T W) (shows : core ≡ found) (fact : V → State T → Type 0) (v v' : V) (same : v' ≡ v)
-    (told : fact v' (state_of found)) where
-  -- what is learned of the channel that was found
-  pub learned : (WasSuch : State T → Type 0) → WasSuch (state_of core) → LearnedOf WasSuch (fact v)
-  learned WasSuch was = (state_of core, was, subst (λ (z : V × Channel T W). fact z.0 (state_of z.1)) (λ i. (same i, sym shows i)) told)
-
-  -- of one in which a send can't go on
-  pub learned_full : (m : T) → send_poll (Some m) core.closed (is_channel_full core) ≡ Pending → LearnedOf IsFull (fact v)
-  learned_full m waits = learned IsFull (send_pending m core.closed (is_channel_full core) waits)
-
-  -- of one in which a send wants memory
-  pub wants : (m : T) → GrowsWithMessages core ⊎ (send_poll (Some m) core.closed (is_channel_full core) ≡ Pending) → WantsToSend (fact v)
-  wants m (inl grows) = inl (learned IsUnbounded grows)
-  wants m (inr waits) = inr (learned_full m waits)
-
-  -- a send that is refused says why, by what was learned
-  pub refuses : (m : T) (error : TrySendError T) → Err error ≡ try_send_answer core.closed (is_channel_full core) m
-      → (message_of error ≡ m) × Refuses (fact v) error
-  refuses m error reply = go core.closed (is_channel_full core) refl refl reply where
-    go : (closed full : Bool) → core.closed ≡ closed → is_channel_full core ≡ full → Err error ≡ try_send_answer closed full m
-        → (message_of error ≡ m) × Refuses (fact v) error
-    go true full was filled e = let is = ap (err_of error) e in (ap message_of is, subst (Refuses (fact v)) (sym is) (learned IsClosed was))
-    go false true was filled e = let is = ap (err_of error) e in (ap message_of is, subst (Refuses (fact v)) (sym is) (learned IsFull (was, filled)))
-    go false false was filled e = absurd (true≢false (sym (ap is_ok e)))
 
 -- what a send that doesn't wait answers is the answer of a poll, unless it is full
 module _ {T : Type 0} (m : T) where
