@@ -2,8 +2,6 @@
 
 .PHONY: help kit run tour try test pages examples programs rust rust-scripts clients oldest original check facts bench
 
-PROCESSORS := $(shell nproc)
-
 help:
 	@echo 'make run    proves and builds the channel, and runs trysend'
 	@echo 'make tour   the same of chanrun, on examples/tour.chan'
@@ -39,9 +37,8 @@ try: kit
 	@cd crates/trysend && $(call failing,rt try)
 	@cd crates/program_chanrun && $(call failing,rt try < ../../examples/tour.chan)
 
-test: kit pages
-	rt all test --jobs $(PROCESSORS)
-	$(MAKE) --no-print-directory examples programs rust rust-scripts
+test: kit
+	tools/gate --kept
 
 # What needs no proof.
 pages:

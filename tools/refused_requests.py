@@ -205,8 +205,7 @@ def long_scripts():
 
 def other_rows():
     """The rows that no script has, as the stored run of test_channel names them."""
-    _rows, _random, *names = (CRATES / "test_channel" / "stdout").read_text("utf-8").splitlines()
-    for name in names:
+    for name in (CRATES / "test_channel" / "stdout").read_text("utf-8").splitlines():
         output, is_by_threads = as_lines([name]).encode(), name.startswith(("a map ", "a blocked "))
         yield Row("test_channel", name, output, (name,), is_by_threads=is_by_threads)
 

@@ -10,12 +10,14 @@ use std::sync::{PoisonError, TryLockError};
 
 /// How often a thread looks at a taken lock before it sleeps until it is free.
 #[cfg(not(feature = "parking_lot"))]
-const LOOKS: u32 = 5;
+const LOOKS: u32 = 15;
 
 /// How long it pauses before each look: so long that whoever has the lock can take it many times, and
-/// its cache lines stay where they are.
+/// its cache lines stay where they are, and no longer than that takes to fill or drain 128 places. In
+/// a trial of one thread to one over so many, a message took 105 ns with 300 pauses, and 60 with 80 to
+/// 120; without a bound 42 and 44.
 #[cfg(not(feature = "parking_lot"))]
-const PAUSES: u32 = 300;
+const PAUSES: u32 = 100;
 
 /// A value that one thread at a time can reach.
 ///

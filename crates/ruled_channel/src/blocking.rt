@@ -26,10 +26,11 @@ use std::sync::Wait;
 // no turn for milliseconds. In a trial, eight threads kept four processors busy beside one producer
 // and one consumer at 128 places: a message took 38 microseconds with yields, and 0.5 with pauses.
 // Alone on the machine, both took 0.07.
-const LOOKS: u32 = 40;
+const LOOKS: u32 = 10;
 
-// How many of the processor's pauses are between two looks at the channel.
-const PAUSES: u32 = 20;
+// How many of the processor's pauses are between two looks at the channel. Each look takes the lock,
+// so they are as many as between two looks at the lock: others can go on meanwhile.
+const PAUSES: u32 = 80;
 
 // Lets some time go by between two looks at the channel.
 fn pause_between_looks() {

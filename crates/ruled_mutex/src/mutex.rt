@@ -56,12 +56,17 @@ const LOCKED: u64 = 1;
 const CONTENDED: u64 = 2;
 
 // How often a thread looks at a held lock before it sleeps.
-const LOOKS: u32 = 5;
+const LOOKS: u32 = 12;
 
 // How many of the processor's pauses are before each look: so many that whoever has the lock can
 // take it several times, and its cache lines stay where they are. A thread doesn't yield: if all
 // processors are busy, it may get no turn for milliseconds then.
-const PAUSES: u32 = 150;
+//
+// Between two looks another thread can fill or drain a channel of about a hundred places. After that
+// it can't go on, so a longer pause is time that nobody uses. From one thread to one over 128 places
+// a message took 82 ns with 5 looks of 150 pauses, and 73 with these; without a bound, and with four
+// threads on each side, as long as before.
+const PAUSES: u32 = 80;
 
 fn pause() {
     for _ in 0..PAUSES {

@@ -8,14 +8,14 @@ use std::time::{Duration, Instant};
 const MESSAGES: u32 = 1_000_000;
 const ROUNDS: usize = 7;
 
-/// Takes the lock as the crate does: it looks, pauses up to five times, and then sleeps.
+/// Takes the lock as the crate does: it looks, pauses up to fifteen times, and then sleeps.
 fn take(lock: &Mutex<u64>) {
-    for _look in 0..=5 {
+    for _look in 0..=15 {
         if let Ok(mut count) = lock.try_lock() {
             *count += 1;
             return;
         }
-        (0..300).for_each(|_| hint::spin_loop());
+        (0..100).for_each(|_| hint::spin_loop());
     }
     *lock.lock().expect("nobody panics under the lock") += 1;
 }
