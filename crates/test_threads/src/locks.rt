@@ -8,7 +8,7 @@ use std::sync::atomic::{AtomicU64, Ordering};
 use std::test::*;
 use std::thread::{Threads, join};
 use std::time::{CpuClock, Duration};
-use std::{io, mem, thread};
+use std::{hint, io, mem, thread};
 
 type Mutex = RuledMutex<u64, (), Unruled>;
 
@@ -117,19 +117,22 @@ const LOCKED: u64 = 20_000;
 // How many threads do, and never sleep.
 const BARGING: usize = 3;
 
-// Takes the lock whenever it is free, until the other thread has had it as often as it is to.
-fn barge<R: Wait>(rt: &R, mutex: &Mutex) -> u64 {
+// Takes the lock whenever it is free, until the other thread has had it as often as it is to. It
+// keeps it so long that whoever waits most likely sleeps.
+fn barge<R: Wait>(rt: &R, mutex: &Mutex) {
     for _ in rt.forever() {
         let mut pass = mutex.pass();
         if let Some(held) = mutex.try_lock(&mut pass) {
             let count = *pass.value_mut(mutex, &held);
+            for _ in 0..100 {
+                hint::spin_loop();
+            }
             mutex.unlock_as::<Unruled>(&mut pass, held);
             if count == LOCKED {
-                return count;
+                return;
             }
         }
     }
-    0
 }
 
 // Locks so often, and sleeps in between.
@@ -150,10 +153,7 @@ fn a_sleeper_is_woken_when_another_has_the_lock(rt: HostRuntime) {
         || sleep_and_lock(&rt, &mutex),
         || thread::map_indices(&rt, rt.alloc(), BARGING, &|_: usize| barge(&rt, &mutex)),
     );
-    assert_eq!(rt;
-        barged.expect(&rt, "threads").as_slice(),
-        [LOCKED; BARGING].as_slice()
-    );
+    barged.expect(&rt, "threads");
 }
 
 // How many milliseconds a thread waits for the lock.
