@@ -13,9 +13,9 @@ use std::sync::{PoisonError, TryLockError};
 const LOOKS: u32 = 15;
 
 /// How long it pauses before each look: so long that whoever has the lock can take it many times, and
-/// its cache lines stay where they are, and no longer than that takes to fill or drain 128 places. In
-/// a trial of one thread to one over so many, a message took 105 ns with 300 pauses, and 60 with 80 to
-/// 120; without a bound 42 and 44.
+/// its cache lines stay where they are, and no longer than it takes to fill or drain 128 places. From
+/// one thread to one over so many, a message took 105 ns with 300 pauses, and 60 with 80 to 120;
+/// without a bound 42 and 44.
 #[cfg(not(feature = "parking_lot"))]
 const PAUSES: u32 = 100;
 
