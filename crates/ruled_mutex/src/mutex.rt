@@ -64,7 +64,7 @@ const LOOKS: u32 = 12;
 //
 // Between two looks another thread can fill or drain a channel of about a hundred places. After that
 // it can't go on, so a longer pause is time that nobody uses. From one thread to one over 128 places
-// a message took 82 ns with 5 looks of 150 pauses, and 73 with these; without a bound, and with four
+// a message took 83 ns with 5 looks of 150 pauses, and 72 with these; without a bound, and with four
 // threads on each side, as long as before.
 const PAUSES: u32 = 80;
 
