@@ -12,8 +12,8 @@ use crate::handles::{Receiver, Sender};
 use crate::owned::OwnedOrRef;
 use channel_core::{NoMemory, OutOfMemory, RecvError, SendError, Ticket, TrySendError};
 use futures::Future;
-use futures::task::{Context, Poll};
-use ruled_channel::{Marker, Unruled, Waiter};
+use futures::task::{Context, Poll, Waker};
+use ruled_channel::{Marker, Unruled};
 use std::marker::Model;
 use std::sync::Wait;
 
@@ -40,7 +40,8 @@ pub struct Send<'a, T: Drop, R: Wait + Clone + Drop> {
     sender: OwnedOrRef<'a, Sender<T, R>>,
     message: Option<T>,
     ticket: Option<Ticket>,
-    marker: Marker,
+    // The waker of a finished one that was polled again.
+    waker: Option<Waker>,
 }
 
 /// A future returned by [`Receiver::recv`].
@@ -64,7 +65,6 @@ pub struct Send<'a, T: Drop, R: Wait + Clone + Drop> {
 pub struct Recv<'a, T: Drop, R: Wait + Clone + Drop> {
     receiver: OwnedOrRef<'a, Receiver<T, R>>,
     ticket: Option<Ticket>,
-    marker: Marker,
     finished: bool,
 }
 
@@ -88,7 +88,6 @@ pub struct Recv<'a, T: Drop, R: Wait + Clone + Drop> {
 pub struct Closed<'a, T: Drop, R: Wait + Clone + Drop> {
     sender: OwnedOrRef<'a, Sender<T, R>>,
     ticket: Option<Ticket>,
-    marker: Marker,
     finished: bool,
 }
 
@@ -211,7 +210,7 @@ impl<'a, T: Drop, R: Wait + Clone + Drop> Send<'a, T, R> {
             sender,
             message: Some(msg),
             ticket: None,
-            marker: Marker::new(),
+            waker: None,
         }
     }
 
@@ -220,20 +219,6 @@ impl<'a, T: Drop, R: Wait + Clone + Drop> Send<'a, T, R> {
         ensures { IsTrue result ↔ (self.now.message ≡ None) }
     {
         self.message.is_none()
-    }
-
-    // Registers the task of a finished one, which stays pending.
-    fn rest(&mut self, cx: &mut Context<'_>) -> Result<(), OutOfMemory>
-        ensures kept { self.new ≡ self.old }
-        ensures registered { OnOk result (Covers cx.new (λ source. source ≡ self.old.source)) }
-        ensures keeps { Keeps cx.old cx.new }
-    {
-        let link = &self.sender.get().link;
-        let (channel, _pass) = link.channel();
-        let _mark = self
-            .marker
-            .mark(&link.rt, channel.alloc(), channel.source(), cx)?;
-        Ok(())
     }
 
     /// Withdraws the operation, and gives the message of an unfinished one.
@@ -277,14 +262,14 @@ impl<T: Drop, R: Wait + Clone + Drop> Future for Send<'_, T, R> {
         ensures rests { OnPending result (self.old.message ≡ None → self.new ≡ self.old) }
     {
         let Some(message) = self.message.take() else {
-            return match self.rest(cx) {
-                Ok(()) => Poll::Pending,
-                Err(OutOfMemory) => Poll::Ready(Err(OutOfMemory)),
-            };
+            return cx.register(
+                self.sender.get().link.shared.channel.source(),
+                &mut self.waker,
+            );
         };
         let link = &self.sender.get().link;
         let (channel, mut pass) = link.channel();
-        let (p, t, m) = (&mut pass, &mut self.ticket, &mut self.marker);
+        let (p, t, m) = (&mut pass, &mut self.ticket, &mut Marker);
         match channel.send_or_wait_as::<Unruled, Unruled, _, _, _>(&link.rt, p, message, t, m, cx) {
             Ok(Ok(())) => Poll::Ready(Ok(Ok(()))),
             Ok(Err(TrySendError::Closed(back))) => Poll::Ready(Ok(Err(SendError(back)))),
@@ -307,7 +292,7 @@ impl<T: Drop, R: Wait + Clone + Drop> Drop for Send<'_, T, R> {
             sender,
             message: _,
             ticket,
-            marker: _,
+            waker: _,
         } = self;
         if let Some(ticket) = ticket {
             sender.give_up_send(ticket);
@@ -327,7 +312,6 @@ impl<'a, T: Drop, R: Wait + Clone + Drop> Recv<'a, T, R> {
         Recv {
             receiver,
             ticket: None,
-            marker: Marker::new(),
             finished: false,
         }
     }
@@ -367,7 +351,7 @@ impl<T: Drop, R: Wait + Clone + Drop> Future for Recv<'_, T, R> {
     {
         let link = &self.receiver.get().link;
         let (channel, mut pass) = link.channel();
-        let (p, t, m) = (&mut pass, &mut self.ticket, &mut self.marker);
+        let (p, t, m) = (&mut pass, &mut self.ticket, &mut Marker);
         match channel.recv_or_wait_as::<Unruled, Unruled, _, _, _>(&link.rt, p, t, m, cx) {
             Ok(Poll::Ready(answer)) => {
                 self.finished = true;
@@ -388,7 +372,6 @@ impl<T: Drop, R: Wait + Clone + Drop> Drop for Recv<'_, T, R> {
         let Self {
             receiver,
             ticket,
-            marker: _,
             finished: _,
         } = self;
         if let Some(ticket) = ticket {
@@ -409,7 +392,6 @@ impl<'a, T: Drop, R: Wait + Clone + Drop> Closed<'a, T, R> {
         Closed {
             sender,
             ticket: None,
-            marker: Marker::new(),
             finished: false,
         }
     }
@@ -448,7 +430,7 @@ impl<T: Drop, R: Wait + Clone + Drop> Future for Closed<'_, T, R> {
     {
         let link = &self.sender.get().link;
         let (channel, mut pass) = link.channel();
-        let (p, t, m) = (&mut pass, &mut self.ticket, &mut self.marker);
+        let (p, t, m) = (&mut pass, &mut self.ticket, &mut Marker);
         match channel.closed_or_wait(&link.rt, p, t, m, cx) {
             Ok(Poll::Ready(())) => {
                 self.finished = true;
@@ -468,7 +450,6 @@ impl<T: Drop, R: Wait + Clone + Drop> Drop for Closed<'_, T, R> {
         let Self {
             sender,
             mut ticket,
-            marker: _,
             finished: _,
         } = self;
         if ticket.is_some() {

@@ -8,3 +8,4 @@ pub mod Logging
 pub mod Capacity
 mod Made
 mod Looks
+mod Renewed

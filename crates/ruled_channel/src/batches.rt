@@ -27,7 +27,7 @@ use std::sync::Wait;
 impl<T: Drop> RuledChannel<T, (), Unruled> {
     // Polls a receive of up to `limit` messages. The room for those that are there is asked for
     // first.
-    fn poll_recv_many<C, W: Waiter<C>, R: Wait>(
+    fn poll_recv_many<C, W: Waiter<C>>(
         &self,
         core: &mut Core<T, Mark>,
         into: &mut Vec<T>,
@@ -35,7 +35,7 @@ impl<T: Drop> RuledChannel<T, (), Unruled> {
         ticket: &mut Option<Ticket>,
         waiter: &mut W,
         cx: &mut C,
-        bell: &mut Ringer<'_, R>,
+        bell: &mut Ringer,
     ) -> Result<Poll<usize>, OutOfMemory>
         requires { 0 < limit }
         ensures reply { IfOk result (λ poll. poll ≡ counted_poll (taken_count limit core.old)
@@ -75,7 +75,7 @@ impl<T: Drop> RuledChannel<T, (), Unruled> {
 
     // Polls a send of the messages in `from`, up to `limit` of them, from the front. What isn't
     // sent stays there.
-    fn poll_send_many<C, W: Waiter<C>, R: Wait>(
+    fn poll_send_many<C, W: Waiter<C>>(
         &self,
         core: &mut Core<T, Mark>,
         from: &mut VecDeque<T, Global>,
@@ -83,7 +83,7 @@ impl<T: Drop> RuledChannel<T, (), Unruled> {
         ticket: &mut Option<Ticket>,
         waiter: &mut W,
         cx: &mut C,
-        bell: &mut Ringer<'_, R>,
+        bell: &mut Ringer,
     ) -> Result<Poll<Result<usize, SendError<()>>>, OutOfMemory>
         requires some { 0 < length from.old.items }
         requires limited { 0 < limit }
@@ -140,11 +140,11 @@ impl<T: Drop> RuledChannel<T, (), Unruled> {
 }
 
 // A batch of receives at a bell that keeps a log.
-fn take_round<T: Drop, R: Wait>(
+fn take_round<T: Drop>(
     core: &mut Core<T, Mark>,
     into: &mut Vec<T>,
     limit: usize,
-    bell: &mut Ringer<'_, R>,
+    bell: &mut Ringer,
 ) -> Result<Result<usize, TryRecvError>, OutOfMemory>
     ensures reply { IfOk result (λ answer. answer ≡ counted (taken_count limit core.old)
         (try_recv_answer (oldest core.old) core.old.closed)) }
@@ -162,11 +162,11 @@ fn take_round<T: Drop, R: Wait>(
 }
 
 // A batch of sends at a bell that keeps a log.
-fn send_round<T: Drop, R: Wait>(
+fn send_round<T: Drop>(
     core: &mut Core<T, Mark>,
     from: &mut VecDeque<T, Global>,
     limit: usize,
-    bell: &mut Ringer<'_, R>,
+    bell: &mut Ringer,
 ) -> Result<Result<usize, TrySendError<()>>, OutOfMemory>
     ensures reply { IfOk result (λ answer. answer ≡ counted (moved_count result)
         (try_send_answer core.old.closed (is_channel_full core.old) tt)) }
@@ -188,12 +188,12 @@ fn send_round<T: Drop, R: Wait>(
 
 // Puts a message into room that there is, and up to so many more after it. The answer is how many
 // it put there.
-fn take_behind<T: Drop, R: Wait>(
+fn take_behind<T: Drop>(
     core: &mut Core<T, Mark>,
     into: &mut Vec<T>,
     message: T,
     more: usize,
-    bell: &mut Ringer<'_, R>,
+    bell: &mut Ringer,
 ) -> usize
     requires room { vec_len into.old + 1 + taken_count more core.old ≤ vec_capacity into.old }
     ensures count { result ≡ taken_count more core.old + 1 }
@@ -214,11 +214,11 @@ fn take_behind<T: Drop, R: Wait>(
 }
 
 // Sends up to so many messages more, from the front. The answer is how many it sent.
-fn send_behind<T: Drop, R: Wait>(
+fn send_behind<T: Drop>(
     core: &mut Core<T, Mark>,
     from: &mut VecDeque<T, Global>,
     more: usize,
-    bell: &mut Ringer<'_, R>,
+    bell: &mut Ringer,
 ) -> usize
     ensures limit { result ≤ more }
     ensures within { result ≤ length from.old.items }
@@ -279,10 +279,10 @@ impl<T: Drop> RuledChannel<T, (), Unruled> {
         ensures none { result ≡ Ok (Ok 0) → (limit ≡ 0) ⊎ (from.old.items ≡ []) }
     {
         let held = self.mutex.lock(rt, &mut pass.lock);
-        let mut bell = Ringer::new(rt);
+        let mut bell = Ringer::new();
         let core = pass.lock.value_mut(&self.mutex, &held);
         let sent = send_round(core, from, limit, &mut bell);
-        self.give_back::<Unruled, R>(pass, held, bell);
+        self.give_back::<Unruled>(pass, held, bell);
         sent
     }
 
@@ -322,10 +322,10 @@ impl<T: Drop> RuledChannel<T, (), Unruled> {
             < vec_len into.old + taken_count limit (found pass.new)) }
     {
         let held = self.mutex.lock(rt, &mut pass.lock);
-        let mut bell = Ringer::new(rt);
+        let mut bell = Ringer::new();
         let core = pass.lock.value_mut(&self.mutex, &held);
         let taken = take_round(core, into, limit, &mut bell);
-        self.give_back::<Unruled, R>(pass, held, bell);
+        self.give_back::<Unruled>(pass, held, bell);
         taken
     }
 
@@ -381,10 +381,10 @@ impl<T: Drop> RuledChannel<T, (), Unruled> {
             (is_channel_full (found pass.new)) ≡ Pending)) }
     {
         let held = self.mutex.lock(rt, &mut pass.lock);
-        let mut bell = Ringer::new(rt);
+        let mut bell = Ringer::new();
         let core = pass.lock.value_mut(&self.mutex, &held);
         let polled = self.poll_send_many(core, from, limit, ticket, waiter, cx, &mut bell);
-        self.give_back::<Unruled, R>(pass, held, bell);
+        self.give_back::<Unruled>(pass, held, bell);
         polled
     }
 
@@ -442,10 +442,10 @@ impl<T: Drop> RuledChannel<T, (), Unruled> {
             ⊎ (vec_capacity into.old < vec_len into.old + taken_count limit (found pass.new))) }
     {
         let held = self.mutex.lock(rt, &mut pass.lock);
-        let mut bell = Ringer::new(rt);
+        let mut bell = Ringer::new();
         let core = pass.lock.value_mut(&self.mutex, &held);
         let polled = self.poll_recv_many(core, into, limit, ticket, waiter, cx, &mut bell);
-        self.give_back::<Unruled, R>(pass, held, bell);
+        self.give_back::<Unruled>(pass, held, bell);
         polled
     }
 }

@@ -218,10 +218,10 @@ impl<T: Drop, V, P: Protocol<T, V>> RuledChannel<T, V, P> {
         ensures unchanged { OnErr result (HasMade unchanged pass.new) }
     {
         let held = self.mutex.lock(rt, &mut pass.lock);
-        let mut bell = Ringer::new(rt);
+        let mut bell = Ringer::new();
         let core = pass.lock.value_mut(&self.mutex, &held);
         let answer = core.try_send(message, &mut bell);
-        self.give_back::<SentOrKept<M, L>, R>(pass, held, bell);
+        self.give_back::<SentOrKept<M, L>>(pass, held, bell);
         answer
     }
 
@@ -263,10 +263,10 @@ impl<T: Drop, V, P: Protocol<T, V>> RuledChannel<T, V, P> {
         ensures unchanged { OnErr result (HasMade unchanged pass.new) }
     {
         let held = self.mutex.lock(rt, &mut pass.lock);
-        let mut bell = Ringer::new(rt);
+        let mut bell = Ringer::new();
         let core = pass.lock.value_mut(&self.mutex, &held);
         let answer = core.force_send(message, &mut bell);
-        self.give_back::<ForcedOrKept<M, L>, R>(pass, held, bell);
+        self.give_back::<ForcedOrKept<M, L>>(pass, held, bell);
         answer
     }
 
@@ -299,10 +299,10 @@ impl<T: Drop, V, P: Protocol<T, V>> RuledChannel<T, V, P> {
         ensures step { HasMade received pass.new }
     {
         let held = self.mutex.lock(rt, &mut pass.lock);
-        let mut bell = Ringer::new(rt);
+        let mut bell = Ringer::new();
         let core = pass.lock.value_mut(&self.mutex, &held);
         let answer = core.try_recv(&mut bell);
-        self.give_back::<ReceivedOrKept<M, E, L>, R>(pass, held, bell);
+        self.give_back::<ReceivedOrKept<M, E, L>>(pass, held, bell);
         answer
     }
 
@@ -323,10 +323,10 @@ impl<T: Drop, V, P: Protocol<T, V>> RuledChannel<T, V, P> {
         ensures step { HasMade closing pass.new }
     {
         let held = self.mutex.lock(rt, &mut pass.lock);
-        let mut bell = Ringer::new(rt);
+        let mut bell = Ringer::new();
         let core = pass.lock.value_mut(&self.mutex, &held);
         let was_open = core.close(&mut bell);
-        self.give_back::<Shut<M>, R>(pass, held, bell);
+        self.give_back::<Shut<M>>(pass, held, bell);
         was_open
     }
 }

@@ -47,9 +47,9 @@ impl<T: Drop, V, P: Protocol<T, V>> RuledChannel<T, V, P> {
         let core = pass.lock.value_mut(&self.mutex, &held);
         let is_counted = core.add_sender();
         if is_counted {
-            self.give_back::<Turned<M>, R>(pass, held, Ringer::new(rt));
+            self.give_back::<Turned<M>>(pass, held, Ringer::new());
         } else {
-            self.give_back::<Kept<Unruled>, R>(pass, held, Ringer::new(rt));
+            self.give_back::<Kept<Unruled>>(pass, held, Ringer::new());
         }
         is_counted
     }
@@ -79,9 +79,9 @@ impl<T: Drop, V, P: Protocol<T, V>> RuledChannel<T, V, P> {
         let core = pass.lock.value_mut(&self.mutex, &held);
         let is_counted = core.add_receiver();
         if is_counted {
-            self.give_back::<Turned<M>, R>(pass, held, Ringer::new(rt));
+            self.give_back::<Turned<M>>(pass, held, Ringer::new());
         } else {
-            self.give_back::<Kept<Unruled>, R>(pass, held, Ringer::new(rt));
+            self.give_back::<Kept<Unruled>>(pass, held, Ringer::new());
         }
         is_counted
     }
@@ -114,9 +114,9 @@ impl<T: Drop, V, P: Protocol<T, V>> RuledChannel<T, V, P> {
         let core = pass.lock.value_mut(&self.mutex, &held);
         let upgrade = core.upgrade_sender();
         match upgrade {
-            Upgrade::Raised => self.give_back::<Turned<M>, R>(pass, held, Ringer::new(rt)),
-            Upgrade::Closed => self.give_back::<Kept<Unruled>, R>(pass, held, Ringer::new(rt)),
-            Upgrade::TooMany => self.give_back::<Kept<Unruled>, R>(pass, held, Ringer::new(rt)),
+            Upgrade::Raised => self.give_back::<Turned<M>>(pass, held, Ringer::new()),
+            Upgrade::Closed => self.give_back::<Kept<Unruled>>(pass, held, Ringer::new()),
+            Upgrade::TooMany => self.give_back::<Kept<Unruled>>(pass, held, Ringer::new()),
         }
         upgrade
     }
@@ -151,9 +151,9 @@ impl<T: Drop, V, P: Protocol<T, V>> RuledChannel<T, V, P> {
         let core = pass.lock.value_mut(&self.mutex, &held);
         let upgrade = core.upgrade_receiver();
         match upgrade {
-            Upgrade::Raised => self.give_back::<Turned<M>, R>(pass, held, Ringer::new(rt)),
-            Upgrade::Closed => self.give_back::<Kept<Unruled>, R>(pass, held, Ringer::new(rt)),
-            Upgrade::TooMany => self.give_back::<Kept<Unruled>, R>(pass, held, Ringer::new(rt)),
+            Upgrade::Raised => self.give_back::<Turned<M>>(pass, held, Ringer::new()),
+            Upgrade::Closed => self.give_back::<Kept<Unruled>>(pass, held, Ringer::new()),
+            Upgrade::TooMany => self.give_back::<Kept<Unruled>>(pass, held, Ringer::new()),
         }
         upgrade
     }
@@ -176,10 +176,10 @@ impl<T: Drop, V, P: Protocol<T, V>> RuledChannel<T, V, P> {
         ensures step { HasMade sender_dropped pass.new }
     {
         let held = self.mutex.lock(rt, &mut pass.lock);
-        let mut bell = Ringer::new(rt);
+        let mut bell = Ringer::new();
         let core = pass.lock.value_mut(&self.mutex, &held);
         let has_closed = core.drop_sender(&mut bell);
-        self.give_back::<Shut<M>, R>(pass, held, bell);
+        self.give_back::<Shut<M>>(pass, held, bell);
         has_closed
     }
 
@@ -230,10 +230,10 @@ impl<T: Drop, V, P: Protocol<T, V>> RuledChannel<T, V, P> {
         ensures step { HasMade (receiver_dropped_by stream.old) pass.new }
     {
         let held = self.mutex.lock(rt, &mut pass.lock);
-        let mut bell = Ringer::new(rt);
+        let mut bell = Ringer::new();
         let core = pass.lock.value_mut(&self.mutex, &held);
         let has_closed = core.drop_receiver(stream, &mut bell);
-        self.give_back::<Shut<M>, R>(pass, held, bell);
+        self.give_back::<Shut<M>>(pass, held, bell);
         has_closed
     }
 }

@@ -47,7 +47,7 @@ pub use channel_core::{
 pub use closing::UntilClosed;
 pub use look::{Status, Waiters};
 pub use make::{bounded_with, bounded_with_key, unbounded_with, unbounded_with_key};
-pub use mark::{Mark, Marker, Sleeper, Slot, Waiter};
+pub use mark::{Mark, Marker, Sleeper, Waiter};
 pub use outcomes::{AtEnd, Counted, Forced, HasClosed, Lesson, Received, Sent};
 pub use pass::Pass;
 pub use protocol::Protocol;

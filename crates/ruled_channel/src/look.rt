@@ -82,7 +82,7 @@ impl<T: Drop, V, P: Protocol<T, V>> RuledChannel<T, V, P> {
             sender_count: core.sender_count(),
             receiver_count: core.receiver_count(),
         };
-        self.give_back::<Kept<L>, R>(pass, held, Ringer::new(rt));
+        self.give_back::<Kept<L>>(pass, held, Ringer::new());
         status
     }
 
@@ -107,7 +107,7 @@ impl<T: Drop, V, P: Protocol<T, V>> RuledChannel<T, V, P> {
             waiting: core.waiting(group),
             told: core.told(group),
         };
-        self.give_back::<Kept<Unruled>, R>(pass, held, Ringer::new(rt));
+        self.give_back::<Kept<Unruled>>(pass, held, Ringer::new());
         waiters
     }
 }

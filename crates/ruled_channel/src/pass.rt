@@ -14,7 +14,6 @@ use crate::ringer::Ringer;
 use channel_core::Core;
 use ruled_mutex::{Held, Outcome};
 use std::snapshot::Snapshot;
-use std::sync::Wait;
 
 /// What one thread knows of a channel: its view, and the last step that it made there. It has no
 /// bytes.
@@ -71,11 +70,11 @@ impl<T: Drop, V, P: Protocol<T, V>> RuledChannel<T, V, P> {
     // Gives the lock back by a step of the rule, and wakes whom the step told: each mark that the
     // bell was rung with.
     #[inline(always)]
-    pub(crate) fn give_back<O: Outcome<Core<T, Mark>, V>, R: Wait>(
+    pub(crate) fn give_back<O: Outcome<Core<T, Mark>, V>>(
         &self,
         pass: &mut Pass<T, V>,
         held: Held<Core<T, Mark>>,
-        bell: Ringer<'_, R>,
+        bell: Ringer,
     )
         requires own { Holds self.now.mutex held pass.old.lock }
         requires rule { TurnsAt (within (P.holds (key_of self.now))) (number pass.old)
@@ -86,7 +85,7 @@ impl<T: Drop, V, P: Protocol<T, V>> RuledChannel<T, V, P> {
             (view pass.new) }
         ensures found { found pass.new ≡ found_by held }
         ensures made { made pass.new ≡ made_of held pass.old.lock }
-        ensures woken { woken pass.new ≡ in_turn_of_waking bell.entry }
+        ensures woken { woken pass.new ≡ in_turn_of_waking bell }
     {
         let made = Snapshot::of(pass.lock.value_mut(&self.mutex, &held));
         let found = Snapshot::of(&held);

@@ -2,7 +2,8 @@
 //!
 //! A step under the lock rings it with the marks of those whom it tells. It keeps the first mark,
 //! without an allocation, until the lock is free, so that who is woken doesn't run into it; further
-//! marks are woken under the lock.
+//! marks are woken under the lock. So is the mark kept that leaves the list with the step's own
+//! entry, since a waker wakes when it is dropped.
 ghost use Rattle.std.specs.Prelude.{◌≡◌, []};
 ghost use Rattle.ruled_channel.specs.Passes.{IsPassOf};
 ghost use Rattle.ruled_channel.specs.Rung.{in_turn_of_waking};
@@ -13,21 +14,21 @@ use crate::pass::Pass;
 use crate::protocol::Protocol;
 use channel_core::Bell;
 use std::marker::Model;
-use std::sync::Wait;
 
 /// A bell that wakes each mark that it is rung with.
 ///
 /// It can't be dropped: who takes it apart has to wake the first one.
-pub(crate) struct Ringer<'a, R: Wait> {
-    rt: &'a R,
+pub(crate) struct Ringer {
     // What it was rung with first, which isn't woken yet.
     first: Option<Mark>,
     // Those that it was rung with after the first.
     woken: Woken,
+    // The mark that left the list with the step's own entry.
+    left: Option<Mark>,
 }
 
 /// The marks that it was rung with, in order.
-impl<'a, R: Wait> Model for Ringer<'a, R> {
+impl Model for Ringer {
     ghost use Rattle.std.specs.Prelude.{◌≡◌, List, [], None};
     ghost use Rattle.ruled_channel.specs.declared.mark.Mark.{Mark};
     ghost use Rattle.ruled_channel.specs.Rung.{rung_with};
@@ -39,27 +40,29 @@ impl<'a, R: Wait> Model for Ringer<'a, R> {
     ghost invariant = { λ ringer. ringer.first ≡ None → ringer.woken ≡ [] };
 }
 
-impl<'a, R: Wait> Ringer<'a, R> {
+impl Ringer {
     /// One that wasn't rung yet.
     #[inline(always)]
-    pub(crate) fn new(rt: &'a R) -> Ringer<'a, R>
+    pub(crate) fn new() -> Ringer
         ensures { result ≡ [] }
     {
         Ringer {
-            rt,
             first: None,
             woken: Woken::nobody(),
+            left: None,
         }
     }
 
-    /// By what it wakes and sleeps.
+    /// Keeps the mark that left the list with the step's own entry, until the lock is free.
     #[inline(always)]
-    pub(crate) fn runtime(&self) -> &'a R {
-        self.rt
+    pub(crate) fn keep(&mut self, left: Option<Mark>)
+        ensures { self.new ≡ self.old }
+    {
+        self.left = left;
     }
 
-    /// Wakes the first one, once the lock was given back. The answer is who was woken in all, the
-    /// first one last.
+    /// Wakes the first one, once the lock was given back, and drops the mark that left. The answer
+    /// is who was woken in all, the first one last.
     #[inline(always)]
     pub(crate) fn wake_after<T: Drop, V, P: Protocol<T, V>>(
         self,
@@ -67,29 +70,29 @@ impl<'a, R: Wait> Ringer<'a, R> {
         _pass: &Pass<T, V>,
     ) -> Woken
         requires free { IsPassOf _channel.now _pass.now }
-        ensures { result ≡ in_turn_of_waking self.entry }
+        ensures { result ≡ in_turn_of_waking self }
     {
         let Self {
-            rt,
             first,
             mut woken,
+            left: _,
         } = self;
         if let Some(mark) = first {
-            mark.wake(rt, &mut woken);
+            mark.wake(&mut woken);
         }
         woken
     }
 }
 
 /// A mark is woken, or kept as the first one.
-impl<R: Wait> Bell<Mark> for Ringer<'_, R> {
+impl Bell<Mark> for Ringer {
     ghost use Rattle.std.specs.Prelude.{◌≡◌, ◌++◌, ◌∷◌, []};
 
     ghost rings = { λ before mark after. after ≡ before ++ mark ∷ [] };
 
     fn ring(&mut self, w: Mark) {
         if self.first.is_some() {
-            w.wake(self.rt, &mut self.woken);
+            w.wake(&mut self.woken);
         } else {
             self.first = Some(w);
         }

@@ -1,8 +1,9 @@
 //! Polls of the channel by whatever waits: the task of a future, or a blocked thread.
 //!
 //! A poll looks without a mark first. One that is ready needs none, nor memory for it; one that
-//! isn't has changed nothing. Then its mark is made, and left in the core's list under the same
-//! lock, so that whoever tells it finds it. That is out of line, and the look is in its caller.
+//! isn't has changed nothing. Then it waits under the same lock, so that whoever tells it finds its
+//! mark: first by a mark without a waker, for the one that its entry held, and then by its own. That
+//! is out of line, and the look is in its caller.
 ghost use Rattle.std.specs.Prelude.{◌≡◌, ◌<◌, ◌==◌, ◌⊎◌, [], ◌++◌, Some, None, IfOk, IfErr, IfSome, IfNone, IsSome, OnOk, OnErr};
 ghost use Rattle.futures.specs.Poll.{IfReady};
 ghost use Rattle.futures.specs.declared.task.Poll.TheVariants.{Pending};
@@ -31,13 +32,13 @@ use std::sync::Wait;
 impl<T: Drop, V, P: Protocol<T, V>> RuledChannel<T, V, P> {
     #[tactic(auto, using(crate::proofs::Logging::logs, crate::proofs::Logging::logs_if_ready))]
     #[inline(always)]
-    pub(crate) fn poll_recv<C, W: Waiter<C>, R: Wait>(
+    pub(crate) fn poll_recv<C, W: Waiter<C>>(
         &self,
         core: &mut Core<T, Mark>,
         ticket: &mut Option<Ticket>,
         waiter: &mut W,
         cx: &mut C,
-        bell: &mut Ringer<'_, R>,
+        bell: &mut Ringer,
     ) -> Result<Poll<Result<T, RecvError>>, OutOfMemory>
         ensures reply { IfOk result (λ poll. poll ≡ recv_poll (oldest core.old) core.old.closed) }
         ensures after { OnReady result
@@ -57,21 +58,25 @@ impl<T: Drop, V, P: Protocol<T, V>> RuledChannel<T, V, P> {
             self.wait_to_recv(core, ticket, waiter, cx, bell)?;
             return Ok(Poll::Pending);
         }
-        match core.poll_recv_with(ticket, &mut None, bell, &mut None)? {
-            Poll::Ready(answer) => Ok(Poll::Ready(answer)),
+        let mut left = None;
+        match core.poll_recv_with(ticket, &mut None, bell, &mut left)? {
+            Poll::Ready(answer) => {
+                bell.keep(left);
+                Ok(Poll::Ready(answer))
+            }
             Poll::Pending => unreachable!(),
         }
     }
 
     // A receive that can't go on waits.
     #[inline(never)]
-    fn wait_to_recv<C, W: Waiter<C>, R: Wait>(
+    fn wait_to_recv<C, W: Waiter<C>>(
         &self,
         core: &mut Core<T, Mark>,
         ticket: &mut Option<Ticket>,
         waiter: &mut W,
         cx: &mut C,
-        bell: &mut Ringer<'_, R>,
+        bell: &mut Ringer,
     ) -> Result<(), OutOfMemory>
         requires { recv_poll (oldest core.old) core.old.closed ≡ Pending }
         ensures waits { OnOk result ((w : Mark) × W.waits_by cx.new (source_of self.now) w
@@ -80,7 +85,13 @@ impl<T: Drop, V, P: Protocol<T, V>> RuledChannel<T, V, P> {
         ensures silent { bell.new ≡ bell.old }
         ensures unchanged { OnErr result ((core.new ≡ core.old) × (ticket.new ≡ ticket.old)) }
     {
-        let mark = waiter.mark(bell.runtime(), self.alloc, &self.source, cx)?;
+        let cell = waiter.cell(self.alloc)?;
+        let mut held = None;
+        match core.poll_recv_with(ticket, &mut Some(Mark::Task(None)), bell, &mut held)? {
+            Poll::Pending => {}
+            Poll::Ready(_) => unreachable!(),
+        }
+        let mark = waiter.mark(cell, held, &self.source, cx);
         match core.poll_recv(ticket, mark, bell)? {
             Poll::Pending => Ok(()),
             Poll::Ready(_) => unreachable!(),
@@ -88,13 +99,13 @@ impl<T: Drop, V, P: Protocol<T, V>> RuledChannel<T, V, P> {
     }
 
     #[tactic(auto, using(crate::proofs::Logging::logs, crate::proofs::Logging::logs_if_ready))]
-    fn poll_next<C, W: Waiter<C>, R: Wait>(
+    fn poll_next<C, W: Waiter<C>>(
         &self,
         core: &mut Core<T, Mark>,
         ticket: &mut Option<Ticket>,
         waiter: &mut W,
         cx: &mut C,
-        bell: &mut Ringer<'_, R>,
+        bell: &mut Ringer,
     ) -> Result<Poll<Option<T>>, OutOfMemory>
         ensures reply { IfOk result (λ poll. poll ≡ next_poll (oldest core.old) core.old.closed) }
         ensures after { OnReady result
@@ -111,22 +122,58 @@ impl<T: Drop, V, P: Protocol<T, V>> RuledChannel<T, V, P> {
         ensures wanted { OnErr result (next_poll (oldest core.old) core.old.closed ≡ Pending) }
     {
         if core.is_empty() && !core.is_closed() {
-            let mark = waiter.mark(bell.runtime(), self.alloc, &self.source, cx)?;
-            return core.poll_next(ticket, mark, bell);
+            self.wait_for_next(core, ticket, waiter, cx, bell)?;
+            return Ok(Poll::Pending);
         }
-        core.poll_next_with(ticket, &mut None, bell, &mut None)
+        let mut left = None;
+        match core.poll_next_with(ticket, &mut None, bell, &mut left)? {
+            Poll::Ready(next) => {
+                bell.keep(left);
+                Ok(Poll::Ready(next))
+            }
+            Poll::Pending => unreachable!(),
+        }
+    }
+
+    // A stream that can't go on waits.
+    fn wait_for_next<C, W: Waiter<C>>(
+        &self,
+        core: &mut Core<T, Mark>,
+        ticket: &mut Option<Ticket>,
+        waiter: &mut W,
+        cx: &mut C,
+        bell: &mut Ringer,
+    ) -> Result<(), OutOfMemory>
+        requires { next_poll (oldest core.old) core.old.closed ≡ Pending }
+        ensures waits { OnOk result ((w : Mark) × W.waits_by cx.new (source_of self.now) w
+            × NextWaits ticket.old core.old w ticket.new core.new) }
+        ensures keeps { W.keeps cx.old cx.new }
+        ensures silent { bell.new ≡ bell.old }
+        ensures unchanged { OnErr result ((core.new ≡ core.old) × (ticket.new ≡ ticket.old)) }
+    {
+        let cell = waiter.cell(self.alloc)?;
+        let mut held = None;
+        match core.poll_next_with(ticket, &mut Some(Mark::Task(None)), bell, &mut held)? {
+            Poll::Pending => {}
+            Poll::Ready(_) => unreachable!(),
+        }
+        let mark = waiter.mark(cell, held, &self.source, cx);
+        match core.poll_next(ticket, mark, bell)? {
+            Poll::Pending => Ok(()),
+            Poll::Ready(_) => unreachable!(),
+        }
     }
 
     #[tactic(auto, using(crate::proofs::Logging::logs, crate::proofs::Logging::logs_if_ready))]
     #[inline(always)]
-    pub(crate) fn poll_send<C, W: Waiter<C>, R: Wait>(
+    pub(crate) fn poll_send<C, W: Waiter<C>>(
         &self,
         core: &mut Core<T, Mark>,
         message: &mut Option<T>,
         ticket: &mut Option<Ticket>,
         waiter: &mut W,
         cx: &mut C,
-        bell: &mut Ringer<'_, R>,
+        bell: &mut Ringer,
     ) -> Result<Poll<Result<(), SendError<T>>>, OutOfMemory>
         ensures reply { IfOk result
             (λ poll. poll ≡ send_poll message.old core.old.closed (is_channel_full core.old)) }
@@ -149,8 +196,12 @@ impl<T: Drop, V, P: Protocol<T, V>> RuledChannel<T, V, P> {
             self.wait_to_send(core, message, ticket, waiter, cx, bell)?;
             return Ok(Poll::Pending);
         }
-        match core.poll_send_with(message, ticket, &mut None, bell, &mut None)? {
-            Poll::Ready(answer) => Ok(Poll::Ready(answer)),
+        let mut left = None;
+        match core.poll_send_with(message, ticket, &mut None, bell, &mut left)? {
+            Poll::Ready(answer) => {
+                bell.keep(left);
+                Ok(Poll::Ready(answer))
+            }
             // A poll without a message.
             Poll::Pending => {
                 self.wait_to_send(core, message, ticket, waiter, cx, bell)?;
@@ -161,14 +212,14 @@ impl<T: Drop, V, P: Protocol<T, V>> RuledChannel<T, V, P> {
 
     // A send that can't go on waits.
     #[inline(never)]
-    fn wait_to_send<C, W: Waiter<C>, R: Wait>(
+    fn wait_to_send<C, W: Waiter<C>>(
         &self,
         core: &mut Core<T, Mark>,
         message: &mut Option<T>,
         ticket: &mut Option<Ticket>,
         waiter: &mut W,
         cx: &mut C,
-        bell: &mut Ringer<'_, R>,
+        bell: &mut Ringer,
     ) -> Result<(), OutOfMemory>
         requires { send_poll message.old core.old.closed (is_channel_full core.old) ≡ Pending }
         ensures waits { OnOk result ((w : Mark) × W.waits_by cx.new (source_of self.now) w
@@ -178,7 +229,19 @@ impl<T: Drop, V, P: Protocol<T, V>> RuledChannel<T, V, P> {
         ensures silent { bell.new ≡ bell.old }
         ensures unchanged { OnErr result ((core.new ≡ core.old) × (ticket.new ≡ ticket.old)) }
     {
-        let mark = waiter.mark(bell.runtime(), self.alloc, &self.source, cx)?;
+        let cell = waiter.cell(self.alloc)?;
+        let mut held = None;
+        match core.poll_send_with(
+            message,
+            ticket,
+            &mut Some(Mark::Task(None)),
+            bell,
+            &mut held,
+        )? {
+            Poll::Pending => {}
+            Poll::Ready(_) => unreachable!(),
+        }
+        let mark = waiter.mark(cell, held, &self.source, cx);
         match core.poll_send(message, ticket, mark, bell)? {
             Poll::Pending => Ok(()),
             Poll::Ready(_) => unreachable!(),
@@ -187,13 +250,13 @@ impl<T: Drop, V, P: Protocol<T, V>> RuledChannel<T, V, P> {
 }
 
 impl<T: Drop, V, P: Protocol<T, V>> RuledChannel<T, V, P> {
-    fn poll_closed<C, W: Waiter<C>, R: Wait>(
+    fn poll_closed<C, W: Waiter<C>>(
         &self,
-        rt: &R,
         core: &mut Core<T, Mark>,
         ticket: &mut Option<Ticket>,
         waiter: &mut W,
         cx: &mut C,
+        bell: &mut Ringer,
     ) -> Result<Poll<()>, OutOfMemory>
         ensures reply { IfOk result (λ poll. poll ≡ closed_poll (core.old.receivers == 0)) }
         ensures after { OnReady result (core.new ≡ record core.old {
@@ -204,14 +267,49 @@ impl<T: Drop, V, P: Protocol<T, V>> RuledChannel<T, V, P> {
             × ClosedWaits ticket.old core.old w ticket.new core.new) }
         ensures keeps { W.keeps cx.old cx.new }
         ensures kept { core.new ≡ record core.old { closeds = core.new.closeds } }
+        ensures silent { bell.new ≡ bell.old }
         ensures unchanged { OnErr result ((core.new ≡ core.old) × (ticket.new ≡ ticket.old)) }
         ensures wanted { OnErr result (0 < core.old.receivers) }
     {
         if core.receiver_count() > 0 {
-            let mark = waiter.mark(rt, self.alloc, &self.source, cx)?;
-            return core.poll_closed(ticket, mark);
+            self.wait_for_close(core, ticket, waiter, cx)?;
+            return Ok(Poll::Pending);
         }
-        core.poll_closed_with(ticket, &mut None, &mut None)
+        let mut left = None;
+        match core.poll_closed_with(ticket, &mut None, &mut left)? {
+            Poll::Ready(()) => {
+                bell.keep(left);
+                Ok(Poll::Ready(()))
+            }
+            Poll::Pending => unreachable!(),
+        }
+    }
+
+    // A wait for the last receiver that can't go on waits.
+    fn wait_for_close<C, W: Waiter<C>>(
+        &self,
+        core: &mut Core<T, Mark>,
+        ticket: &mut Option<Ticket>,
+        waiter: &mut W,
+        cx: &mut C,
+    ) -> Result<(), OutOfMemory>
+        requires { closed_poll (core.old.receivers == 0) ≡ Pending }
+        ensures waits { OnOk result ((w : Mark) × W.waits_by cx.new (source_of self.now) w
+            × ClosedWaits ticket.old core.old w ticket.new core.new) }
+        ensures keeps { W.keeps cx.old cx.new }
+        ensures unchanged { OnErr result ((core.new ≡ core.old) × (ticket.new ≡ ticket.old)) }
+    {
+        let cell = waiter.cell(self.alloc)?;
+        let mut held = None;
+        match core.poll_closed_with(ticket, &mut Some(Mark::Task(None)), &mut held)? {
+            Poll::Pending => {}
+            Poll::Ready(_) => unreachable!(),
+        }
+        let mark = waiter.mark(cell, held, &self.source, cx);
+        match core.poll_closed(ticket, mark)? {
+            Poll::Pending => Ok(()),
+            Poll::Ready(_) => unreachable!(),
+        }
     }
 }
 
@@ -278,11 +376,11 @@ impl<T: Drop, V, P: Protocol<T, V>> RuledChannel<T, V, P> {
         ensures unpolled { OnErr result ((ticket.new ≡ ticket.old) × HasMade unchanged pass.new) }
     {
         let held = self.mutex.lock(rt, &mut pass.lock);
-        let mut bell = Ringer::new(rt);
+        let mut bell = Ringer::new();
         let mut waiting = Some(message);
         let core = pass.lock.value_mut(&self.mutex, &held);
         let sent = self.poll_send(core, &mut waiting, ticket, waiter, cx, &mut bell);
-        self.give_back::<SentOrKept<M, L>, R>(pass, held, bell);
+        self.give_back::<SentOrKept<M, L>>(pass, held, bell);
         match sent {
             Ok(Poll::Ready(Ok(()))) => Ok(Ok(())),
             Ok(Poll::Ready(Err(SendError(back)))) => Ok(Err(TrySendError::Closed(back))),
@@ -350,10 +448,10 @@ impl<T: Drop, V, P: Protocol<T, V>> RuledChannel<T, V, P> {
         ensures unpolled { OnErr result ((ticket.new ≡ ticket.old) × HasMade unchanged pass.new) }
     {
         let held = self.mutex.lock(rt, &mut pass.lock);
-        let mut bell = Ringer::new(rt);
+        let mut bell = Ringer::new();
         let core = pass.lock.value_mut(&self.mutex, &held);
         let polled = self.poll_recv(core, ticket, waiter, cx, &mut bell);
-        self.give_back::<ReceivedOrKept<M, E, Seen<P>>, R>(pass, held, bell);
+        self.give_back::<ReceivedOrKept<M, E, Seen<P>>>(pass, held, bell);
         polled
     }
 
@@ -414,10 +512,10 @@ impl<T: Drop, V, P: Protocol<T, V>> RuledChannel<T, V, P> {
         ensures unpolled { OnErr result ((ticket.new ≡ ticket.old) × HasMade unchanged pass.new) }
     {
         let held = self.mutex.lock(rt, &mut pass.lock);
-        let mut bell = Ringer::new(rt);
+        let mut bell = Ringer::new();
         let core = pass.lock.value_mut(&self.mutex, &held);
         let polled = self.poll_next(core, ticket, waiter, cx, &mut bell);
-        self.give_back::<ReceivedOrKept<M, E, Seen<P>>, R>(pass, held, bell);
+        self.give_back::<ReceivedOrKept<M, E, Seen<P>>>(pass, held, bell);
         polled
     }
 
@@ -464,9 +562,10 @@ impl<T: Drop, V, P: Protocol<T, V>> RuledChannel<T, V, P> {
         ensures unpolled { OnErr result ((ticket.new ≡ ticket.old) × HasMade unchanged pass.new) }
     {
         let held = self.mutex.lock(rt, &mut pass.lock);
+        let mut bell = Ringer::new();
         let core = pass.lock.value_mut(&self.mutex, &held);
-        let polled = self.poll_closed(rt, core, ticket, waiter, cx);
-        self.give_back::<Kept<Seen<P>>, R>(pass, held, Ringer::new(rt));
+        let polled = self.poll_closed(core, ticket, waiter, cx, &mut bell);
+        self.give_back::<Kept<Seen<P>>>(pass, held, bell);
         polled
     }
 
@@ -486,10 +585,10 @@ impl<T: Drop, V, P: Protocol<T, V>> RuledChannel<T, V, P> {
         ensures step { HasMade (send_given_up ticket.old) pass.new }
     {
         let held = self.mutex.lock(rt, &mut pass.lock);
-        let mut bell = Ringer::new(rt);
+        let mut bell = Ringer::new();
         let core = pass.lock.value_mut(&self.mutex, &held);
-        core.cancel_send(ticket, &mut bell);
-        self.give_back::<Kept<Unruled>, R>(pass, held, bell);
+        let _left = core.withdraw_send(ticket, &mut bell);
+        self.give_back::<Kept<Unruled>>(pass, held, bell);
     }
 
     /// Who waits to receive waits no more; a notice that it had goes on to the next one.
@@ -508,10 +607,10 @@ impl<T: Drop, V, P: Protocol<T, V>> RuledChannel<T, V, P> {
         ensures step { HasMade (receive_given_up ticket.old) pass.new }
     {
         let held = self.mutex.lock(rt, &mut pass.lock);
-        let mut bell = Ringer::new(rt);
+        let mut bell = Ringer::new();
         let core = pass.lock.value_mut(&self.mutex, &held);
-        core.cancel_recv(ticket, &mut bell);
-        self.give_back::<Kept<Unruled>, R>(pass, held, bell);
+        let _left = core.withdraw_recv(ticket, &mut bell);
+        self.give_back::<Kept<Unruled>>(pass, held, bell);
     }
 
     /// Who waits for the last receiver waits no more.
@@ -536,7 +635,7 @@ impl<T: Drop, V, P: Protocol<T, V>> RuledChannel<T, V, P> {
     {
         let held = self.mutex.lock(rt, &mut pass.lock);
         let core = pass.lock.value_mut(&self.mutex, &held);
-        core.cancel_closed(ticket);
-        self.give_back::<Kept<Unruled>, R>(pass, held, Ringer::new(rt));
+        let _left = core.withdraw_closed(ticket);
+        self.give_back::<Kept<Unruled>>(pass, held, Ringer::new());
     }
 }

@@ -1,0 +1,10 @@
+use Rattle.ruled_channel.proofs.Renewed.{next_waits_twice}
+use Rattle.ruled_channel.proofs.channel.RuledChannel.wait_for_next.Goals as goal
+
+pub returns-clause-waits : goal.returns-clause-waits
+returns-clause-waits g c = (
+  c.mark-mark.result,
+  c.mark-mark.ensures.made,
+  next_waits_twice _ _ _ _ _ _ _ _
+      (rw c.in-Pending.is at c.in_ok-poll_next_with.ensures.waits) (rw c.in-Pending-2.is at c.in_ok-poll_next.ensures.waits),
+)

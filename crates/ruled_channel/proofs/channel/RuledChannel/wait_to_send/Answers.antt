@@ -1,0 +1,11 @@
+use Rattle.ruled_channel.proofs.Renewed.{send_waits_twice}
+use Rattle.ruled_channel.proofs.channel.RuledChannel.wait_to_send.Goals as goal
+
+pub returns-clause-waits : goal.returns-clause-waits
+returns-clause-waits g c = (
+  c.mark-mark.result,
+  c.mark-mark.ensures.made,
+  send_waits_twice _ _ _ _ _ _ _ _ _ _
+      (rw c.in-Pending.is at c.in_ok-poll_send_with.ensures.kept)
+      (rw c.in-Pending.is at c.in_ok-poll_send_with.ensures.waits) (rw c.in-Pending-2.is at c.in_ok-poll_send.ensures.waits),
+)
