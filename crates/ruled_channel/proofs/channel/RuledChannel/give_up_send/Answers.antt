@@ -9,8 +9,8 @@ use Rattle.ruled_channel.proofs.channel.RuledChannel.give_up_send.Goals as goal
 
 pub give_back-requires-clause-rule : goal.give_back-requires-clause-rule
 give_back-requires-clause-rule g c = let same = c.lock-held.ensures.same in let shows = c.value_mut-core.ensures.value ∙ c.lock-held.ensures.held.1 in
-    keeps c.value_mut-core.result.now c.cancel_send.new.self (found c.lock-held.result) (g.P.Protocol.holds (key_of c.args.self.now)) _ _ _ _ same.0.1 same.1 shows (λ _ _. Unit {0}) (ap state_of c.cancel_send.ensures.after) (λ _ _ _ _. tt)
+    keeps c.value_mut-core.result.now c.withdraw_send-left.new.self (found c.lock-held.result) (g.P.Protocol.holds (key_of c.args.self.now)) _ _ _ _ same.0.1 same.1 shows (λ _ _. Unit {0}) (ap state_of c.withdraw_send-left.ensures.after) (λ _ _ _ _. tt)
 
 pub returns-clause-step : goal.returns-clause-step
-returns-clause-step g c = let shows = c.value_mut-core.ensures.value ∙ c.lock-held.ensures.held.1 in let here = c.cancel_send.ensures in let told = c.give_back.ensures in
-    has_made c.give_back.new.pass c.value_mut-core.result.now c.cancel_send.new.self _ _ _ shows c.new-bell.ensures told.found told.made told.woken (send_given_up c.args.ticket.now) here.after here.rung
+returns-clause-step g c = let shows = c.value_mut-core.ensures.value ∙ c.lock-held.ensures.held.1 in let here = c.withdraw_send-left.ensures in let told = c.give_back.ensures in
+    has_made c.give_back.new.pass c.value_mut-core.result.now c.withdraw_send-left.new.self _ _ _ shows c.new-bell.ensures told.found told.made told.woken (send_given_up c.args.ticket.now) here.after here.rung
