@@ -229,11 +229,11 @@ impl Waiter<()> for Sleeper {
 
     fn mark(
         &mut self,
-        cell: Arc<Parker>,
+        own: Arc<Parker>,
         _held: Option<Mark>,
         _source: &Source,
         _cx: &mut (),
     ) -> Mark {
-        Mark::Thread(cell)
+        Mark::Thread(own)
     }
 }
