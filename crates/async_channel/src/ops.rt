@@ -262,10 +262,8 @@ impl<T: Drop, R: Wait + Clone + Drop> Future for Send<'_, T, R> {
         ensures rests { OnPending result (self.old.message ≡ None → self.new ≡ self.old) }
     {
         let Some(message) = self.message.take() else {
-            return cx.register(
-                self.sender.get().link.shared.channel.source(),
-                &mut self.waker,
-            );
+            let source = self.sender.get().link.shared.channel.source();
+            return cx.register(source, &mut self.waker);
         };
         let link = &self.sender.get().link;
         let (channel, mut pass) = link.channel();
