@@ -59,13 +59,9 @@ impl<T: Drop, V, P: Protocol<T, V>> RuledChannel<T, V, P> {
             return Ok(Poll::Pending);
         }
         let mut left = None;
-        match core.poll_recv_with(ticket, &mut None, bell, &mut left)? {
-            Poll::Ready(answer) => {
-                bell.keep(left);
-                Ok(Poll::Ready(answer))
-            }
-            Poll::Pending => unreachable!(),
-        }
+        let polled = core.poll_recv_with(ticket, &mut None, bell, &mut left);
+        bell.keep(left);
+        polled
     }
 
     // A receive that can't go on waits.
@@ -126,13 +122,9 @@ impl<T: Drop, V, P: Protocol<T, V>> RuledChannel<T, V, P> {
             return Ok(Poll::Pending);
         }
         let mut left = None;
-        match core.poll_next_with(ticket, &mut None, bell, &mut left)? {
-            Poll::Ready(next) => {
-                bell.keep(left);
-                Ok(Poll::Ready(next))
-            }
-            Poll::Pending => unreachable!(),
-        }
+        let polled = core.poll_next_with(ticket, &mut None, bell, &mut left);
+        bell.keep(left);
+        polled
     }
 
     // A stream that can't go on waits.
@@ -276,13 +268,9 @@ impl<T: Drop, V, P: Protocol<T, V>> RuledChannel<T, V, P> {
             return Ok(Poll::Pending);
         }
         let mut left = None;
-        match core.poll_closed_with(ticket, &mut None, &mut left)? {
-            Poll::Ready(()) => {
-                bell.keep(left);
-                Ok(Poll::Ready(()))
-            }
-            Poll::Pending => unreachable!(),
-        }
+        let polled = core.poll_closed_with(ticket, &mut None, &mut left);
+        bell.keep(left);
+        polled
     }
 
     // A wait for the last receiver that can't go on waits.
