@@ -54,6 +54,7 @@ pub struct SendMany<'a, T: Drop, R: Wait + Clone + Drop> {
     // How many there were, without those that were given back.
     count: usize,
     ticket: Option<Ticket>,
+    marker: Marker,
     finished: bool,
 }
 
@@ -83,6 +84,7 @@ pub struct RecvMany<'a, T: Drop, R: Wait + Clone + Drop> {
     into: &'a mut Vec<T>,
     limit: usize,
     ticket: Option<Ticket>,
+    marker: Marker,
     finished: bool,
 }
 
@@ -160,6 +162,7 @@ impl<T: Drop, R: Wait + Clone + Drop> Sender<T, R> {
             count: messages.len(),
             unsent: messages,
             ticket: None,
+            marker: Marker::new(),
             finished: false,
         }
     }
@@ -169,6 +172,7 @@ impl<T: Drop, R: Wait + Clone + Drop> Sender<T, R> {
         &self,
         from: &mut VecDeque<T, Global>,
         ticket: &mut Option<Ticket>,
+        marker: &mut Marker,
         cx: &mut Context<'_>,
     ) -> Result<Poll<Result<(), SendError<()>>>, OutOfMemory>
         requires { from.old.items ≡ [] → ticket.old ≡ None }
@@ -184,8 +188,7 @@ impl<T: Drop, R: Wait + Clone + Drop> Sender<T, R> {
             ⊎ ((ticket.new ≡ ticket.old) × (from.new.items ≡ from.old.items))) }
     {
         while !from.is_empty() {
-            let (channel, mut pass) = self.link.channel();
-            let (rt, marker) = (&self.link.rt, &mut Marker);
+            let ((channel, mut pass), rt) = (self.link.channel(), &self.link.rt);
             match channel.send_many_or_wait(rt, &mut pass, from, ROUND_LIMIT, ticket, marker, cx)? {
                 Poll::Ready(Ok(_sent)) => {}
                 Poll::Ready(Err(error)) => return Ok(Poll::Ready(Err(error))),
@@ -232,6 +235,7 @@ impl<T: Drop, R: Wait + Clone + Drop> Receiver<T, R> {
             into,
             limit,
             ticket: None,
+            marker: Marker::new(),
             finished: false,
         }
     }
@@ -243,6 +247,7 @@ impl<T: Drop, R: Wait + Clone + Drop> Receiver<T, R> {
         into: &mut Vec<T>,
         limit: usize,
         ticket: &mut Option<Ticket>,
+        marker: &mut Marker,
         cx: &mut Context<'_>,
     ) -> Result<Poll<usize>, OutOfMemory>
         requires { 0 < limit }
@@ -259,8 +264,7 @@ impl<T: Drop, R: Wait + Clone + Drop> Receiver<T, R> {
             × (into.new.items ≡ into.old.items)) }
     {
         let most = limit.min(ROUND_LIMIT);
-        let (channel, mut pass) = self.link.channel();
-        let (rt, marker) = (&self.link.rt, &mut Marker);
+        let ((channel, mut pass), rt) = (self.link.channel(), &self.link.rt);
         let polled = channel.recv_many_or_wait(rt, &mut pass, into, most, ticket, marker, cx)?;
         let Poll::Ready(first) = polled else {
             return Ok(Poll::Pending);
@@ -383,7 +387,12 @@ impl<T: Drop, R: Wait + Clone + Drop> Future for SendMany<'_, T, R> {
         ensures holds { OnPending result (IsSome self.new.ticket) }
     {
         let sender = self.sender;
-        let polled = sender.poll_send_rounds(&mut self.unsent, &mut self.ticket, cx);
+        let polled = sender.poll_send_rounds(
+            &mut self.unsent,
+            &mut self.ticket,
+            &mut self.marker,
+            cx,
+        );
         match polled {
             Ok(Poll::Ready(sent)) => {
                 self.finished = true;
@@ -408,6 +417,7 @@ impl<T: Drop, R: Wait + Clone + Drop> Drop for SendMany<'_, T, R> {
             unsent: _,
             count: _,
             mut ticket,
+            marker: _,
             finished: _,
         } = self;
         if ticket.is_some() {
@@ -462,7 +472,13 @@ impl<T: Drop, R: Wait + Clone + Drop> Future for RecvMany<'_, T, R> {
             return Poll::Ready(Ok(0));
         }
         let receiver = self.receiver;
-        let polled = receiver.poll_recv_rounds(self.into, self.limit, &mut self.ticket, cx);
+        let polled = receiver.poll_recv_rounds(
+            self.into,
+            self.limit,
+            &mut self.ticket,
+            &mut self.marker,
+            cx,
+        );
         match polled {
             Ok(Poll::Ready(count)) => {
                 self.finished = true;
@@ -484,6 +500,7 @@ impl<T: Drop, R: Wait + Clone + Drop> Drop for RecvMany<'_, T, R> {
             into: _,
             limit: _,
             mut ticket,
+            marker: _,
             finished: _,
         } = self;
         if ticket.is_some() {

@@ -13,7 +13,7 @@ use channel_core::{
     CloneError, MakeError, NoMemory, OutOfMemory, SendError, Ticket, TryRecvError, TrySendError,
 };
 use identity::StampMaker;
-use ruled_channel::{RuledChannel, Unruled, bounded_with, unbounded_with};
+use ruled_channel::{Marker, RuledChannel, Unruled, bounded_with, unbounded_with};
 use std::alloc::Global;
 use std::fmt;
 use std::marker::Model;
@@ -87,6 +87,7 @@ pub struct Receiver<T: Drop, R: Wait + Clone + Drop> {
     pub(crate) link: Link<T, R>,
     // The stream's wait.
     pub(crate) ticket: Option<Ticket>,
+    pub(crate) marker: Marker,
 }
 
 /// The tag, the source that tasks wait for, the capacity, and the key of the stream's entry.
@@ -435,6 +436,7 @@ impl<T: Drop, R: Wait + Clone + Drop> Receiver<T, R> {
             tag,
             link,
             ticket: None,
+            marker: Marker::new(),
         }
     }
 
@@ -617,6 +619,7 @@ impl<T: Drop, R: Wait + Clone + Drop> Drop for Receiver<T, R> {
             tag: _,
             link,
             mut ticket,
+            marker: _,
         } = self;
         let (channel, mut pass) = link.channel();
         channel.drop_receiver_with_as::<Unruled, R>(&link.rt, &mut pass, &mut ticket);

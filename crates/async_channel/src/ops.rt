@@ -12,8 +12,8 @@ use crate::handles::{Receiver, Sender};
 use crate::owned::OwnedOrRef;
 use channel_core::{NoMemory, OutOfMemory, RecvError, SendError, Ticket, TrySendError};
 use futures::Future;
-use futures::task::{Context, Poll, Waker};
-use ruled_channel::{Marker, Unruled};
+use futures::task::{Context, Poll};
+use ruled_channel::{Marker, Unruled, Waiter};
 use std::marker::Model;
 use std::sync::Wait;
 
@@ -40,8 +40,7 @@ pub struct Send<'a, T: Drop, R: Wait + Clone + Drop> {
     sender: OwnedOrRef<'a, Sender<T, R>>,
     message: Option<T>,
     ticket: Option<Ticket>,
-    // The waker of a finished one that was polled again.
-    waker: Option<Waker>,
+    marker: Marker,
 }
 
 /// A future returned by [`Receiver::recv`].
@@ -65,6 +64,7 @@ pub struct Send<'a, T: Drop, R: Wait + Clone + Drop> {
 pub struct Recv<'a, T: Drop, R: Wait + Clone + Drop> {
     receiver: OwnedOrRef<'a, Receiver<T, R>>,
     ticket: Option<Ticket>,
+    marker: Marker,
     finished: bool,
 }
 
@@ -88,6 +88,7 @@ pub struct Recv<'a, T: Drop, R: Wait + Clone + Drop> {
 pub struct Closed<'a, T: Drop, R: Wait + Clone + Drop> {
     sender: OwnedOrRef<'a, Sender<T, R>>,
     ticket: Option<Ticket>,
+    marker: Marker,
     finished: bool,
 }
 
@@ -210,7 +211,7 @@ impl<'a, T: Drop, R: Wait + Clone + Drop> Send<'a, T, R> {
             sender,
             message: Some(msg),
             ticket: None,
-            waker: None,
+            marker: Marker::new(),
         }
     }
 
@@ -219,6 +220,17 @@ impl<'a, T: Drop, R: Wait + Clone + Drop> Send<'a, T, R> {
         ensures { IsTrue result ↔ (self.now.message ≡ None) }
     {
         self.message.is_none()
+    }
+
+    // Registers the task of a finished one, which stays pending.
+    fn rest(&mut self, cx: &mut Context<'_>)
+        ensures kept { self.new ≡ self.old }
+        ensures registered { Covers cx.new (λ source. source ≡ self.old.source) }
+        ensures keeps { Keeps cx.old cx.new }
+    {
+        let source = self.sender.get().link.shared.channel.source();
+        let mark = self.marker.mark((), None, source, cx);
+        self.marker.keep(Some(mark));
     }
 
     /// Withdraws the operation, and gives the message of an unfinished one.
@@ -262,12 +274,12 @@ impl<T: Drop, R: Wait + Clone + Drop> Future for Send<'_, T, R> {
         ensures rests { OnPending result (self.old.message ≡ None → self.new ≡ self.old) }
     {
         let Some(message) = self.message.take() else {
-            let source = self.sender.get().link.shared.channel.source();
-            return cx.register(source, &mut self.waker);
+            self.rest(cx);
+            return Poll::Pending;
         };
         let link = &self.sender.get().link;
         let (channel, mut pass) = link.channel();
-        let (p, t, m) = (&mut pass, &mut self.ticket, &mut Marker);
+        let (p, t, m) = (&mut pass, &mut self.ticket, &mut self.marker);
         match channel.send_or_wait_as::<Unruled, Unruled, _, _, _>(&link.rt, p, message, t, m, cx) {
             Ok(Ok(())) => Poll::Ready(Ok(Ok(()))),
             Ok(Err(TrySendError::Closed(back))) => Poll::Ready(Ok(Err(SendError(back)))),
@@ -290,7 +302,7 @@ impl<T: Drop, R: Wait + Clone + Drop> Drop for Send<'_, T, R> {
             sender,
             message: _,
             ticket,
-            waker: _,
+            marker: _,
         } = self;
         if let Some(ticket) = ticket {
             sender.give_up_send(ticket);
@@ -310,6 +322,7 @@ impl<'a, T: Drop, R: Wait + Clone + Drop> Recv<'a, T, R> {
         Recv {
             receiver,
             ticket: None,
+            marker: Marker::new(),
             finished: false,
         }
     }
@@ -349,7 +362,7 @@ impl<T: Drop, R: Wait + Clone + Drop> Future for Recv<'_, T, R> {
     {
         let link = &self.receiver.get().link;
         let (channel, mut pass) = link.channel();
-        let (p, t, m) = (&mut pass, &mut self.ticket, &mut Marker);
+        let (p, t, m) = (&mut pass, &mut self.ticket, &mut self.marker);
         match channel.recv_or_wait_as::<Unruled, Unruled, _, _, _>(&link.rt, p, t, m, cx) {
             Ok(Poll::Ready(answer)) => {
                 self.finished = true;
@@ -370,6 +383,7 @@ impl<T: Drop, R: Wait + Clone + Drop> Drop for Recv<'_, T, R> {
         let Self {
             receiver,
             ticket,
+            marker: _,
             finished: _,
         } = self;
         if let Some(ticket) = ticket {
@@ -390,6 +404,7 @@ impl<'a, T: Drop, R: Wait + Clone + Drop> Closed<'a, T, R> {
         Closed {
             sender,
             ticket: None,
+            marker: Marker::new(),
             finished: false,
         }
     }
@@ -428,7 +443,7 @@ impl<T: Drop, R: Wait + Clone + Drop> Future for Closed<'_, T, R> {
     {
         let link = &self.sender.get().link;
         let (channel, mut pass) = link.channel();
-        let (p, t, m) = (&mut pass, &mut self.ticket, &mut Marker);
+        let (p, t, m) = (&mut pass, &mut self.ticket, &mut self.marker);
         match channel.closed_or_wait(&link.rt, p, t, m, cx) {
             Ok(Poll::Ready(())) => {
                 self.finished = true;
@@ -448,6 +463,7 @@ impl<T: Drop, R: Wait + Clone + Drop> Drop for Closed<'_, T, R> {
         let Self {
             sender,
             mut ticket,
+            marker: _,
             finished: _,
         } = self;
         if ticket.is_some() {

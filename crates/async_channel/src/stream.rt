@@ -10,7 +10,7 @@ use crate::handles::Receiver;
 use channel_core::OutOfMemory;
 use futures::Stream;
 use futures::task::{Context, Poll};
-use ruled_channel::{Marker, Unruled};
+use ruled_channel::Unruled;
 use std::sync::Wait;
 
 /// The messages of a channel, as this receiver gets them. The stream ends when the channel is
@@ -48,7 +48,7 @@ impl<T: Drop, R: Wait + Clone + Drop> Stream for Receiver<T, R> {
             &link.rt,
             &mut pass,
             &mut self.ticket,
-            &mut Marker,
+            &mut self.marker,
             cx,
         );
         match polled {

@@ -35,6 +35,7 @@ pub struct UntilClosed<'r, 'c, T: Drop, V, P: Protocol<T, V>, R: Wait> {
     // None, once a poll was ready.
     pass: Option<Pass<T, V>>,
     ticket: Option<Ticket>,
+    marker: Marker,
     ghost owns: { ForSome pass (λ p. IsPassOf channel.now p) },
     // Only who has its pass may wait.
     ghost rests: { pass ≡ None → ticket ≡ None },
@@ -68,6 +69,7 @@ impl<T: Drop, V, P: Protocol<T, V>> RuledChannel<T, V, P> {
             channel: self,
             pass: Some(pass),
             ticket: None,
+            marker: Marker::new(),
         }
     }
 }
@@ -107,7 +109,7 @@ impl<T: Drop, V, P: Protocol<T, V>, R: Wait> Future for UntilClosed<'_, '_, T, V
             unreachable!()
         };
         let (channel, ticket) = (self.channel, &mut self.ticket);
-        match channel.closed_or_wait(self.rt, &mut pass, ticket, &mut Marker, cx) {
+        match channel.closed_or_wait(self.rt, &mut pass, ticket, &mut self.marker, cx) {
             Ok(Poll::Ready(())) => Poll::Ready((pass, Ok(()))),
             Ok(Poll::Pending) => {
                 self.pass = Some(pass);
@@ -165,6 +167,7 @@ impl<T: Drop, V, P: Protocol<T, V>, R: Wait> Drop for UntilClosed<'_, '_, T, V, 
             channel: _,
             pass: _,
             ticket,
+            marker: _,
         } = self;
         Ticket::destroy_none(ticket);
     }

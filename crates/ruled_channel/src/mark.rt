@@ -11,13 +11,13 @@
 //! 1. It asks for what its mark takes memory for. If that is refused nothing has changed.
 //! 2. It waits by a mark without a waker. Now it has an entry for sure, and what that held untold
 //!    comes back.
-//! 3. It registers its task where the waker that came back lies: one of this task stays, and one of
-//!    another task is woken. If none came back a new one is made.
+//! 3. It registers its task where the waker that came back lies, or one that it kept: one of this
+//!    task stays, and one of another task is woken. Without either a new one is made.
 //! 4. It waits again, by the mark with this waker. The entry keeps its place.
 //!
 //! If no waker can be made, `futures` polls the task again of itself, and the mark stays without
-//! one. A mark that leaves the list untold is dropped once the lock is free. That wakes its own
-//! task, which is polled once more for nothing.
+//! one. With a poll that is ready the mark of an untold entry leaves the list. The operation keeps
+//! its waker for a later wait, and drops it when it ends.
 //!
 //! A blocked thread has no waker. It sleeps at a cell of its own, its mark is that cell, and so
 //! just the one that was told wakes. The cell takes memory only when its owner begins to wait.
@@ -123,18 +123,35 @@ pub trait Waiter<C> {
         ensures made { waits_by cx.new source.now.id result }
         ensures kept { keeps cx.old cx.new };
 
+    /// Keeps the mark that left the list with its entry, until a later wait or its own end.
+    fn keep(&mut self, left: Option<Mark>);
+
     // proof: a context may stay as it is
     ghost keeps_itself: { (cx : C) → keeps cx cx };
 }
 
-/// What makes the marks of a task.
+/// What makes the marks of an operation's task. It has the waker that lies in no mark.
 ///
 /// ```
-/// let mut marker = Marker;
-/// assert!(rt; marker.cell(rt.alloc()).is_ok());
+/// let mut marker = Marker::new();
+/// marker.keep(None);
 /// ```
 #[derive(Drop)]
-pub struct Marker;
+pub struct Marker {
+    waker: Option<Waker>,
+}
+
+impl Marker {
+    /// One without a waker.
+    ///
+    /// ```
+    /// let mut marker = Marker::new();
+    /// assert!(rt; marker.cell(rt.alloc()).is_ok());
+    /// ```
+    pub fn new() -> Marker {
+        Marker { waker: None }
+    }
+}
 
 /// A task waits by its waker, and is registered with the source.
 impl Waiter<Context<'_>> for Marker {
@@ -157,13 +174,15 @@ impl Waiter<Context<'_>> for Marker {
         source: &Source,
         cx: &mut Context<'_>,
     ) -> Mark {
-        let mut waker = match held {
-            Some(Mark::Task(waker)) => waker,
-            Some(Mark::Thread(_cell)) => None,
-            None => None,
-        };
-        let _pending: Poll<()> = cx.register(source, &mut waker);
-        Mark::Task(waker)
+        self.keep(held);
+        let _pending: Poll<()> = cx.register(source, &mut self.waker);
+        Mark::Task(self.waker.take())
+    }
+
+    fn keep(&mut self, left: Option<Mark>) {
+        if let Some(Mark::Task(waker)) = left {
+            self.waker = waker;
+        }
     }
 }
 
@@ -236,4 +255,6 @@ impl Waiter<()> for Sleeper {
     ) -> Mark {
         Mark::Thread(own)
     }
+
+    fn keep(&mut self, _left: Option<Mark>) {}
 }

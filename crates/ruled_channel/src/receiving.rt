@@ -40,6 +40,7 @@ pub struct RecvAs<'r, 'c, T: Drop, V, P: Protocol<T, V>, M, E, R: Wait> {
     // None, once a poll was ready.
     pass: Option<Pass<T, V>>,
     ticket: Option<Ticket>,
+    marker: Marker,
     tells: PhantomData<(M, E)>,
     ghost owns: { ForSome pass (λ p. IsPassOf channel.now p) },
     // Only who has its pass may wait.
@@ -78,6 +79,7 @@ impl<T: Drop, V, P: Protocol<T, V>> RuledChannel<T, V, P> {
             channel: self,
             pass: Some(pass),
             ticket: None,
+            marker: Marker::new(),
             tells: PhantomData,
         }
     }
@@ -126,7 +128,7 @@ impl<T: Drop, V, P: Protocol<T, V>, M: Received<T, V>, E: AtEnd<V>, R: Wait> Fut
             unreachable!()
         };
         let (channel, ticket) = (self.channel, &mut self.ticket);
-        let waiter = &mut Marker;
+        let waiter = &mut self.marker;
         match channel.recv_or_wait_as::<M, E, R, _, _>(self.rt, &mut pass, ticket, waiter, cx) {
             Ok(Poll::Ready(answer)) => Poll::Ready((pass, Ok(answer))),
             Ok(Poll::Pending) => {
@@ -186,6 +188,7 @@ impl<T: Drop, V, P: Protocol<T, V>, M, E, R: Wait> Drop for RecvAs<'_, '_, T, V,
             channel: _,
             pass: _,
             ticket,
+            marker: _,
             tells: _,
         } = self;
         Ticket::destroy_none(ticket);

@@ -2,8 +2,7 @@
 //!
 //! A step under the lock rings it with the marks of those whom it tells. It keeps the first mark,
 //! without an allocation, until the lock is free, so that who is woken doesn't run into it; further
-//! marks are woken under the lock. So is the mark kept that leaves the list with the step's own
-//! entry, since a waker wakes when it is dropped.
+//! marks are woken under the lock.
 ghost use Rattle.std.specs.Prelude.{◌≡◌, []};
 ghost use Rattle.ruled_channel.specs.Passes.{IsPassOf};
 ghost use Rattle.ruled_channel.specs.Rung.{in_turn_of_waking};
@@ -23,8 +22,6 @@ pub(crate) struct Ringer {
     first: Option<Mark>,
     // Those that it was rung with after the first.
     woken: Woken,
-    // The mark that left the list with the step's own entry.
-    left: Option<Mark>,
 }
 
 /// The marks that it was rung with, in order.
@@ -49,20 +46,11 @@ impl Ringer {
         Ringer {
             first: None,
             woken: Woken::nobody(),
-            left: None,
         }
     }
 
-    /// Keeps the mark that left the list with the step's own entry, until the lock is free.
-    #[inline(always)]
-    pub(crate) fn keep(&mut self, left: Option<Mark>)
-        ensures { self.new ≡ self.old }
-    {
-        self.left = left;
-    }
-
-    /// Wakes the first one, once the lock was given back, and drops the mark that left. The answer
-    /// is who was woken in all, the first one last.
+    /// Wakes the first one, once the lock was given back. The answer is who was woken in all, the
+    /// first one last.
     #[inline(always)]
     pub(crate) fn wake_after<T: Drop, V, P: Protocol<T, V>>(
         self,
@@ -72,11 +60,7 @@ impl Ringer {
         requires free { IsPassOf _channel.now _pass.now }
         ensures { result ≡ in_turn_of_waking self }
     {
-        let Self {
-            first,
-            mut woken,
-            left: _,
-        } = self;
+        let Self { first, mut woken } = self;
         if let Some(mark) = first {
             mark.wake(&mut woken);
         }

@@ -40,6 +40,7 @@ pub struct SendAs<'r, 'c, T: Drop, V, P: Protocol<T, V>, M, L, R: Wait> {
     // None, once a poll was ready.
     parts: Option<(Pass<T, V>, T)>,
     ticket: Option<Ticket>,
+    marker: Marker,
     tells: PhantomData<(M, L)>,
     ghost owns: { ForSome parts (λ h. IsPassOf channel.now h.0) },
     // Only who has its pass may wait.
@@ -81,6 +82,7 @@ impl<T: Drop, V, P: Protocol<T, V>> RuledChannel<T, V, P> {
             channel: self,
             parts: Some((pass, message)),
             ticket: None,
+            marker: Marker::new(),
             tells: PhantomData,
         }
     }
@@ -128,7 +130,7 @@ impl<T: Drop, V, P: Protocol<T, V>, M: Sent<T, V>, L: Lesson<T, V>, R: Wait> Fut
             unreachable!()
         };
         let (channel, t) = (self.channel, &mut self.ticket);
-        let waiter = &mut Marker;
+        let waiter = &mut self.marker;
         match channel.send_or_wait_as::<M, L, R, _, _>(self.rt, &mut pass, message, t, waiter, cx) {
             Ok(Ok(())) => Poll::Ready((pass, Ok(Ok(())))),
             Ok(Err(TrySendError::Closed(back))) => Poll::Ready((pass, Ok(Err(SendError(back))))),
@@ -190,6 +192,7 @@ impl<T: Drop, V, P: Protocol<T, V>, M, L, R: Wait> Drop for SendAs<'_, '_, T, V,
             channel: _,
             parts: _,
             ticket,
+            marker: _,
             tells: _,
         } = self;
         Ticket::destroy_none(ticket);

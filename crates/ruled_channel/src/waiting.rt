@@ -60,7 +60,7 @@ impl<T: Drop, V, P: Protocol<T, V>> RuledChannel<T, V, P> {
         }
         let mut left = None;
         let polled = core.poll_recv_with(ticket, &mut None, bell, &mut left);
-        bell.keep(left);
+        waiter.keep(left);
         polled
     }
 
@@ -123,7 +123,7 @@ impl<T: Drop, V, P: Protocol<T, V>> RuledChannel<T, V, P> {
         }
         let mut left = None;
         let polled = core.poll_next_with(ticket, &mut None, bell, &mut left);
-        bell.keep(left);
+        waiter.keep(left);
         polled
     }
 
@@ -191,7 +191,7 @@ impl<T: Drop, V, P: Protocol<T, V>> RuledChannel<T, V, P> {
         let mut left = None;
         match core.poll_send_with(message, ticket, &mut None, bell, &mut left)? {
             Poll::Ready(answer) => {
-                bell.keep(left);
+                waiter.keep(left);
                 Ok(Poll::Ready(answer))
             }
             // A poll without a message.
@@ -248,7 +248,6 @@ impl<T: Drop, V, P: Protocol<T, V>> RuledChannel<T, V, P> {
         ticket: &mut Option<Ticket>,
         waiter: &mut W,
         cx: &mut C,
-        bell: &mut Ringer,
     ) -> Result<Poll<()>, OutOfMemory>
         ensures reply { IfOk result (λ poll. poll ≡ closed_poll (core.old.receivers == 0)) }
         ensures after { OnReady result (core.new ≡ record core.old {
@@ -259,7 +258,6 @@ impl<T: Drop, V, P: Protocol<T, V>> RuledChannel<T, V, P> {
             × ClosedWaits ticket.old core.old w ticket.new core.new) }
         ensures keeps { W.keeps cx.old cx.new }
         ensures kept { core.new ≡ record core.old { closeds = core.new.closeds } }
-        ensures silent { bell.new ≡ bell.old }
         ensures unchanged { OnErr result ((core.new ≡ core.old) × (ticket.new ≡ ticket.old)) }
         ensures wanted { OnErr result (0 < core.old.receivers) }
     {
@@ -269,7 +267,7 @@ impl<T: Drop, V, P: Protocol<T, V>> RuledChannel<T, V, P> {
         }
         let mut left = None;
         let polled = core.poll_closed_with(ticket, &mut None, &mut left);
-        bell.keep(left);
+        waiter.keep(left);
         polled
     }
 
@@ -550,10 +548,9 @@ impl<T: Drop, V, P: Protocol<T, V>> RuledChannel<T, V, P> {
         ensures unpolled { OnErr result ((ticket.new ≡ ticket.old) × HasMade unchanged pass.new) }
     {
         let held = self.mutex.lock(rt, &mut pass.lock);
-        let mut bell = Ringer::new();
         let core = pass.lock.value_mut(&self.mutex, &held);
-        let polled = self.poll_closed(core, ticket, waiter, cx, &mut bell);
-        self.give_back::<Kept<Seen<P>>>(pass, held, bell);
+        let polled = self.poll_closed(core, ticket, waiter, cx);
+        self.give_back::<Kept<Seen<P>>>(pass, held, Ringer::new());
         polled
     }
 
