@@ -98,6 +98,7 @@ impl Mark {
 /// ```
 /// fn mark_of<C, W: Waiter<C>>(alloc: Global, waiter: &mut W, cx: &mut C) -> Option<Mark> {
 ///     let cell = waiter.cell(alloc).ok()?;
+///     waiter.keep(None);
 ///     Some(waiter.mark(cell, None, &Source::new(), cx))
 /// }
 ///
