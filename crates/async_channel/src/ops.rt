@@ -13,7 +13,7 @@ use crate::owned::OwnedOrRef;
 use channel_core::{NoMemory, OutOfMemory, RecvError, SendError, Ticket, TrySendError};
 use futures::Future;
 use futures::task::{Context, Poll};
-use ruled_channel::{Marker, Unruled, Waiter};
+use ruled_channel::{Mark, Marker, Unruled, Waiter};
 use std::marker::Model;
 use std::sync::Wait;
 
@@ -223,14 +223,16 @@ impl<'a, T: Drop, R: Wait + Clone + Drop> Send<'a, T, R> {
     }
 
     // Registers the task of a finished one, which stays pending.
-    fn rest(&mut self, cx: &mut Context<'_>)
+    fn rest(&mut self, cx: &mut Context<'_>) -> Result<(), OutOfMemory>
         ensures kept { self.new ≡ self.old }
-        ensures registered { Covers cx.new (λ source. source ≡ self.old.source) }
+        ensures registered { OnOk result (Covers cx.new (λ source. source ≡ self.old.source)) }
         ensures keeps { Keeps cx.old cx.new }
     {
         let source = self.sender.get().link.shared.channel.source();
         let mark = self.marker.mark((), None, source, cx);
+        let is_made = !matches!(&mark, Mark::Task(None));
         self.marker.keep(Some(mark));
+        if is_made { Ok(()) } else { Err(OutOfMemory) }
     }
 
     /// Withdraws the operation, and gives the message of an unfinished one.
@@ -274,8 +276,10 @@ impl<T: Drop, R: Wait + Clone + Drop> Future for Send<'_, T, R> {
         ensures rests { OnPending result (self.old.message ≡ None → self.new ≡ self.old) }
     {
         let Some(message) = self.message.take() else {
-            self.rest(cx);
-            return Poll::Pending;
+            return match self.rest(cx) {
+                Ok(()) => Poll::Pending,
+                Err(OutOfMemory) => Poll::Ready(Err(OutOfMemory)),
+            };
         };
         let link = &self.sender.get().link;
         let (channel, mut pass) = link.channel();

@@ -1,12 +1,12 @@
 -- Who waits twice in a row waits as by the second payload alone.
-use Rattle.std.proofs.Common.{◌≡◌, ◌==◌, ℕ, Bool, true, false, not, cond, List, [], ◌∷◌, ◌++◌, map, filter, Option, Some, None, IsSomeAnd, refl, sym, ap, ◌∙◌, subst, inl, inr}
+use Rattle.std.proofs.Common.{◌≡◌, ◌==◌, ℕ, Bool, true, false, not, cond, List, [], ◌∷◌, map, filter, Option, Some, None, IsSomeAnd, refl, sym, ap, ◌∙◌, subst, inl, inr}
 use Rattle.std.proofs.lemmas.Bool.{cases_Bool, or_from, or_right}
 use Rattle.std.proofs.lemmas.List.{map-append}
 use Rattle.event_list.specs.Keys.{is_among}
 use Rattle.event_list.specs.Waiting.{Waiting, joined, keys, renewed, repaid, untold_keys, without}
 use Rattle.event_list.proofs.Splits.{absent_right, eqb_same, is_among-append, repaid-absent}
 use Rattle.channel_core.specs.Channel.{Channel, ClosedWaits, NextWaits, RecvWaits, SendWaits}
-use Rattle.channel_core.specs.Tickets.{Waits, waits, waiting_again}
+use Rattle.channel_core.specs.Tickets.{Waits, waiting_again}
 
 module _ {W : Type 0} (key : ℕ) (first second : W) where
   abbrev pays : W → ℕ × W → ℕ × W

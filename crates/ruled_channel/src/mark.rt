@@ -8,16 +8,14 @@
 //! in one task made 2,406 polls in 100 ms, in place of 4. A poll that can't go on does this, all
 //! under the channel's lock:
 //!
-//! 1. It asks for what its mark takes memory for. If that is refused nothing has changed.
-//! 2. It waits by a mark without a waker. Now it has an entry for sure, and what that held untold
-//!    comes back.
-//! 3. It registers its task where the waker that came back lies, or one that it kept: one of this
-//!    task stays, and one of another task is woken. Without either a new one is made.
-//! 4. It waits again, by the mark with this waker. The entry keeps its place.
+//! 1. If it has no entry, or a told one, it makes a mark and waits by it. If no waker can be made,
+//!    or no memory is left, nothing has changed.
+//! 2. If its entry is untold, it waits by a mark without a waker, and gets the mark that the entry
+//!    held. It registers its task where the waker of that mark lies: one of this task stays, and one
+//!    of another task is woken. Then it waits by the mark with this waker. The entry keeps its place.
 //!
-//! If no waker can be made, `futures` polls the task again of itself, and the mark stays without
-//! one. With a poll that is ready the mark of an untold entry leaves the list. The operation keeps
-//! its waker for a later wait, and drops it when it ends.
+//! With a poll that is ready the mark of an untold entry leaves the list. The operation keeps its
+//! waker for a later wait, and drops it when it ends.
 //!
 //! A blocked thread has no waker. It sleeps at a cell of its own, its mark is that cell, and so
 //! just the one that was told wakes. The cell takes memory only when its owner begins to wait.

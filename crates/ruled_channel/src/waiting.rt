@@ -1,9 +1,8 @@
 //! Polls of the channel by whatever waits: the task of a future, or a blocked thread.
 //!
 //! A poll looks without a mark first. One that is ready needs none, nor memory for it; one that
-//! isn't has changed nothing. Then it waits under the same lock, so that whoever tells it finds its
-//! mark: first by a mark without a waker, for the one that its entry held, and then by its own. That
-//! is out of line, and the look is in its caller.
+//! isn't has changed nothing. Then it waits by its mark under the same lock, so that whoever tells it
+//! finds that; `mark` says how. That is out of line, and the look is in its caller.
 ghost use Rattle.std.specs.Prelude.{◌≡◌, ◌<◌, ◌==◌, ◌⊎◌, [], ◌++◌, Some, None, IfOk, IfErr, IfSome, IfNone, IsSome, OnOk, OnErr};
 ghost use Rattle.futures.specs.Poll.{IfReady};
 ghost use Rattle.futures.specs.declared.task.Poll.TheVariants.{Pending};
@@ -23,12 +22,39 @@ use crate::outcomes::{AtEnd, Kept, Lesson, Received, ReceivedOrKept, Seen, Sent,
 use crate::pass::Pass;
 use crate::protocol::Protocol;
 use crate::ringer::Ringer;
-use channel_core::{Core, NoMemory, OutOfMemory, RecvError, SendError, Ticket, TrySendError};
-use futures::task::Poll;
+use channel_core::{
+    Core, Group, NoMemory, OutOfMemory, RecvError, SendError, Ticket, TrySendError,
+};
+use futures::task::{Poll, Source};
 use ruled_mutex::Unruled;
 use std::sync::Wait;
 
 // ## Under the lock
+
+// Whether an operation waits, and wasn't told.
+fn is_untold<T: Drop>(core: &Core<T, Mark>, group: Group, ticket: &Option<Ticket>) -> bool {
+    match ticket {
+        Some(ticket) => core.is_told(group, ticket) == Some(false),
+        None => false,
+    }
+}
+
+// The mark of an entry that holds none. It is refused if no waker could be made.
+fn first_mark<C, W: Waiter<C>>(
+    waiter: &mut W,
+    cell: W::Cell,
+    source: &Source,
+    cx: &mut C,
+) -> Result<Mark, OutOfMemory>
+    ensures made { IfOk result (W.waits_by cx.new source.now.id) }
+    ensures keeps { W.keeps cx.old cx.new }
+{
+    match waiter.mark(cell, None, source, cx) {
+        Mark::Task(None) => Err(OutOfMemory),
+        mark => Ok(mark),
+    }
+}
+
 impl<T: Drop, V, P: Protocol<T, V>> RuledChannel<T, V, P> {
     #[tactic(auto, using(crate::proofs::Logging::logs, crate::proofs::Logging::logs_if_ready))]
     #[inline(always)]
@@ -82,6 +108,15 @@ impl<T: Drop, V, P: Protocol<T, V>> RuledChannel<T, V, P> {
         ensures unchanged { OnErr result ((core.new ≡ core.old) × (ticket.new ≡ ticket.old)) }
     {
         let cell = waiter.cell(self.alloc)?;
+        if !is_untold(core, Group::Receives, ticket) {
+            let mut mark = Some(first_mark(waiter, cell, &self.source, cx)?);
+            let polled = core.poll_recv_with(ticket, &mut mark, bell, &mut None);
+            waiter.keep(mark);
+            return match polled? {
+                Poll::Pending => Ok(()),
+                Poll::Ready(_) => unreachable!(),
+            };
+        }
         let mut held = None;
         match core.poll_recv_with(ticket, &mut Some(Mark::Task(None)), bell, &mut held)? {
             Poll::Pending => {}
@@ -144,6 +179,15 @@ impl<T: Drop, V, P: Protocol<T, V>> RuledChannel<T, V, P> {
         ensures unchanged { OnErr result ((core.new ≡ core.old) × (ticket.new ≡ ticket.old)) }
     {
         let cell = waiter.cell(self.alloc)?;
+        if !is_untold(core, Group::Streams, ticket) {
+            let mut mark = Some(first_mark(waiter, cell, &self.source, cx)?);
+            let polled = core.poll_next_with(ticket, &mut mark, bell, &mut None);
+            waiter.keep(mark);
+            return match polled? {
+                Poll::Pending => Ok(()),
+                Poll::Ready(_) => unreachable!(),
+            };
+        }
         let mut held = None;
         match core.poll_next_with(ticket, &mut Some(Mark::Task(None)), bell, &mut held)? {
             Poll::Pending => {}
@@ -222,6 +266,15 @@ impl<T: Drop, V, P: Protocol<T, V>> RuledChannel<T, V, P> {
         ensures unchanged { OnErr result ((core.new ≡ core.old) × (ticket.new ≡ ticket.old)) }
     {
         let cell = waiter.cell(self.alloc)?;
+        if !is_untold(core, Group::Sends, ticket) {
+            let mut mark = Some(first_mark(waiter, cell, &self.source, cx)?);
+            let polled = core.poll_send_with(message, ticket, &mut mark, bell, &mut None);
+            waiter.keep(mark);
+            return match polled? {
+                Poll::Pending => Ok(()),
+                Poll::Ready(_) => unreachable!(),
+            };
+        }
         let mut held = None;
         match core.poll_send_with(
             message,
@@ -286,6 +339,15 @@ impl<T: Drop, V, P: Protocol<T, V>> RuledChannel<T, V, P> {
         ensures unchanged { OnErr result ((core.new ≡ core.old) × (ticket.new ≡ ticket.old)) }
     {
         let cell = waiter.cell(self.alloc)?;
+        if !is_untold(core, Group::Closeds, ticket) {
+            let mut mark = Some(first_mark(waiter, cell, &self.source, cx)?);
+            let polled = core.poll_closed_with(ticket, &mut mark, &mut None);
+            waiter.keep(mark);
+            return match polled? {
+                Poll::Pending => Ok(()),
+                Poll::Ready(_) => unreachable!(),
+            };
+        }
         let mut held = None;
         match core.poll_closed_with(ticket, &mut Some(Mark::Task(None)), &mut held)? {
             Poll::Pending => {}
