@@ -13,10 +13,10 @@ use channel_core::Group;
 use channel_model::{OutOfMemory, Reply, Who};
 
 impl<T: Drop> Run<T> {
-    /// Room for as many replies as there are waiting entries.
+    /// Room for as many replies as there are waiting entries, and for no others.
     pub(crate) fn room_for_replies(&self) -> Result<Vec<(Who, Reply<T>)>, OutOfMemory>
         ensures empty { IfOk result (λ replies. replies.items ≡ []) }
-        ensures room { IfOk result (λ replies. waiting_in self.now.rosters ≤ vec_capacity replies) }
+        ensures room { IfOk result (λ replies. vec_capacity replies ≡ waiting_in self.now.rosters) }
         ensures few { waiting_in self.now.rosters < 2 ^ 64 }
         ensures wanted { OnErr result (0 < waiting_in self.now.rosters) }
     {

@@ -10,7 +10,7 @@ use crate::proved::channel_core::Group;
 use crate::proved::channel_model::{OutOfMemory, Reply, Who};
 
 impl<T> Run<T> {
-    /// Room for as many replies as there are waiting entries.
+    /// Room for as many replies as there are waiting entries, and for no others.
     #[inline]
     pub(in super::super) fn room_for_replies(&self) -> Result<Vec<(Who, Reply<T>)>, OutOfMemory> {
         match Vec::with_capacity(self.alloc, self.waiting()) {
