@@ -84,9 +84,10 @@ fn answers_of<A: Exact, B: Drop, J: Job<A, B>>(
     Ok(answers)
 }
 
-// As many slots as the count, with nothing in them.
+// As many slots as the count, with nothing in them, and room for no others.
 fn vacant<B: Drop>(alloc: Global, count: usize) -> Result<Vec<Option<B>>, AllocError>
-    ensures { IfOk result (λ slots. slots.items ≡ replicate count None) }
+    ensures empty { IfOk result (λ slots. slots.items ≡ replicate count None) }
+    ensures room { IfOk result (λ slots. vec_capacity slots ≡ count) }
 {
     let mut slots = Vec::with_capacity(alloc, count)?;
     for _ in 0..count {

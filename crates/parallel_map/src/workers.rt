@@ -113,6 +113,7 @@ where
     ensures own { AreEndsOf task.now.places task.now.chunks result.0.places result.0.chunks }
     ensures done { IsTrue result.1 → AreDone (map J.answer task.now.inputs.now) task.now.size
         result.0.places result.0.chunks }
+    ensures open { IsTrue result.1 → sender_closed result.0.chunks ≡ sender_closed ends.chunks }
     ensures gave_up { result.1 ≡ false → (receiver_closed result.0.places ≡ true)
         × (sender_closed result.0.chunks ≡ true) }
 {
@@ -290,6 +291,7 @@ fn send_place<A, B: Drop, J, G, R: Wait>(
     ensures collector { IsSome result → IsCollectorOf task.now.chunks collector.new }
     ensures sent { IsSome result → sent_by feeder.new ≡ sent_by feeder.old ++ from ∷ [] }
     ensures most { IfSome result (λ out. out ≤ task.now.most_out) }
+    ensures fewer { before < task.now.most_out → IfSome result (λ out. out ≡ before + 1) }
     ensures out { IfSome result (λ out. out + length (got_by collector.new.receiver)
         ≡ before + 1 + length (got_by collector.old.receiver)) }
 {

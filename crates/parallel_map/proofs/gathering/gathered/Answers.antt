@@ -6,7 +6,7 @@ use Rattle.parallel_map.proofs.gathering.gathered.Goals as goal
 pub loop-piece-init : goal.loop-piece-init
 loop-piece-init g c = (
   none_sound c.args.inputs.now,
-  rw c.in-Ok-vacant.ensures
+  rw c.in-Ok-vacant.ensures.empty
       (none_filled g.J.Job.answer c.args.inputs.now),
 )
 

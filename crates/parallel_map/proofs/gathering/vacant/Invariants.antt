@@ -1,10 +1,10 @@
-use Rattle.std.proofs.Common.{◌≡◌, ◌≤◌, replicate, None, vec_len, vec_capacity}
+use Rattle.std.proofs.Common.{◌≡◌, replicate, None, vec_len, vec_capacity}
 use Rattle.parallel_map.proofs.gathering.vacant.Given as goal
 
--- so many slots are there, and there is room for the others
+-- so many slots are there, and there is room for the others, and for no more
 abbrev pub invariant-loop : goal.invariant-loop
 invariant-loop g l = record {
   items : l.slots.items ≡ replicate l.counter None;
   len : vec_len l.slots ≡ l.counter;
-  room : l.count ≤ vec_capacity l.slots;
+  room : vec_capacity l.slots ≡ l.count;
 }
