@@ -1,11 +1,11 @@
 -- What contracts see of a receive of all messages.
-use Rattle.std.specs.Prelude.{ℕ}
+use Rattle.std.specs.Prelude.{ℕ, Option}
 use Rattle.std.specs.declared.alloc.Global.{Global}
 use Rattle.std.specs.declared.vec.Vec.{Vec}
 use Rattle.ruled_channel_rules.specs.declared.handles.Channel.{Channel}
 use Rattle.ruled_channel_rules.specs.declared.handles.Receiver.{Receiver}
 use Rattle.ruled_channel_rules.specs.declared.receiving.Collect.{Collect}
-use Rattle.ruled_channel_rules.specs.Collecting.{MayCollect, waits_at as waits_at_below}
+use Rattle.ruled_channel_rules.specs.Collecting.{HasWaited as HasWaitedBelow, MayCollect, ticket_of as ticket_below, waits_at as waits_at_below}
 
 module _ {T R : Type 0} where
   abbrev pub channel_of : Collect T R → Channel T
@@ -27,3 +27,11 @@ module _ {T R : Type 0} where
   -- the sources that it waits for
   abbrev pub waits_at : Collect T R → ℕ → Type 0
   waits_at future = waits_at_below future.parts
+
+  -- the key of the entry of the receive that waits
+  abbrev pub ticket_of : Collect T R → Option ℕ
+  ticket_of future = ticket_below future.parts
+
+  -- its receive waits, and its last poll left it so
+  abbrev pub HasWaited : Option ℕ → Collect T R → Type 0
+  HasWaited ticket future = HasWaitedBelow ticket future.parts

@@ -1,5 +1,5 @@
 -- When a receive of all messages may be polled, and what it gives.
-use Rattle.std.specs.Prelude.{◌≡◌, ℕ, true, List, Option, Result, OnOk, OnErr, IsSomeAnd}
+use Rattle.std.specs.Prelude.{◌≡◌, ℕ, true, List, Option, Some, None, Result, OnOk, OnErr, IsSomeAnd}
 use Rattle.std.specs.declared.alloc.Global.{Global}
 use Rattle.std.specs.declared.vec.Vec.{Vec}
 use Rattle.channel_model.specs.declared.errors.OutOfMemory.{OutOfMemory}
@@ -9,6 +9,7 @@ use Rattle.ruled_channel_rules.specs.declared.handles.Channel.{Channel}
 use Rattle.ruled_channel_rules.specs.declared.handles.Receiver.{Receiver}
 use Rattle.ruled_channel_rules.specs.declared.receiving.Recv.{Recv}
 use Rattle.ruled_channel_rules.specs.Handles.{IsReceiverOf, receiver_closed, has_ended}
+use Rattle.ruled_channel_rules.specs.Recv.{HasWaited as HasReceiveWaited, ticket_of as ticket_of_receive}
 use Rattle.ruled_channel_rules.specs.Receiving.{MayReceive, HasAdded}
 
 module _ {T : Type 0} where
@@ -39,3 +40,12 @@ module _ {T : Type 0} where
     abbrev pub waits_at : Option (Recv T R × Vec T Global) → ℕ → Type 0
     waits_at parts source = IsSomeAnd parts
         (λ h. IsSomeAnd h.0.inner (λ b. source ≡ source_of (channel_below b)))
+
+    -- the key of the entry of the receive that waits
+    abbrev pub ticket_of : Option (Recv T R × Vec T Global) → Option ℕ
+    ticket_of None = None
+    ticket_of (Some h) = ticket_of_receive h.0
+
+    -- a receive waits, and its last poll left it so
+    abbrev pub HasWaited : Option ℕ → Option (Recv T R × Vec T Global) → Type 0
+    HasWaited ticket parts = IsSomeAnd parts (λ h. HasReceiveWaited ticket h.0)

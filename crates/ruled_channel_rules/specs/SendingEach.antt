@@ -1,5 +1,5 @@
 -- When a send of several messages may be polled, and what it gives.
-use Rattle.std.specs.Prelude.{◌≡◌, ℕ, Bool, ◌||◌, List, ◌∷◌, ◌++◌, Result, IfOk, IfErr, IsSomeAnd}
+use Rattle.std.specs.Prelude.{◌≡◌, ℕ, Bool, ◌||◌, List, ◌∷◌, ◌++◌, Option, None, Result, IfOk, IfErr, IsSomeAnd}
 use Rattle.std.specs.declared.alloc.Global.{Global}
 use Rattle.std.specs.declared.collections.VecDeque.{VecDeque}
 use Rattle.channel_model.specs.declared.errors.NoMemory.{NoMemory}
@@ -12,6 +12,7 @@ use Rattle.ruled_channel_rules.specs.declared.sending.Send.{Send}
 use Rattle.ruled_channel_rules.specs.declared.sending.Turn.{Turn}
 use Rattle.ruled_channel_rules.specs.declared.sending.Turn.TheVariants.{Next, Wait, Over}
 use Rattle.ruled_channel_rules.specs.Handles.{IsSenderOf, sent_by, sender_closed}
+use Rattle.ruled_channel_rules.specs.Send.{HasWaited as HasSendWaited, ticket_of as ticket_of_send}
 use Rattle.ruled_channel_rules.specs.Sending.{MaySend, was_refused}
 
 module _ {T : Type 0} where
@@ -53,3 +54,13 @@ module _ {T : Type 0} where
     abbrev pub waits_at : Turn (Sender T) (Send T R) (VecDeque T Global) → ℕ → Type 0
     waits_at (Wait f rest) source = IsSomeAnd f.inner (λ b. source ≡ source_of (channel_below b))
     waits_at _ source = ⊥
+
+    -- the key of the entry of the send that waits
+    abbrev pub ticket_of : Turn (Sender T) (Send T R) (VecDeque T Global) → Option ℕ
+    ticket_of (Wait f rest) = ticket_of_send f
+    ticket_of _ = None
+
+    -- a send waits, and its last poll left it so
+    abbrev pub HasWaited : Option ℕ → Turn (Sender T) (Send T R) (VecDeque T Global) → Type 0
+    HasWaited ticket (Wait f rest) = HasSendWaited ticket f
+    HasWaited ticket _ = ⊥

@@ -1,7 +1,8 @@
 //! Receives as futures, which own their receiver and give it back.
-ghost use Rattle.std.specs.Prelude.{◌≡◌, IfSome, IfNone};
+ghost use Rattle.std.specs.Prelude.{◌≡◌, IfSome, IfNone, OnErr};
 ghost use Rattle.futures.specs.Task.{Covers, Keeps};
 ghost use Rattle.futures.specs.Poll.{IfReady, OnPending};
+ghost use Rattle.ruled_channel.specs.Steps.{HasMade, receive_given_up};
 ghost use Rattle.ruled_channel_rules.specs.Handles.{IsReceiverOf};
 ghost use Rattle.ruled_channel_rules.specs.Receiving.{TellsReceived, IsAsItWas};
 
@@ -66,7 +67,7 @@ impl<T: Drop> Receiver<T> {
 }
 
 impl<T: Drop, R: Wait> Future for Recv<'_, '_, T, R> {
-    ghost use Rattle.ruled_channel_rules.specs.Recv.{MayPoll, channel_of, receiver_of, waits_at};
+    ghost use Rattle.ruled_channel_rules.specs.Recv.{HasWaited, MayPoll, channel_of, receiver_of, ticket_of, waits_at};
 
     type Output = (Receiver<T>, Result<Result<T, RecvError>, OutOfMemory>);
 
@@ -85,6 +86,9 @@ impl<T: Drop, R: Wait> Future for Recv<'_, '_, T, R> {
             → TellsReceived (channel_of self.new) (receiver_of self.new) x
             → TellsReceived (channel_of self.old) (receiver_of self.old) x) }
         ensures registered { OnPending result (Covers cx.new (waits_at self.new)) }
+        ensures waits { OnPending result (HasWaited (ticket_of self.old) self.new) }
+        ensures given_up { IfReady result (λ out. OnErr out.1
+            (HasMade (receive_given_up (ticket_of self.old)) out.0.pass)) }
         ensures stays { (channel_of self.new ≡ channel_of self.old)
             × (receiver_of self.new ≡ receiver_of self.old) }
         ensures kept { Keeps cx.old cx.new }
@@ -220,7 +224,7 @@ impl<T: Drop, R: Wait> Future for Collect<'_, '_, T, R> {
 
 impl<T: Drop, R: Wait> Collect<'_, '_, T, R> {
     ghost use Rattle.ruled_channel_rules.specs.Collecting.{TellsCollected, HasGot};
-    ghost use Rattle.ruled_channel_rules.specs.Collect.{MayPoll, channel_of, list_of, receiver_of, waits_at};
+    ghost use Rattle.ruled_channel_rules.specs.Collect.{HasWaited, MayPoll, channel_of, list_of, receiver_of, ticket_of, waits_at};
 
     /// Gives it up before it was ready: its receiver, and the list with what came.
     ///
@@ -252,6 +256,7 @@ impl<T: Drop, R: Wait> Collect<'_, '_, T, R> {
         ensures goes_on { IfReady result (λ done. IfNone done (MayPoll self.new)) }
         ensures again { OnPending result (MayPoll self.new) }
         ensures registered { OnPending result (Covers cx.new (waits_at self.new)) }
+        ensures waits { OnPending result (HasWaited (ticket_of self.old) self.new) }
         ensures stays { (channel_of self.new ≡ channel_of self.old)
             × (receiver_of self.new ≡ receiver_of self.old)
             × (list_of self.new ≡ list_of self.old) }

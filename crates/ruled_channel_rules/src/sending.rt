@@ -1,7 +1,8 @@
 //! Sends as futures, which own their sender and give it back.
-ghost use Rattle.std.specs.Prelude.{◌≡◌, true, false, IfSome, IfNone};
+ghost use Rattle.std.specs.Prelude.{◌≡◌, true, false, IfSome, IfNone, OnErr};
 ghost use Rattle.futures.specs.Task.{Covers, Keeps};
 ghost use Rattle.futures.specs.Poll.{IfReady, OnPending};
+ghost use Rattle.ruled_channel.specs.Steps.{HasMade, send_given_up};
 ghost use Rattle.ruled_channel_rules.specs.Handles.{IsSenderOf};
 ghost use Rattle.ruled_channel_rules.specs.Sending.{Comes, TellsSent, IsAsItWas};
 
@@ -85,7 +86,7 @@ impl<T: Drop> Sender<T> {
 }
 
 impl<T: Drop, R: Wait> Future for Send<'_, '_, T, R> {
-    ghost use Rattle.ruled_channel_rules.specs.Send.{MayPoll, channel_of, message_of, sender_of, waits_at};
+    ghost use Rattle.ruled_channel_rules.specs.Send.{HasWaited, MayPoll, channel_of, message_of, sender_of, ticket_of, waits_at};
 
     type Output = (Sender<T>, SendResult<T>);
 
@@ -104,6 +105,9 @@ impl<T: Drop, R: Wait> Future for Send<'_, '_, T, R> {
             → TellsSent (channel_of self.new) (sender_of self.new) (message_of self.new) x
             → TellsSent (channel_of self.old) (sender_of self.old) (message_of self.old) x) }
         ensures registered { OnPending result (Covers cx.new (waits_at self.new)) }
+        ensures waits { OnPending result (HasWaited (ticket_of self.old) self.new) }
+        ensures given_up { IfReady result (λ out. OnErr out.1
+            (HasMade (send_given_up (ticket_of self.old)) out.0.pass)) }
         ensures stays { (channel_of self.new ≡ channel_of self.old)
             × (sender_of self.new ≡ sender_of self.old)
             × (message_of self.new ≡ message_of self.old) }
@@ -153,8 +157,9 @@ impl<T: Drop, R: Wait> Send<'_, '_, T, R> {
     fn answer(&self, mut sender: Sender<T>, sent: SendResult<T>) -> (Sender<T>, SendResult<T>)
         requires { Comes (channel_of self.now) (sender_of self.now) (message_of self.now)
             (sender, sent) }
-        ensures { TellsSent (channel_of self.now) (sender_of self.now) (message_of self.now)
+        ensures tells { TellsSent (channel_of self.now) (sender_of self.now) (message_of self.now)
             result }
+        ensures same { OnErr result.1 ((result.0 ≡ sender) × (sent ≡ result.1)) }
     {
         if let Ok(Err(_)) = &sent {
             sender.close(self.rt, self.channel);
@@ -293,7 +298,7 @@ impl<T: Drop> Sender<T> {
 impl<T: Drop, R: Wait> SendEach<'_, '_, T, R> {
     ghost use Rattle.std.specs.Prelude.{option_to_list, ◌++◌};
     ghost use Rattle.ruled_channel_rules.specs.SendingEach.{HasSentBut, TellsSentEach};
-    ghost use Rattle.ruled_channel_rules.specs.SendEach.{MayPoll, channel_of, closes_at_end, messages_of, sender_of, waits_at};
+    ghost use Rattle.ruled_channel_rules.specs.SendEach.{HasWaited, MayPoll, channel_of, closes_at_end, messages_of, sender_of, ticket_of, waits_at};
 
     /// Gives it up before it was ready: its sender, the message that waited to be sent, if one did,
     /// and the messages after it.
@@ -331,6 +336,7 @@ impl<T: Drop, R: Wait> SendEach<'_, '_, T, R> {
         ensures goes_on { IfReady result (λ done. IfNone done (MayPoll self.new)) }
         ensures again { OnPending result (MayPoll self.new) }
         ensures registered { OnPending result (Covers cx.new (waits_at self.new)) }
+        ensures waits { OnPending result (HasWaited (ticket_of self.old) self.new) }
         ensures stays { (channel_of self.new ≡ channel_of self.old)
             × (sender_of self.new ≡ sender_of self.old)
             × (messages_of self.new ≡ messages_of self.old)
