@@ -106,28 +106,22 @@ fn traced(rt: &impl Abort, alloc: Global, script: &[u8], byte: u8, last: &str) -
     written.as_slice().iter().filter(|it| **it == byte).count()
 }
 
+fn add(rt: &impl Abort, script: &mut Vec<u8>, lines: &[u8]) {
+    script.extend_from_slice(lines).expect(rt, "memory");
+}
+
 #[test]
 fn rows_of_a_trace(rt: HostRuntime) {
     let a = rt.alloc();
     let (mut polls, mut sends) = (Vec::new(a), Vec::new(a));
-    polls
-        .extend_from_slice(b"unbounded\n")
-        .expect(&rt, "memory");
-    sends
-        .extend_from_slice(b"unbounded\n")
-        .expect(&rt, "memory");
+    add(&rt, &mut polls, b"unbounded\n");
+    add(&rt, &mut sends, b"unbounded\n");
     for op in 0..TRACED {
         let lines = format!(in a; "recv o{op} r0\npoll o{op}\n").expect(&rt, "memory");
-        polls
-            .extend_from_slice(lines.as_bytes())
-            .expect(&rt, "memory");
-        sends
-            .extend_from_slice(b"try_send s0 7\n")
-            .expect(&rt, "memory");
+        add(&rt, &mut polls, lines.as_bytes());
+        add(&rt, &mut sends, b"try_send s0 7\n");
     }
-    polls
-        .extend_from_slice(b"close s0\nsettle\n")
-        .expect(&rt, "memory");
+    add(&rt, &mut polls, b"close s0\nsettle\n");
     let settled = "settle => settled 150 150 | held | waiting\n";
     let rows = traced(&rt, a, polls.as_slice(), b'\n', settled);
     assert_eq!(rt; rows, 3 + 3 * TRACED);

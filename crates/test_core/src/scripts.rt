@@ -37,7 +37,7 @@ pub fn at(line: u64, fault: Fault) -> End {
 fn ends_of_scripts(rt: HostRuntime) -> Result<(), Fail> {
     use Fault::*;
     let alloc = rt.alloc();
-    let examples: [(&str, &str, End); 19] = [
+    let examples: [(&str, &str, End); 18] = [
         // script with capacity zero
         ("bounded 0", "", at(1, CapacityZero)),
         // a cut script
@@ -48,12 +48,7 @@ fn ends_of_scripts(rt: HostRuntime) -> Result<(), Fail> {
         ),
         // empty input
         ("", "", at(1, ChannelMissing)),
-        // largest message
-        (
-            "unbounded\ntry_send s0 18446744073709551615\n",
-            "ok\n",
-            Ok(()),
-        ),
+        // the largest message, and one too large
         (
             "unbounded\ntry_send s0 18446744073709551615\ntry_send s0 18446744073709551616\n",
             "ok\n",

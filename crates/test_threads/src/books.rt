@@ -93,6 +93,7 @@ fn each_call_with_each_outcome(rt: HostRuntime) {
         records(&rt, 0, is_reversed, &CALLS);
         records(&rt, 3, is_reversed, &CALLS);
     }
+    assert!(rt; new_recorder(&rt, 0).finish(Vec::new(rt.alloc())).is_ok());
 }
 
 /// What comes of a recorder whose clerks also called another one, which has the same stamp. Clerk 0

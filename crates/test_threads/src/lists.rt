@@ -4,7 +4,7 @@ ghost use Rattle.ruled_channel_rules.specs.Handles.{IsHubOf, IsSenderOf, IsRecei
 use crate::waiting::new_task;
 use futures::executor::block_on;
 use futures::task::Poll;
-use ruled_channel_rules::{Channel, Hub, OutOfMemory, bounded, unbounded};
+use ruled_channel_rules::{Channel, Hub, OutOfMemory, SendError, TrySendError, bounded, unbounded};
 use std::alloc::{AllocGlobal, Global};
 use std::collections::VecDeque;
 use std::process::Abort;
@@ -19,9 +19,9 @@ const MANY: u32 = 100_000;
 type Relayed = (bool, Result<Vec<u32>, OutOfMemory>);
 
 /// The numbers from 0 on.
-fn numbers<R: AllocGlobal + Abort>(rt: &R, count: u32) -> VecDeque<u32> {
+fn numbers<R: AllocGlobal + Abort>(rt: &R, count: u32) -> Vec<u32> {
     let numbers = (0..count).collect::<Vec<_>>(rt.alloc());
-    VecDeque::from(numbers.expect(rt, "memory"))
+    numbers.expect(rt, "memory")
 }
 
 /// One thread sends the list and closes, another receives all.
@@ -58,11 +58,8 @@ fn relay<R: Threads + Wait + Sync>(
 #[test]
 fn two_threads_relay_a_list(rt: HostRuntime) {
     for (capacity, count) in [(1, 0), (1, 1000), (MANY, MANY)] {
-        let list = (0..count)
-            .collect::<Vec<_>>(rt.alloc())
-            .expect(&rt, "memory");
+        let (list, messages) = (numbers(&rt, count), VecDeque::from(numbers(&rt, count)));
         let (channel, mut hub) = bounded(rt.alloc(), capacity as usize).expect(&rt, "a channel");
-        let messages = numbers(&rt, count);
         let (all_sent, all) = relay(&rt, rt.alloc(), &channel, &mut hub, messages);
         assert!(rt; all_sent);
         assert!(rt; all.is_ok_and(|all| all.as_slice() == list.as_slice()));
@@ -70,8 +67,22 @@ fn two_threads_relay_a_list(rt: HostRuntime) {
 }
 
 #[test]
+fn each_send_says_what_it_found(rt: HostRuntime) {
+    let (line, mut hub) = bounded(rt.alloc(), 1).expect(&rt, "a channel");
+    let (mut s, mut latest) = (hub.sender(&line), hub.force_sender(&line));
+    assert_eq!(rt; s.try_send(&rt, &line, 1), Ok(Ok(())));
+    assert_eq!(rt; s.try_send(&rt, &line, 2), Ok(Err(TrySendError::Full(2))));
+    assert_eq!(rt; latest.force_send(&rt, &line, 3), Ok(Ok(Some(1))));
+    assert!(rt; s.close(&rt, &line) && !latest.close(&rt, &line));
+    assert_eq!(rt; s.try_send(&rt, &line, 4), Ok(Err(TrySendError::Closed(4))));
+    assert_eq!(rt; latest.force_send(&rt, &line, 5), Ok(Err(SendError(5))));
+    assert_eq!(rt; s.send_blocking(&rt, &line, 6), Ok(Err(SendError(6))));
+}
+
+#[test]
 fn sends_that_wait_keep_their_place(rt: HostRuntime) {
-    let (list, last) = (numbers(&rt, 2), numbers(&rt, 1));
+    let list = VecDeque::from(numbers(&rt, 2));
+    let last = VecDeque::from(numbers(&rt, 1));
     let (task, other) = (new_task(&rt), new_task(&rt));
     let (channel, mut hub) = bounded(rt.alloc(), 1).expect(&rt, "a channel");
     let (sender, next) = (hub.sender(&channel), hub.sender(&channel));
@@ -134,7 +145,7 @@ fn a_list_grows_by_more_than_a_message(rt: HostRuntime) {
     for is_collected in [false, true] {
         let (channel, mut hub) = unbounded(rt.alloc()).expect(&rt, "a channel");
         let (mut sender, mut receiver) = (hub.sender(&channel), hub.receiver(&channel));
-        let mut messages = numbers(&rt, 1000);
+        let mut messages = VecDeque::from(numbers(&rt, 1000));
         assert_eq!(rt; sender.send_all(&rt, &channel, &mut messages), Ok(Ok(())));
         sender.close(&rt, &channel);
         let mut list = Vec::new(rt.alloc());
@@ -154,7 +165,7 @@ fn a_list_grows_by_more_than_a_message(rt: HostRuntime) {
 fn a_list_that_is_sent_leaves_others_a_turn(rt: HostRuntime) {
     let (channel, mut hub) = unbounded(rt.alloc()).expect(&rt, "a channel");
     let task = new_task(&rt);
-    let list = numbers(&rt, 1000);
+    let list = VecDeque::from(numbers(&rt, 1000));
     let mut send = hub.sender(&channel).send_each(&rt, &channel, list);
     assert!(rt; task.poll(&mut send).is_pending());
     assert!(rt; task.is_woken());
@@ -166,13 +177,11 @@ fn a_list_that_is_sent_leaves_others_a_turn(rt: HostRuntime) {
 #[test]
 fn a_list_that_is_received_leaves_others_a_turn(rt: HostRuntime) {
     let (channel, mut hub) = unbounded(rt.alloc()).expect(&rt, "a channel");
-    let mut list = numbers(&rt, 1000);
-    let mut sender = hub.sender(&channel);
+    let mut list = VecDeque::from(numbers(&rt, 1000));
+    let (mut sender, receiver) = (hub.sender(&channel), hub.receiver(&channel));
     assert_eq!(rt; sender.send_all(&rt, &channel, &mut list), Ok(Ok(())));
     let task = new_task(&rt);
-    let mut collect = hub
-        .receiver(&channel)
-        .collect(&rt, &channel, Vec::new(rt.alloc()));
+    let mut collect = receiver.collect(&rt, &channel, Vec::new(rt.alloc()));
     assert!(rt; task.poll(&mut collect).is_pending());
     assert!(rt; task.is_woken());
     let (_receiver, all) = collect.give_up();
