@@ -2,11 +2,11 @@
 //! operation of its own that isn't polled any more. So no future here is dropped by code of its
 //! own. What has to be done then is done by its [`Wait`], which borrows nothing.
 
-use crate::channel::{Channel, Core, Link, Polled};
+use crate::channel::{with_memory, Channel, Core, Link, Polled};
 use crate::marks::{Marks, Told};
 use crate::proved::channel_core::Group;
 use crate::proved::event_list::Ticket;
-use crate::{Receiver, RecvError, SendError, Sender};
+use crate::{Receiver, RecvError, SendError, Sender, TryRecvError, TrySendError};
 use std::future::Future;
 use std::pin::Pin;
 use std::sync::{Arc, Weak};
@@ -26,12 +26,6 @@ impl<T> Wait<T> {
     #[inline]
     pub(crate) fn new(group: Group) -> Self {
         Wait { group, ticket: None, link: None }
-    }
-
-    /// Whether the operation seems to go on without a wait. It does so sooner by a call at once.
-    #[inline]
-    fn seems_over(&self, channel: &Channel<T>) -> bool {
-        self.ticket.is_none() && channel.seems_ready(self.group)
     }
 
     /// Makes a poll of a channel by this operation.
@@ -109,14 +103,17 @@ impl<T> Future for Send<'_, T> {
     #[inline]
     fn poll(self: Pin<&mut Self>, cx: &mut Context<'_>) -> Poll<Self::Output> {
         let Send { sender, message, wait } = self.get_mut();
-        assert!(message.is_some(), "a send was polled after it had finished");
-        if wait.seems_over(&sender.channel) {
-            match message.take().map(|message| sender.send_at_once(message)) {
-                Some(Err(unsent)) => *message = Some(unsent),
-                Some(Ok(answer)) => return Poll::Ready(answer),
-                None => {}
+        if wait.ticket.is_none() && sender.channel.seems_ready(Group::Sends) {
+            if let Some(taken) = message.take() {
+                // Not `try_send`, nor `try_recv` below: a step that stands in one place is in line there.
+                match sender.channel.step(|core, told| with_memory(core.try_send(taken, told))) {
+                    Ok(()) => return Poll::Ready(Ok(())),
+                    Err(TrySendError::Full(left)) => *message = Some(left),
+                    Err(TrySendError::Closed(left)) => return Poll::Ready(Err(SendError(left))),
+                }
             }
         }
+        assert!(message.is_some(), "a send was polled after it had finished");
         wait.poll(&sender.channel, cx, |core, ticket, Marks { own, back }, told| {
             core.poll_send_with(message, ticket, own, told, back)
         })
@@ -156,9 +153,11 @@ impl<T> Future for Recv<'_, T> {
     #[inline]
     fn poll(self: Pin<&mut Self>, cx: &mut Context<'_>) -> Poll<Self::Output> {
         let Recv { receiver, wait } = self.get_mut();
-        if wait.seems_over(&receiver.channel) {
-            if let Some(answer) = receiver.recv_at_once() {
-                return Poll::Ready(answer);
+        if wait.ticket.is_none() && receiver.channel.seems_ready(Group::Receives) {
+            match receiver.channel.step(|core, told| core.try_recv(told)) {
+                Ok(message) => return Poll::Ready(Ok(message)),
+                Err(TryRecvError::Empty) => {}
+                Err(TryRecvError::Closed) => return Poll::Ready(Err(RecvError)),
             }
         }
         wait.poll(&receiver.channel, cx, |core, ticket, Marks { own, back }, told| {

@@ -66,15 +66,6 @@ impl<T> Receiver<T> {
         self.channel.step(|core, told| core.try_recv(told))
     }
 
-    /// What a receive answers if it need not wait.
-    #[inline]
-    pub(crate) fn recv_at_once(&self) -> Option<Result<T, RecvError>> {
-        match self.try_recv() {
-            Err(TryRecvError::Empty) => None,
-            answer => Some(answer.map_err(|_| RecvError)),
-        }
-    }
-
     /// Takes the oldest message, and waits while the channel is open and empty.
     ///
     /// # Errors
@@ -119,7 +110,11 @@ impl<T> Receiver<T> {
     #[cfg(not(target_family = "wasm"))]
     pub fn recv_blocking(&self) -> Result<T, RecvError> {
         self.channel.await_turn(Group::Receives);
-        self.recv_at_once().unwrap_or_else(|| crate::blocking::block_on(self.recv()))
+        match self.try_recv() {
+            Ok(message) => Ok(message),
+            Err(TryRecvError::Empty) => crate::blocking::block_on(self.recv()),
+            Err(TryRecvError::Closed) => Err(RecvError),
+        }
     }
 
     /// Closes the channel, and answers whether it was open. What it holds can still be received.
@@ -285,8 +280,10 @@ impl<T> Stream for Receiver<T> {
     #[inline]
     fn poll_next(self: Pin<&mut Self>, cx: &mut Context<'_>) -> Poll<Option<T>> {
         if self.stream.is_none() && self.channel.seems_ready(Group::Streams) {
-            if let Some(next) = self.recv_at_once() {
-                return Poll::Ready(next.ok());
+            match self.try_recv() {
+                Ok(message) => return Poll::Ready(Some(message)),
+                Err(TryRecvError::Empty) => {}
+                Err(TryRecvError::Closed) => return Poll::Ready(None),
             }
         }
         let Receiver { channel, stream } = self.get_mut();

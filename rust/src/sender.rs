@@ -46,15 +46,6 @@ impl<T> Sender<T> {
         self.channel.step(|core, told| with_memory(core.try_send(msg, told)))
     }
 
-    /// What a send answers if it need not wait, or else its message.
-    #[inline]
-    pub(crate) fn send_at_once(&self, message: T) -> Result<Result<(), SendError<T>>, T> {
-        match self.try_send(message) {
-            Err(TrySendError::Full(message)) => Err(message),
-            answer => Ok(answer.map_err(|error| SendError(error.into_inner()))),
-        }
-    }
-
     /// Sends a message, and waits while the channel is full.
     ///
     /// A send that is dropped while it waits drops its message, and nothing was sent.
@@ -121,8 +112,11 @@ impl<T> Sender<T> {
     #[cfg(not(target_family = "wasm"))]
     pub fn send_blocking(&self, msg: T) -> Result<(), SendError<T>> {
         self.channel.await_turn(Group::Sends);
-        let sent = self.send_at_once(msg);
-        sent.unwrap_or_else(|msg| crate::blocking::block_on(self.send(msg)))
+        match self.try_send(msg) {
+            Ok(()) => Ok(()),
+            Err(TrySendError::Full(msg)) => crate::blocking::block_on(self.send(msg)),
+            Err(TrySendError::Closed(msg)) => Err(SendError(msg)),
+        }
     }
 
     /// Sends a message at once, also if the channel is full: then the oldest one comes out for it.

@@ -25,65 +25,59 @@ pub struct Blocks<T> {
     later: Option<Box<Later<T>>>,
 }
 
-/// The blocks after the first, one at least. Each but the last is full.
+/// The blocks after the first.
 ///
 /// While they become fewer, the newest move into those that become empty, each once, and their
 /// memory goes, the last taken first. So an allocator that gives its end back to the system can do it
 /// bit by bit.
 struct Later<T> {
-    blocks: Ring<Ring<T>>,
+    full: Ring<Ring<T>>,
+    /// The block after those, which is never empty.
+    newest: Ring<T>,
     /// The block that became empty last, if there was one: the next one is made of it.
     spare: Ring<T>,
     /// How many of the newest have moved.
     moved: usize,
 }
 
-impl<T> Default for Later<T> {
-    fn default() -> Self {
-        Later { blocks: Ring::new(), spare: Ring::new(), moved: 0 }
-    }
-}
-
 impl<T> Later<T> {
-    #[inline]
-    fn push_back(&mut self, value: T) {
-        match self.blocks.back_mut() {
-            Some(last) if last.len() < block_of::<T>() => last.push_back(value),
-            _ => self.push_block(value),
-        }
+    fn new() -> Self {
+        let newest = Ring::with_capacity(block_of::<T>());
+        Later { full: Ring::new(), newest, spare: Ring::new(), moved: 0 }
     }
-    #[inline(never)]
-    fn push_block(&mut self, value: T) {
+    /// Begins a block.
+    fn push_block(&mut self) {
         let mut block = take(&mut self.spare);
         self.moved = if block.capacity() == 0 { 0 } else { self.moved + 1 };
         block.reserve_exact(block_of::<T>());
-        block.push_back(value);
-        self.blocks.push_back(block);
+        self.full.push_back(replace(&mut self.newest, block));
     }
     /// Puts the oldest block in the place of an empty one.
     fn pop_block(&mut self, empty: &mut Ring<T>) {
-        if let Some(oldest) = self.blocks.pop_front() {
-            let last = replace(&mut self.spare, replace(empty, oldest));
-            if last.capacity() > 0 {
-                self.move_newest();
-            }
+        let oldest = self.full.pop_front().unwrap_or_else(|| take(&mut self.newest));
+        let last = replace(&mut self.spare, replace(empty, oldest));
+        if last.capacity() > 0 {
+            self.move_newest();
         }
         // An eighth at a time: to give much of a long list back at once takes long.
-        if is_sparse(2 * self.blocks.len(), self.blocks.capacity()) {
-            self.blocks.shrink_to(7 * self.blocks.len());
+        if is_sparse(2 * self.full.len(), self.full.capacity()) {
+            self.full.shrink_to(7 * self.full.len());
         }
     }
     /// Moves the newest that hasn't moved into the spare one, and keeps its own for that.
     fn move_newest(&mut self) {
-        if let Some(place) = self.blocks.len().checked_sub(1 + self.moved) {
-            let newest = &mut self.blocks[place];
+        if let Some(place) = self.full.len().checked_sub(self.moved) {
+            let newest = self.full.get_mut(place).unwrap_or(&mut self.newest);
             self.spare.append(newest);
             swap(&mut self.spare, newest);
             self.moved += 1;
         }
     }
     fn get(&self, place: usize) -> Option<&T> {
-        self.blocks.get(place / block_of::<T>())?.get(place % block_of::<T>())
+        match place.checked_sub(self.full.len() * block_of::<T>()) {
+            None => self.full.get(place / block_of::<T>())?.get(place % block_of::<T>()),
+            Some(place) => self.newest.get(place),
+        }
     }
 }
 
@@ -102,7 +96,9 @@ impl<T> From<Ring<T>> for Blocks<T> {
 
 impl<T> From<Blocks<T>> for Ring<T> {
     fn from(Blocks { mut first, later, .. }: Blocks<T>) -> Self {
-        first.extend(later.into_iter().flat_map(|later| later.blocks).flatten());
+        if let Some(Later { full, newest, .. }) = later.map(|later| *later) {
+            first.extend(full.into_iter().flatten().chain(newest));
+        }
         first
     }
 }
@@ -110,17 +106,25 @@ impl<T> From<Blocks<T>> for Ring<T> {
 impl<T> Blocks<T> {
     #[inline]
     pub fn push_back(&mut self, value: T) {
+        let newest = match &mut self.later {
+            None => &mut self.first,
+            Some(later) => &mut later.newest,
+        };
         self.len += 1;
-        if self.later.is_none() && self.first.len() < block_of::<T>() {
-            self.first.push_back(value);
+        if newest.len() < block_of::<T>() {
+            newest.push_back(value);
         } else {
-            self.push_later(value);
+            self.push_block(value);
         }
     }
-    /// Not in line, so that a call in a short queue is a short piece.
+    /// Goes on in a new block. Not in line, so that a call that doesn't is a short piece.
     #[inline(never)]
-    fn push_later(&mut self, value: T) {
-        self.later.get_or_insert_with(Box::default).push_back(value);
+    fn push_block(&mut self, value: T) {
+        if let Some(later) = &mut self.later {
+            later.push_block();
+        }
+        let later = self.later.get_or_insert_with(|| Box::new(Later::new()));
+        later.newest.push_back(value);
     }
     pub fn push_front(&mut self, value: T) {
         self.len += 1;
@@ -140,7 +144,7 @@ impl<T> Blocks<T> {
     fn go_on(&mut self) {
         let Some(later) = &mut self.later else { return };
         later.pop_block(&mut self.first);
-        if later.blocks.is_empty() {
+        if later.newest.is_empty() {
             self.later = None;
         }
     }
