@@ -66,7 +66,7 @@ impl<T: Drop> RuledChannel<T, (), Unruled> {
 
 impl<T: Drop, V, P: Protocol<T, V>> RuledChannel<T, V, P> {
     ghost use Rattle.std.specs.Prelude.{◌≢◌};
-    ghost use Rattle.channel_core.specs.Channel.{closing, force_sent, is_channel_full, new_channel, oldest, received, sent, unchanged};
+    ghost use Rattle.channel_core.specs.Channel.{GrowsWithMessages, closing, force_sent, is_channel_full, new_channel, oldest, received, sent, unchanged};
     ghost use Rattle.channel_model.specs.Tables.{force_send_answer, try_recv_answer, try_send_answer};
     ghost use Rattle.ruled_channel.specs.Passes.{IsPassOf, IsSamePass, Refuses, FindsNone, LearnedOf, capacity_of, key_of, number, source_of, view};
     ghost use Rattle.ruled_channel.specs.Steps.{HasMade, found};
@@ -215,6 +215,7 @@ impl<T: Drop, V, P: Protocol<T, V>> RuledChannel<T, V, P> {
         ensures reply { IfOk result (λ answer. answer ≡ try_send_answer (found pass.new).closed
             (is_channel_full (found pass.new)) message) }
         ensures step { OnOk result (HasMade (sent message) pass.new) }
+        ensures wanted { OnErr result (GrowsWithMessages (found pass.new)) }
         ensures unchanged { OnErr result (HasMade unchanged pass.new) }
     {
         let held = self.mutex.lock(rt, &mut pass.lock);
@@ -260,6 +261,7 @@ impl<T: Drop, V, P: Protocol<T, V>> RuledChannel<T, V, P> {
             ≡ force_send_answer (found pass.new).closed (is_channel_full (found pass.new))
             (oldest (found pass.new)) message) }
         ensures step { OnOk result (HasMade (force_sent message) pass.new) }
+        ensures wanted { OnErr result (GrowsWithMessages (found pass.new)) }
         ensures unchanged { OnErr result (HasMade unchanged pass.new) }
     {
         let held = self.mutex.lock(rt, &mut pass.lock);

@@ -421,6 +421,9 @@ impl<T: Drop, V, P: Protocol<T, V>> RuledChannel<T, V, P> {
         ensures memory { IfErr result
             (λ error. (error.0 ≡ message) × (view pass.new ≡ view pass.old)
             × WantsToSend (L.fact (view pass.old))) }
+        ensures wanted { OnErr result (GrowsWithMessages (found pass.new)
+            ⊎ (send_poll (Some message) (found pass.new).closed (is_channel_full (found pass.new))
+            ≡ Pending)) }
         ensures unpolled { OnErr result ((ticket.new ≡ ticket.old) × HasMade unchanged pass.new) }
     {
         let held = self.mutex.lock(rt, &mut pass.lock);
@@ -493,6 +496,8 @@ impl<T: Drop, V, P: Protocol<T, V>> RuledChannel<T, V, P> {
         ensures keeps { W.keeps cx.old cx.new }
         ensures memory { OnErr result ((view pass.new ≡ view pass.old)
             × LearnedOf IsEmpty (Fitted P.holds (view pass.old))) }
+        ensures wanted { OnErr result
+            (recv_poll (oldest (found pass.new)) (found pass.new).closed ≡ Pending) }
         ensures unpolled { OnErr result ((ticket.new ≡ ticket.old) × HasMade unchanged pass.new) }
     {
         let held = self.mutex.lock(rt, &mut pass.lock);
@@ -557,6 +562,8 @@ impl<T: Drop, V, P: Protocol<T, V>> RuledChannel<T, V, P> {
         ensures keeps { W.keeps cx.old cx.new }
         ensures memory { OnErr result ((view pass.new ≡ view pass.old)
             × LearnedOf IsEmpty (Fitted P.holds (view pass.old))) }
+        ensures wanted { OnErr result
+            (next_poll (oldest (found pass.new)) (found pass.new).closed ≡ Pending) }
         ensures unpolled { OnErr result ((ticket.new ≡ ticket.old) × HasMade unchanged pass.new) }
     {
         let held = self.mutex.lock(rt, &mut pass.lock);
@@ -607,6 +614,7 @@ impl<T: Drop, V, P: Protocol<T, V>> RuledChannel<T, V, P> {
         ensures keeps { W.keeps cx.old cx.new }
         ensures memory { OnErr result
             (LearnedOf HasReceivers (Fitted P.holds (view pass.old))) }
+        ensures wanted { OnErr result (0 < (found pass.new).receivers) }
         ensures unpolled { OnErr result ((ticket.new ≡ ticket.old) × HasMade unchanged pass.new) }
     {
         let held = self.mutex.lock(rt, &mut pass.lock);
