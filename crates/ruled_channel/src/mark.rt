@@ -15,7 +15,7 @@
 //!    of another task is woken. Then it waits by the mark with this waker. The entry keeps its place.
 //!
 //! With a poll that is ready the mark of an untold entry leaves the list. The operation keeps its
-//! waker for a later wait, and drops it when it ends.
+//! waker for a later wait, and drops it when it ends. So it does with one that is refused an entry.
 //!
 //! A blocked thread has no waker. It sleeps at a cell of its own, its mark is that cell, and so
 //! just the one that was told wakes. The cell takes memory only when its owner begins to wait.
