@@ -122,7 +122,7 @@ pub trait Waiter<C> {
         ensures made { waits_by cx.new source.now.id result }
         ensures kept { keeps cx.old cx.new };
 
-    /// Keeps the mark that left the list with its entry, until a later wait or its own end.
+    /// Keeps a mark that lies in no list, until a later wait or its own end.
     fn keep(&mut self, left: Option<Mark>);
 
     // proof: a context may stay as it is
