@@ -114,6 +114,7 @@ pub(crate) fn hand_on<W: Drop, B: Bell<W>>(
 
 /// Who can't go on waits with the payload: its entry waits again, or it begins to wait. The answer
 /// is the payload that its entry held. Without a payload nothing changes.
+#[inline(always)]
 pub(crate) fn wait<W: Drop>(
     list: &mut WaitList<W>,
     ticket: &mut Option<Ticket>,

@@ -51,6 +51,7 @@ impl Ends {
 
     /// Takes an entry out, and lets its neighbours name one another. The answer is whether it was
     /// told, or its payload, if it was there.
+    #[inline(always)]
     pub fn take_out<W: Drop, L: Ledger>(
         &mut self,
         entries: &mut Entries<W>,
@@ -75,6 +76,7 @@ impl Ends {
     }
 
     /// Puts a new untold entry behind the last one. The answer is its key.
+    #[inline(always)]
     pub fn put_last<W: Drop, L: Ledger>(
         &mut self,
         entries: &mut Entries<W>,

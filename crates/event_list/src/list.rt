@@ -125,6 +125,7 @@ impl<W: Drop> WaitList<W> {
     ///     assert_eq!(rt; list.remove(ticket), Some(false));
     /// }
     /// ```
+    #[inline(always)]
     pub fn listen_anew(&mut self, ticket: &mut Option<Ticket>, payload: W) -> Result<(), NoRoom<W>>
         requires gone { IfSome ticket.old (λ key. told_flag self.old key ≡ None) }
         ensures listens { OnOk result

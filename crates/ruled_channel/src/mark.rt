@@ -166,6 +166,7 @@ impl Waiter<Context<'_>> for Marker {
         Ok(())
     }
 
+    #[inline(always)]
     fn mark(
         &mut self,
         _cell: (),
@@ -174,8 +175,9 @@ impl Waiter<Context<'_>> for Marker {
         cx: &mut Context<'_>,
     ) -> Mark {
         self.keep(held);
-        let _pending: Poll<()> = cx.register(source, &mut self.waker);
-        Mark::Task(self.waker.take())
+        let mut waker = self.waker.take();
+        let _pending: Poll<()> = cx.register(source, &mut waker);
+        Mark::Task(waker)
     }
 
     fn keep(&mut self, left: Option<Mark>) {

@@ -40,6 +40,7 @@ fn is_untold<T: Drop>(core: &Core<T, Mark>, group: Group, ticket: &Option<Ticket
 }
 
 // The mark of an entry that holds none. It is refused if no waker could be made.
+#[inline(always)]
 fn first_mark<C, W: Waiter<C>>(
     waiter: &mut W,
     cell: W::Cell,

@@ -76,7 +76,7 @@ pub(super) fn hand_on<W, B: Bell<W>>(
 
 /// Who can't go on waits with the payload: its entry waits again, or it begins to wait. The answer
 /// is the payload that its entry held. Without a payload nothing changes.
-#[inline]
+#[inline(always)]
 pub(super) fn wait<W>(
     list: &mut WaitList<W>,
     ticket: &mut Option<Ticket>,

@@ -43,7 +43,7 @@ impl Ends {
 
     /// Takes an entry out, and lets its neighbours name one another. The answer is whether it was
     /// told, or its payload, if it was there.
-    #[inline]
+    #[inline(always)]
     pub fn take_out<W, L: Ledger>(
         &mut self,
         entries: &mut Entries<W>,
@@ -58,7 +58,7 @@ impl Ends {
     }
 
     /// Puts a new untold entry behind the last one. The answer is its key.
-    #[inline]
+    #[inline(always)]
     pub fn put_last<W, L: Ledger>(
         &mut self,
         entries: &mut Entries<W>,

@@ -56,7 +56,7 @@ impl<W> WaitList<W> {
 
     /// `listen`, which puts the new ticket in the place of one whose entry isn't in the list, or of
     /// none.
-    #[inline]
+    #[inline(always)]
     pub fn listen_anew(&mut self, ticket: &mut Option<Ticket>, payload: W) -> Result<(), NoRoom<W>> {
         let new = self.listen(payload)?;
         if let Some(gone) = ticket.replace(new) {
