@@ -422,6 +422,9 @@ impl<T: Drop, V, P: Protocol<T, V>> RuledChannel<T, V, P> {
         ensures memory { IfErr result
             (λ error. (error.0 ≡ message) × (view pass.new ≡ view pass.old)
             × WantsToSend (L.fact (view pass.old))) }
+        ensures wanted { OnErr result (GrowsWithMessages (found pass.new)
+            ⊎ (send_poll (Some message) (found pass.new).closed
+            (is_channel_full (found pass.new)) ≡ Pending)) }
         ensures unpolled { OnErr result ((ticket.new ≡ ticket.old) × HasMade unchanged pass.new) }
     {
         let held = self.mutex.lock(rt, &mut pass.lock);
