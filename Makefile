@@ -1,6 +1,6 @@
 # `make run` and `make test` do everything on a fresh machine.
 
-.PHONY: help kit run tour try test pages examples programs rust rust-scripts clients oldest original check facts bench
+.PHONY: help kit run tour try test pages examples programs handles commands rust rust-scripts clients oldest original check facts bench
 
 help:
 	@echo 'make run    proves and builds the channel, and runs trysend'
@@ -25,11 +25,11 @@ kit:
 	@command -v rt > /dev/null || { echo 'make: rt is missing: it is in the Rattle kit, see "Try it" in README.md' >&2; exit 1; }
 
 run: kit
-	tools/prove async_channel
+	tools/prove trysend
 	cd crates/trysend && rt run
 
 tour: kit
-	tools/prove chanrun
+	tools/prove program_chanrun
 	cd crates/program_chanrun && rt run < ../../examples/tour.chan
 
 # What a command says beside its output is shown if it fails.
@@ -57,9 +57,13 @@ examples: kit
 	tools/examples
 
 # What needs the proved programs and libraries.
-programs: kit
+programs: handles commands
+
+handles: kit
 	tools/compare_handles
 	tools/compare_handles_tests
+
+commands: kit
 	python3 tools/chanrun_runs.py
 	python3 tools/explorations/check.py
 	tools/picture_tests
