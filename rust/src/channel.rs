@@ -22,14 +22,15 @@ use std::num::NonZeroUsize;
 use std::sync::atomic::Ordering;
 use std::sync::{Arc, Weak};
 use std::task::{Context, Poll, Waker};
+use std::time::Duration;
 
 pub(crate) type Core<T> = ProvedCore<T, Waker>;
 
 /// How often a thread looks before it waits.
-const LOOKS: u32 = 20;
+const LOOKS: u32 = 100;
 
-/// How long it pauses between two looks.
-const PAUSES: u32 = 20;
+/// How long it pauses between two looks. All of them take longer than some pauses at a taken lock.
+const PAUSE: Duration = Duration::from_nanos(100);
 
 /// How `seen` is written: in the one order of all calls on all channels. Who sends on one channel and
 /// then reads of another, while somebody does so the other way round, may count on that. On x86 the
@@ -209,7 +210,7 @@ impl<T> Channel<T> {
     pub(crate) fn await_turn(&self, group: Group) {
         let mut looks = 0;
         while !self.seems_ready(group) {
-            pause(PAUSES);
+            pause(PAUSE);
             looks += 1;
             if looks == turns(LOOKS) {
                 break;

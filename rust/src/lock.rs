@@ -7,17 +7,19 @@ use crate::primitives::{pause, turns};
 use crate::primitives::{Mutex, MutexGuard};
 #[cfg(not(feature = "parking_lot"))]
 use std::sync::{PoisonError, TryLockError};
+#[cfg(not(feature = "parking_lot"))]
+use std::time::Duration;
 
 /// How often a thread looks at a taken lock before it sleeps until it is free.
 #[cfg(not(feature = "parking_lot"))]
-const LOOKS: u32 = 15;
+const LOOKS: u32 = 12;
 
 /// How long it pauses before each look: so long that whoever has the lock can take it many times, and
-/// its cache lines stay where they are, and no longer than it takes to fill or drain 128 places. From
-/// one thread to one over so many, a message took 105 ns with 300 pauses, and 60 with 80 to 120;
-/// without a bound 42 and 44.
+/// its cache lines stay where they are, and no longer than it takes to fill or drain 128 places. With
+/// 0.5, 1, 2 and 3 microseconds a message took 98, 78, 81 and 98 ns from one thread to one over so
+/// many, and 137, 88, 78 and 69 from four to four without a bound.
 #[cfg(not(feature = "parking_lot"))]
-const PAUSES: u32 = 100;
+const PAUSE: Duration = Duration::from_nanos(1_500);
 
 /// A value that one thread at a time can reach.
 ///
@@ -56,7 +58,7 @@ impl<V> Lock<V> {
     #[cold]
     fn wait(&self) -> MutexGuard<'_, V> {
         for _look in 0..turns(LOOKS) {
-            pause(PAUSES);
+            pause(PAUSE);
             if let Some(guard) = self.try_lock() {
                 return guard;
             }

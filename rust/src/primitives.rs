@@ -3,6 +3,7 @@
 //! The package in `models` puts loom's in their place, and goes through the orders of those meetings.
 
 use std::sync::atomic::Ordering::Relaxed;
+use std::time::{Duration, Instant};
 
 #[cfg(vamorilesh_loom)]
 pub(crate) use loom::sync::{atomic::AtomicUsize, Condvar, Mutex, Mutex as StdMutex, MutexGuard};
@@ -41,11 +42,18 @@ pub(crate) fn turns(count: u32) -> u32 {
     }
 }
 
-/// Lets some time go by, so many of the processor's pauses. A thread doesn't yield: if all
-/// processors are busy, it may get no turn for milliseconds then.
+/// Lets so much time go by, and no less: what one of the processor's pauses takes differs from 5 to 50
+/// nanoseconds between processors. A thread doesn't yield: if all processors are busy, it may get no
+/// turn for milliseconds then.
 #[cold]
-pub(crate) fn pause(pauses: u32) {
-    for _ in 0..pauses {
+pub(crate) fn pause(time: Duration) {
+    let start = now();
+    while start.map_or(false, |start| start.elapsed() < time) {
         std::hint::spin_loop();
     }
+}
+
+/// The time, where there is a clock. In WebAssembly there may be none.
+fn now() -> Option<Instant> {
+    (!cfg!(target_family = "wasm")).then(Instant::now)
 }

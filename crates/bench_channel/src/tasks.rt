@@ -148,12 +148,29 @@ where
     row(rt, form, work, 2 * ROUNDS, start, 0)
 }
 
+/// A player on the heap. A pool moves a task at each poll: so it moves a pointer, as Rust's does.
+#[derive(Drop)]
+struct Boxed<'a, R: Wait + Clone + Drop> {
+    player: Box<Player<'a, R>>,
+}
+
+impl<'a, R: Wait + Clone + Drop> Future for Boxed<'a, R> {
+    type Output = ();
+
+    fn poll(&mut self, cx: &mut Context<'_>) -> Poll<()> {
+        self.player.poll(cx)
+    }
+}
+
 /// Spawns a player, and answers how many were spawned.
-fn spawn<'a, R>(spawner: &LocalSpawner<Player<'a, R>>, player: Player<'a, R>) -> u64
+fn spawn<'a, R>(rt: &R, spawner: &LocalSpawner<Boxed<'a, R>>, player: Player<'a, R>) -> u64
 where
-    R: Wait + Clone + Drop,
+    R: Wait + Clone + Drop + AllocGlobal,
 {
-    u64::from(spawner.spawn(player).is_ok())
+    let Ok(player) = Box::new(rt.alloc(), player) else {
+        return 0;
+    };
+    u64::from(spawner.spawn(Boxed { player }).is_ok())
 }
 
 fn pooled<R>(rt: &R, form: Form<'_>, (there, back): &(Ends<R>, Ends<R>)) -> Result<()>
@@ -164,8 +181,8 @@ where
     let mut pool = LocalPool::new(rt)?;
     let spawner = pool.spawner()?;
     let start = Instant::now(rt)?;
-    let first = spawn(&spawner, make_player(there, back, true));
-    let second = spawn(&spawner, make_player(back, there, false));
+    let first = spawn(rt, &spawner, make_player(there, back, true));
+    let second = spawn(rt, &spawner, make_player(back, there, false));
     pool.run(rt);
     row(
         rt,
@@ -183,8 +200,9 @@ const TASKS: u64 = 1_000;
 const EACH: u64 = 100;
 
 /// Spawns tasks that receive from one channel, and one that sends.
-fn spawn_crowd<'a, R: Wait + Clone + Drop>(
-    spawner: &LocalSpawner<Player<'a, R>>,
+fn spawn_crowd<'a, R: Wait + Clone + Drop + AllocGlobal>(
+    rt: &R,
+    spawner: &LocalSpawner<Boxed<'a, R>>,
     ends: &'a Ends<R>,
 ) -> u64 {
     let (sender, receiver) = (&ends.sender, &ends.receiver);
@@ -202,7 +220,7 @@ fn spawn_crowd<'a, R: Wait + Clone + Drop>(
             turns: false,
             left,
         };
-        spawned = spawned.wrapping_add(spawn(spawner, player));
+        spawned = spawned.wrapping_add(spawn(rt, spawner, player));
     }
     spawned
 }
@@ -215,7 +233,7 @@ where
     let mut pool = LocalPool::new(rt)?;
     let spawner = pool.spawner()?;
     let start = Instant::now(rt)?;
-    let spawned = spawn_crowd(&spawner, ends);
+    let spawned = spawn_crowd(rt, &spawner, ends);
     pool.run(rt);
     row(rt, form, work, TASKS * EACH, start, spawned)
 }

@@ -29,7 +29,7 @@ use std::sync::Wait;
 const LOOKS: u32 = 10;
 
 // How many of the processor's pauses are between two looks at the channel. Each look takes the lock,
-// so they are as many as between two looks at the lock: others can go on meanwhile.
+// so others can go on meanwhile.
 const PAUSES: u32 = 80;
 
 // Lets some time go by between two looks at the channel.

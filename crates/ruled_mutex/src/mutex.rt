@@ -62,11 +62,11 @@ const LOOKS: u32 = 12;
 // take it several times, and its cache lines stay where they are. A thread doesn't yield: if all
 // processors are busy, it may get no turn for milliseconds then.
 //
-// Between two looks another thread can fill or drain a channel of about a hundred places. After that
-// it can't go on, so a longer pause is time that nobody uses. From one thread to one over 128 places
-// a message took 83 ns with 5 looks of 150 pauses, and 72 with these; without a bound, and with four
-// threads on each side, as long as before.
-const PAUSES: u32 = 80;
+// What a pause takes differs between processors, some 6 ns where this was measured and 140 cycles on
+// many others, and there is no clock here. From four threads to four without a bound a message took
+// 242 ns with 80 pauses, 154 with 140 and 118 with 200; from one to one over 128 places 118, 108 and
+// 106. Where pauses are long, 200 of them would be more than it takes to fill so many places.
+const PAUSES: u32 = 150;
 
 fn pause() {
     for _ in 0..PAUSES {
