@@ -15,9 +15,8 @@ use std::time::Duration;
 const LOOKS: u32 = 12;
 
 /// How long it pauses before each look: so long that whoever has the lock can take it many times, and
-/// its cache lines stay where they are, and no longer than it takes to fill or drain 128 places. With
-/// 0.5, 1, 2 and 3 microseconds a message took 98, 78, 81 and 98 ns from one thread to one over so
-/// many, and 137, 88, 78 and 69 from four to four without a bound.
+/// its cache lines stay where they are. With 0.6, 1 and 1.5 microseconds a message took 79, 80 and 74 ns
+/// from one thread to one over 128 places, and 123, 91 and 75 from four to four without a bound.
 #[cfg(not(feature = "parking_lot"))]
 const PAUSE: Duration = Duration::from_nanos(1_500);
 

@@ -42,9 +42,9 @@ pub(crate) fn turns(count: u32) -> u32 {
     }
 }
 
-/// Lets so much time go by, and no less: what one of the processor's pauses takes differs from 5 to 50
-/// nanoseconds between processors. A thread doesn't yield: if all processors are busy, it may get no
-/// turn for milliseconds then.
+/// Lets so much time go by, if there is a clock. It isn't a number of the processor's pauses, since what
+/// one takes differs between processors. A thread doesn't yield: if all processors are busy, it may get
+/// no turn for milliseconds then.
 #[cold]
 pub(crate) fn pause(time: Duration) {
     let start = now();
@@ -53,7 +53,7 @@ pub(crate) fn pause(time: Duration) {
     }
 }
 
-/// The time, where there is a clock. In WebAssembly there may be none.
+/// The time, if there is a clock. In WebAssembly there may be none.
 fn now() -> Option<Instant> {
     (!cfg!(target_family = "wasm")).then(Instant::now)
 }

@@ -62,10 +62,11 @@ const LOOKS: u32 = 12;
 // take it several times, and its cache lines stay where they are. A thread doesn't yield: if all
 // processors are busy, it may get no turn for milliseconds then.
 //
-// What a pause takes differs between processors, some 6 ns where this was measured and 140 cycles on
-// many others, and there is no clock here. From four threads to four without a bound a message took
-// 242 ns with 80 pauses, 154 with 140 and 118 with 200; from one to one over 128 places 118, 108 and
-// 106. Where pauses are long, 200 of them would be more than it takes to fill so many places.
+// What a pause takes differs between processors, and there is no clock here. If it takes some 6 ns, a
+// message from four threads to four without a bound took 222 ns with 80 pauses and 157 with these,
+// from one to one over 128 places 125 and 118, and over one place 893 and 938. With 200 the first
+// two fell further and the last rose further. On a busy machine of an earlier day 80 were the better
+// ones over 128 places, so they aren't more.
 const PAUSES: u32 = 150;
 
 fn pause() {
