@@ -39,6 +39,17 @@ fn is_untold<T: Drop>(core: &Core<T, Mark>, group: Group, ticket: &Option<Ticket
     }
 }
 
+// A poll of whoever can't go on is pending.
+fn expect_pending<A: Drop>(poll: Poll<A>)
+    requires { poll ≡ Pending }
+    ensures { poll ≡ Pending }
+{
+    match poll {
+        Poll::Pending => {}
+        Poll::Ready(_) => unreachable!(),
+    }
+}
+
 // The mark of an entry that holds none. It is refused if no waker could be made.
 #[inline(always)]
 fn first_mark<C, W: Waiter<C>>(
@@ -113,21 +124,15 @@ impl<T: Drop, V, P: Protocol<T, V>> RuledChannel<T, V, P> {
             let mut mark = Some(first_mark(waiter, cell, &self.source, cx)?);
             let polled = core.poll_recv_with(ticket, &mut mark, bell, &mut None);
             waiter.keep(mark);
-            return match polled? {
-                Poll::Pending => Ok(()),
-                Poll::Ready(_) => unreachable!(),
-            };
+            expect_pending(polled?);
+            return Ok(());
         }
-        let mut held = None;
-        match core.poll_recv_with(ticket, &mut Some(Mark::Task(None)), bell, &mut held)? {
-            Poll::Pending => {}
-            Poll::Ready(_) => unreachable!(),
-        }
+        let (mut bare, mut held) = (Some(Mark::Task(None)), None);
+        let renewed = core.poll_recv_with(ticket, &mut bare, bell, &mut held);
+        expect_pending(renewed?);
         let mark = waiter.mark(cell, held, &self.source, cx);
-        match core.poll_recv(ticket, mark, bell)? {
-            Poll::Pending => Ok(()),
-            Poll::Ready(_) => unreachable!(),
-        }
+        expect_pending(core.poll_recv(ticket, mark, bell)?);
+        Ok(())
     }
 
     #[tactic(auto, using(crate::proofs::Logging::logs, crate::proofs::Logging::logs_if_ready))]
@@ -184,21 +189,15 @@ impl<T: Drop, V, P: Protocol<T, V>> RuledChannel<T, V, P> {
             let mut mark = Some(first_mark(waiter, cell, &self.source, cx)?);
             let polled = core.poll_next_with(ticket, &mut mark, bell, &mut None);
             waiter.keep(mark);
-            return match polled? {
-                Poll::Pending => Ok(()),
-                Poll::Ready(_) => unreachable!(),
-            };
+            expect_pending(polled?);
+            return Ok(());
         }
-        let mut held = None;
-        match core.poll_next_with(ticket, &mut Some(Mark::Task(None)), bell, &mut held)? {
-            Poll::Pending => {}
-            Poll::Ready(_) => unreachable!(),
-        }
+        let (mut bare, mut held) = (Some(Mark::Task(None)), None);
+        let renewed = core.poll_next_with(ticket, &mut bare, bell, &mut held);
+        expect_pending(renewed?);
         let mark = waiter.mark(cell, held, &self.source, cx);
-        match core.poll_next(ticket, mark, bell)? {
-            Poll::Pending => Ok(()),
-            Poll::Ready(_) => unreachable!(),
-        }
+        expect_pending(core.poll_next(ticket, mark, bell)?);
+        Ok(())
     }
 
     #[tactic(auto, using(crate::proofs::Logging::logs, crate::proofs::Logging::logs_if_ready))]
@@ -234,17 +233,14 @@ impl<T: Drop, V, P: Protocol<T, V>> RuledChannel<T, V, P> {
             return Ok(Poll::Pending);
         }
         let mut left = None;
-        match core.poll_send_with(message, ticket, &mut None, bell, &mut left)? {
-            Poll::Ready(answer) => {
-                waiter.keep(left);
-                Ok(Poll::Ready(answer))
-            }
-            // A poll without a message.
-            Poll::Pending => {
-                self.wait_to_send(core, message, ticket, waiter, cx, bell)?;
-                Ok(Poll::Pending)
-            }
+        let polled = core.poll_send_with(message, ticket, &mut None, bell, &mut left)?;
+        waiter.keep(left);
+        if polled.is_pending() {
+            // The poll has no message.
+            self.wait_to_send(core, message, ticket, waiter, cx, bell)?;
+            return Ok(Poll::Pending);
         }
+        Ok(polled)
     }
 
     // A send that can't go on waits.
@@ -271,27 +267,15 @@ impl<T: Drop, V, P: Protocol<T, V>> RuledChannel<T, V, P> {
             let mut mark = Some(first_mark(waiter, cell, &self.source, cx)?);
             let polled = core.poll_send_with(message, ticket, &mut mark, bell, &mut None);
             waiter.keep(mark);
-            return match polled? {
-                Poll::Pending => Ok(()),
-                Poll::Ready(_) => unreachable!(),
-            };
+            expect_pending(polled?);
+            return Ok(());
         }
-        let mut held = None;
-        match core.poll_send_with(
-            message,
-            ticket,
-            &mut Some(Mark::Task(None)),
-            bell,
-            &mut held,
-        )? {
-            Poll::Pending => {}
-            Poll::Ready(_) => unreachable!(),
-        }
+        let (mut bare, mut held) = (Some(Mark::Task(None)), None);
+        let renewed = core.poll_send_with(message, ticket, &mut bare, bell, &mut held);
+        expect_pending(renewed?);
         let mark = waiter.mark(cell, held, &self.source, cx);
-        match core.poll_send(message, ticket, mark, bell)? {
-            Poll::Pending => Ok(()),
-            Poll::Ready(_) => unreachable!(),
-        }
+        expect_pending(core.poll_send(message, ticket, mark, bell)?);
+        Ok(())
     }
 }
 
@@ -344,21 +328,15 @@ impl<T: Drop, V, P: Protocol<T, V>> RuledChannel<T, V, P> {
             let mut mark = Some(first_mark(waiter, cell, &self.source, cx)?);
             let polled = core.poll_closed_with(ticket, &mut mark, &mut None);
             waiter.keep(mark);
-            return match polled? {
-                Poll::Pending => Ok(()),
-                Poll::Ready(_) => unreachable!(),
-            };
+            expect_pending(polled?);
+            return Ok(());
         }
-        let mut held = None;
-        match core.poll_closed_with(ticket, &mut Some(Mark::Task(None)), &mut held)? {
-            Poll::Pending => {}
-            Poll::Ready(_) => unreachable!(),
-        }
+        let (mut bare, mut held) = (Some(Mark::Task(None)), None);
+        let renewed = core.poll_closed_with(ticket, &mut bare, &mut held);
+        expect_pending(renewed?);
         let mark = waiter.mark(cell, held, &self.source, cx);
-        match core.poll_closed(ticket, mark)? {
-            Poll::Pending => Ok(()),
-            Poll::Ready(_) => unreachable!(),
-        }
+        expect_pending(core.poll_closed(ticket, mark)?);
+        Ok(())
     }
 }
 

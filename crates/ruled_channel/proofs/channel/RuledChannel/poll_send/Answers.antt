@@ -1,10 +1,6 @@
 use Rattle.std.proofs.Common.{sym}
-use Rattle.ruled_channel.proofs.Logging.{logs}
 use Rattle.ruled_channel.proofs.Looks.{send_pends}
 use Rattle.ruled_channel.proofs.channel.RuledChannel.poll_send.Goals as goal
-
-pub returns-in-Ready-clause-rung : goal.returns-in-Ready-clause-rung
-returns-in-Ready-clause-rung g c = logs _ _ _ (rw c.in-Ready.is at c.in_ok-answer.ensures.rung)
 
 pub wait_to_send-requires : goal.wait_to_send-requires
 wait_to_send-requires g c = send_pends _ _ _ _ _ c.is_full.ensures c.if-is_full.true c.is_closed.ensures c.if-not-is_closed.true

@@ -6,5 +6,5 @@ returns-clause-waits g c = (
   c.mark-mark.result,
   c.mark-mark.ensures.made,
   recv_waits_twice _ _ _ _ _ _ _ _
-      (rw c.in-Pending-2.is at c.in_ok-poll_recv_with.ensures.waits) (rw c.in-Pending-3.is at c.in_ok-poll_recv.ensures.waits),
+      (rw c.expect_pending-2.ensures at c.in_ok-renewed.ensures.waits) (rw c.expect_pending-3.ensures at c.in_ok-poll_recv.ensures.waits),
 )

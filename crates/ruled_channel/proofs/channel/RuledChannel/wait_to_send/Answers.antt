@@ -6,6 +6,6 @@ returns-clause-waits g c = (
   c.mark-mark.result,
   c.mark-mark.ensures.made,
   send_waits_twice _ _ _ _ _ _ _ _ _ _
-      (rw c.in-Pending-2.is at c.in_ok-poll_send_with.ensures.kept)
-      (rw c.in-Pending-2.is at c.in_ok-poll_send_with.ensures.waits) (rw c.in-Pending-3.is at c.in_ok-poll_send.ensures.waits),
+      (rw c.expect_pending-2.ensures at c.in_ok-renewed.ensures.kept)
+      (rw c.expect_pending-2.ensures at c.in_ok-renewed.ensures.waits) (rw c.expect_pending-3.ensures at c.in_ok-poll_send.ensures.waits),
 )
