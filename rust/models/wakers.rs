@@ -94,6 +94,41 @@ fn waits<F: Future>(sender: &Sender<u64>, future: F) -> Pin<Box<F>> {
     future
 }
 
+/// Makes a poll of one that wasn't told and can go on, since another was told first.
+fn goes_on<F: Future>(sender: &Sender<u64>, mut future: Pin<Box<F>>) {
+    assert!(is_ready(&mut future, caller(sender)));
+}
+
+#[test]
+fn one_that_goes_on_untold_gets_its_waker_back_without_the_lock() {
+    model(|| {
+        let (s, r) = bounded(1);
+        let (_told, receive) = (waits(&s, r.recv()), waits(&s, r.recv()));
+        s.try_send(1).unwrap();
+        goes_on(&s, receive);
+    });
+    model(|| {
+        let ((s, r), mut into) = (bounded(1), Vec::new());
+        let (_told, receive) = (waits(&s, r.recv()), waits(&s, r.recv_many(&mut into, 2)));
+        s.try_send(1).unwrap();
+        goes_on(&s, receive);
+    });
+    model(|| {
+        let (s, r) = bounded(1);
+        s.try_send(1).unwrap();
+        let (_told, send) = (waits(&s, s.send(2)), waits(&s, s.send(3)));
+        r.try_recv().unwrap();
+        goes_on(&s, send);
+    });
+    model(|| {
+        let (s, r) = bounded(1);
+        s.try_send(1).unwrap();
+        let (_told, send) = (waits(&s, s.send(2)), waits(&s, s.send_many([3])));
+        r.try_recv().unwrap();
+        goes_on(&s, send);
+    });
+}
+
 /// The next message of a stream.
 async fn next(r: &mut Receiver<u64>) -> Option<u64> {
     poll_fn(|context| Pin::new(&mut *r).poll_next(context)).await

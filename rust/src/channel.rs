@@ -13,9 +13,9 @@
 //! one goes, and decides what that means. It is asked for each upgrade, too.
 
 use crate::lock::Lock;
-use crate::marks::{Marks, Told};
+use crate::marks::Told;
 use crate::primitives::{abort, pause, turns, AtomicUsize};
-use crate::proved::channel_core::{Core as ProvedCore, Group, OutOfMemory, HANDLE_LIMIT};
+use crate::proved::channel_core::{Core as ProvedCore, Group, HANDLE_LIMIT};
 use crate::proved::event_list::Ticket;
 use crate::shim::Global;
 use std::num::NonZeroUsize;
@@ -41,8 +41,9 @@ const SEEN: Ordering = if cfg!(any(target_arch = "x86", target_arch = "x86_64"))
     Ordering::SeqCst
 };
 
-/// The answer of a step that polls.
-pub(crate) type Polled<A> = Result<Poll<A>, OutOfMemory>;
+/// The waker that an operation left in its list and that is there no more, to be dropped without the
+/// lock.
+pub(crate) type Left = Option<Waker>;
 
 /// The way of a waiting operation to its channel, which it doesn't keep.
 pub(crate) type Link<T> = Option<Weak<Channel<T>>>;
@@ -117,24 +118,29 @@ impl<T> Channel<T> {
         ticket: &mut Option<Ticket>,
         mut link: Option<&mut Link<T>>,
         context: &Context<'_>,
-        mut poll: impl FnMut(&mut Core<T>, &mut Option<Ticket>, &mut Marks, &mut Told) -> Polled<A>,
+        mut finish: impl FnMut(&mut Core<T>, &mut Option<Ticket>, &mut Told, &mut Left) -> Poll<A>,
     ) -> Poll<A> {
         let will_wait = ticket.is_none() && !self.seems_ready(group);
-        let mut marks = Marks { own: will_wait.then(|| context.waker().clone()), back: None };
+        let mut own = will_wait.then(|| context.waker().clone());
+        let mut left = None;
         loop {
             let answer = self.step_beside(|core, spare, told| {
-                let only_looks = marks.own.is_none();
-                let answer = with_memory(poll(core, ticket, &mut marks, told));
-                self.settle(ticket, link.as_deref_mut(), spare);
-                let is_done = answer.is_ready() || !only_looks || {
-                    let left = ticket.as_ref().and_then(|ticket| core.payload(group, ticket));
-                    left.map_or(false, |left| left.will_wake(context.waker()))
+                let answer = finish(core, ticket, told, &mut left);
+                let mut waits = || {
+                    if let Some(own) = own.take() {
+                        left = with_memory(core.wait(group, ticket, own));
+                        return true;
+                    }
+                    let waiting = ticket.as_ref().and_then(|ticket| core.payload(group, ticket));
+                    waiting.map_or(false, |waker| waker.will_wake(context.waker()))
                 };
+                let is_done = answer.is_ready() || waits();
+                self.settle(ticket, link.as_deref_mut(), spare);
                 is_done.then_some(answer)
             });
             match answer {
                 Some(answer) => return answer,
-                None => marks.own = Some(context.waker().clone()),
+                None => own = Some(context.waker().clone()),
             }
         }
     }

@@ -6,7 +6,7 @@
 //! caller's grows under the lock, and no code of the caller's runs there.
 
 use crate::channel::{with_memory, Channel, Core};
-use crate::marks::{Marks, Told};
+use crate::marks::Told;
 use crate::operations::Wait;
 use crate::proved::channel_core::Group;
 use crate::shim::Over;
@@ -327,18 +327,17 @@ impl<T> Future for SendMany<'_, T> {
         let SendMany { sender, left, count, done, wait } = self.get_mut();
         assert!(!*done, "a send was polled after it had finished");
         while !left.is_empty() {
-            let polled =
-                wait.poll(&sender.channel, cx, |core, ticket, Marks { own, back }, told| {
-                    let mut first = left.pop_front();
-                    let polled = core.poll_send_with(&mut first, ticket, own, told, back)?;
-                    let polled = polled.map_err(|SendError(unsent)| first = Some(unsent));
-                    match first {
-                        Some(unsent) => left.push_front(unsent),
-                        // Those that don't fit stay.
-                        None => drop(put(core, left, ROUND_LIMIT - 1, told)),
-                    }
-                    Ok(polled)
-                });
+            let polled = wait.poll(&sender.channel, cx, |core, ticket, told, back| {
+                let mut first = left.pop_front();
+                let polled = with_memory(core.finish_send(&mut first, ticket, told, back));
+                let polled = polled.map_err(|SendError(unsent)| first = Some(unsent));
+                match first {
+                    Some(unsent) => left.push_front(unsent),
+                    // Those that don't fit stay.
+                    None => drop(put(core, left, ROUND_LIMIT - 1, told)),
+                }
+                polled
+            });
             match polled {
                 Poll::Ready(Ok(())) => {}
                 Poll::Ready(Err(())) => break,
@@ -390,12 +389,11 @@ impl<T> Future for RecvMany<'_, T> {
             return Poll::Ready(0);
         }
         let room = channel.make_room(into, limit);
-        let first = wait.poll(channel, cx, |core, ticket, Marks { own, back }, told| {
-            let polled = core.poll_recv_with(ticket, own, told, back)?;
-            Ok(polled.map_ok(|message| {
+        let first = wait.poll(channel, cx, |core, ticket, told, left| {
+            core.finish_recv(ticket, told, left).map_ok(|message| {
                 into.push(message);
                 1 + take(core, into, room - 1, told).unwrap_or(0)
-            }))
+            })
         });
         first.map(|first| first.map_or(0, |first| first + channel.recv_more(into, limit - first)))
     }

@@ -11,14 +11,6 @@ use std::mem;
 use std::panic::{catch_unwind, resume_unwind, AssertUnwindSafe};
 use std::task::Waker;
 
-/// The wakers that a poll leaves to its caller.
-pub(crate) struct Marks {
-    /// The caller's own, as long as it isn't in a list.
-    pub(crate) own: Option<Waker>,
-    /// The one that came back from the caller's entry.
-    pub(crate) back: Option<Waker>,
-}
-
 /// The wakers of those whom a step told, in the order in which it told them.
 ///
 /// Most steps tell one at the most, which takes no memory.

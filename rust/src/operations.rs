@@ -2,8 +2,8 @@
 //! operation of its own that isn't polled any more. So no future here is dropped by code of its
 //! own. What has to be done then is done by its [`Wait`], which borrows nothing.
 
-use crate::channel::{with_memory, Channel, Core, Link, Polled};
-use crate::marks::{Marks, Told};
+use crate::channel::{with_memory, Channel, Core, Left, Link};
+use crate::marks::Told;
 use crate::proved::channel_core::Group;
 use crate::proved::event_list::Ticket;
 use crate::{Receiver, RecvError, SendError, Sender, TryRecvError, TrySendError};
@@ -28,16 +28,16 @@ impl<T> Wait<T> {
         Wait { group, ticket: None, link: None }
     }
 
-    /// Makes a poll of a channel by this operation.
+    /// Makes a poll of a channel by this operation, which `finish` finishes if it can go on.
     #[inline]
     pub(crate) fn poll<A>(
         &mut self,
         channel: &Arc<Channel<T>>,
         context: &Context<'_>,
-        poll: impl FnMut(&mut Core<T>, &mut Option<Ticket>, &mut Marks, &mut Told) -> Polled<A>,
+        finish: impl FnMut(&mut Core<T>, &mut Option<Ticket>, &mut Told, &mut Left) -> Poll<A>,
     ) -> Poll<A> {
         let Wait { group, ticket, link } = self;
-        channel.poll(*group, ticket, Some(link), context, poll)
+        channel.poll(*group, ticket, Some(link), context, finish)
     }
 
     /// Leaves the list. Not in line, so that to drop an operation that doesn't wait is a short piece.
@@ -114,8 +114,8 @@ impl<T> Future for Send<'_, T> {
             }
         }
         assert!(message.is_some(), "a send was polled after it had finished");
-        wait.poll(&sender.channel, cx, |core, ticket, Marks { own, back }, told| {
-            core.poll_send_with(message, ticket, own, told, back)
+        wait.poll(&sender.channel, cx, |core, ticket, told, left| {
+            with_memory(core.finish_send(message, ticket, told, left))
         })
     }
 }
@@ -160,8 +160,8 @@ impl<T> Future for Recv<'_, T> {
                 Err(TryRecvError::Closed) => return Poll::Ready(Err(RecvError)),
             }
         }
-        wait.poll(&receiver.channel, cx, |core, ticket, Marks { own, back }, told| {
-            core.poll_recv_with(ticket, own, told, back)
+        wait.poll(&receiver.channel, cx, |core, ticket, told, left| {
+            core.finish_recv(ticket, told, left)
         })
     }
 }
@@ -197,8 +197,6 @@ impl<T> Future for Closed<'_, T> {
     #[inline]
     fn poll(self: Pin<&mut Self>, cx: &mut Context<'_>) -> Poll<()> {
         let Closed { sender, wait } = self.get_mut();
-        wait.poll(&sender.channel, cx, |core, ticket, Marks { own, back }, _told| {
-            core.poll_closed_with(ticket, own, back)
-        })
+        wait.poll(&sender.channel, cx, |core, ticket, _told, left| core.finish_closed(ticket, left))
     }
 }

@@ -1,7 +1,6 @@
 //! The receiving side: receivers, which are streams too, and weak ones.
 
 use crate::channel::{Channel, Side};
-use crate::marks::Marks;
 use crate::operations::{Recv, Wait};
 use crate::proved::channel_core::Group;
 use crate::proved::event_list::Ticket;
@@ -287,8 +286,8 @@ impl<T> Stream for Receiver<T> {
             }
         }
         let Receiver { channel, stream } = self.get_mut();
-        channel.poll(Group::Streams, stream, None, cx, |core, ticket, Marks { own, back }, told| {
-            core.poll_next_with(ticket, own, told, back)
+        channel.poll(Group::Streams, stream, None, cx, |core, ticket, told, left| {
+            core.finish_next(ticket, told, left)
         })
     }
 }

@@ -37,7 +37,8 @@ TAKEN = {'Drop', 'Model', 'fmt', *EVERYWHERE}
 # The calls with a `requires` that code by hand could make, and the clause that the prover doesn't
 # check there. Those of private modules it can't name, and it has no waiting list of its own. What
 # opens a ledger counts nothing in Rust.
-# A kind or a capacity of 0 makes no channel by hand: that panics, or is refused as a script.
+# A kind or a capacity of 0 makes no channel by hand: that panics, or is refused as a script. An
+# operation waits by hand if it was just found pending under the same lock.
 REQUIRES = {
     'event_list::ends::put_last': '{ HasRoomFor entries.old 1 }',
     'event_list::entries::insert': '{ HasRoomFor self.old 1 }',
@@ -46,6 +47,7 @@ REQUIRES = {
     'event_list::ticket::destroy_none': '{ place ≡ None }',
     'channel_core::queue::bounded': '{ 0 < cap }',
     'channel_core::state::bounded': '{ 0 < cap }',
+    'channel_core::state::polls::wait': '{ must_wait g self.old ≡ true }',
     'channel_run::run::new': '{ HasPositiveCapacity kind }',
     'channel_run::run::run_all': '{ HasPositiveCapacity kind }',
 }

@@ -2,7 +2,7 @@
 use Rattle.std.proofs.Common.{◌≡◌, ℕ, Bool, true, false, cond, Option, Some, None, is_some, refl, sym, ◌∙◌}
 use Rattle.identity.specs.Keys.{is_among}
 use Rattle.event_list.specs.Waiting.{Waiting, untold_keys, told_flag}
-use Rattle.channel_core.specs.Tickets.{waits, payload_replaced}
+use Rattle.channel_core.specs.Tickets.{waits, payload_held}
 use Rattle.event_list.proofs.Splits.{absent_both, absent_right, payload_none}
 
 module _ {W : Type 0} where
@@ -20,9 +20,7 @@ module _ {W : Type 0} where
       by_tests false false h = (refl, refl)
 
   -- nothing comes back of an entry that isn't there
-  pub nothing_replaced : (w : Option W) (ticket : Option ℕ) (list : Waiting W) → waits ticket list ≡ false
-      → None ≡ payload_replaced w ticket list
-  nothing_replaced None ticket list absent = refl
-  nothing_replaced (Some payload) None list absent = refl
-  nothing_replaced (Some payload) (Some key) list absent =
+  pub nothing_held : (ticket : Option ℕ) (list : Waiting W) → waits ticket list ≡ false → None ≡ payload_held ticket list
+  nothing_held None list absent = refl
+  nothing_held (Some key) list absent =
       sym (payload_none key list.untold (absent_right key list.told (untold_keys list) absent))

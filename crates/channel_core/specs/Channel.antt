@@ -1,5 +1,5 @@
 -- What a contract sees of a channel, and what each step makes of it.
-use Rattle.std.specs.Prelude.{◌≡◌, ℕ, ◌-◌, ◌++◌, ◌==◌, Bool, true, false, List, [], ◌∷◌, length, take, drop, slice_get, Option, Some, None, if◌then◌else◌, ◌⊎◌}
+use Rattle.std.specs.Prelude.{◌≡◌, ℕ, ◌-◌, ◌++◌, ◌==◌, ◌&&◌, Bool, true, false, not, List, [], ◌∷◌, length, take, drop, slice_get, Option, Some, None, if◌then◌else◌, ◌⊎◌}
 use Rattle.event_list.specs.Waiting.{Waiting, nobody, payloads, told_count, untold_count, told_one, told_all}
 use Rattle.futures.specs.declared.task.Poll.TheVariants.{Pending}
 use Rattle.channel_core.specs.declared.state.Group.{Group}
@@ -63,6 +63,21 @@ module _ {T W : Type 0} where
   list_of Receives channel = channel.receives
   list_of Streams channel = channel.streams
   list_of Closeds channel = channel.closeds
+
+  -- that list put in its place
+  abbrev pub with_list : Group → Waiting W → Channel T W → Channel T W
+  with_list Sends list channel = record channel { sends = list }
+  with_list Receives list channel = record channel { receives = list }
+  with_list Streams list channel = record channel { streams = list }
+  with_list Closeds list channel = record channel { closeds = list }
+
+  -- whether one of the group has to wait: a send on an open and full channel, a receive or a stream
+  -- on an open and empty one, a closed operation while there is a receiver
+  abbrev pub must_wait : Group → Channel T W → Bool
+  must_wait Sends channel = is_channel_full channel && not channel.closed
+  must_wait Receives channel = (length channel.messages == 0) && not channel.closed
+  must_wait Streams channel = (length channel.messages == 0) && not channel.closed
+  must_wait Closeds channel = not (channel.receivers == 0)
 
   -- what the law of notices looks at
   abbrev pub standing_of : Channel T W → Standing
@@ -189,30 +204,30 @@ module _ {T W : Type 0} where
   abbrev pub polled_stream : Option ℕ → Channel T W → Change T W
   polled_stream ticket channel = received (record channel { streams = left ticket channel.streams })
 
-  -- a send that can't go on waits, and nothing else changes; a finished one changes nothing
+  -- one of the group that can't go on waits, and nothing else changes
+  abbrev pub WaitsIn : Group → Option ℕ → Channel T W → W → Option ℕ → Channel T W → Type 0
+  WaitsIn group ticket channel payload ticket' channel' =
+      (channel' ≡ with_list group (list_of group channel') channel)
+      × Waits ticket (list_of group channel) payload ticket' (list_of group channel')
+
+  -- a send does so; a finished one changes nothing
   abbrev pub SendWaits : Option T → Option ℕ → Channel T W → W → Option ℕ → Channel T W → Type 0
   SendWaits None ticket channel payload ticket' channel' = (channel' ≡ channel) × (ticket' ≡ ticket)
   SendWaits (Some message) ticket channel payload ticket' channel' =
-      (channel' ≡ record channel { sends = channel'.sends })
-      × Waits ticket channel.sends payload ticket' channel'.sends
+      WaitsIn Sends ticket channel payload ticket' channel'
 
-  -- a receive that can't go on waits, and nothing else changes
+  -- so do a receive, a stream and a closed operation
   abbrev pub RecvWaits : Option ℕ → Channel T W → W → Option ℕ → Channel T W → Type 0
   RecvWaits ticket channel payload ticket' channel' =
-      (channel' ≡ record channel { receives = channel'.receives })
-      × Waits ticket channel.receives payload ticket' channel'.receives
+      WaitsIn Receives ticket channel payload ticket' channel'
 
-  -- a stream, likewise
   abbrev pub NextWaits : Option ℕ → Channel T W → W → Option ℕ → Channel T W → Type 0
   NextWaits ticket channel payload ticket' channel' =
-      (channel' ≡ record channel { streams = channel'.streams })
-      × Waits ticket channel.streams payload ticket' channel'.streams
+      WaitsIn Streams ticket channel payload ticket' channel'
 
-  -- a closed operation, likewise
   abbrev pub ClosedWaits : Option ℕ → Channel T W → W → Option ℕ → Channel T W → Type 0
   ClosedWaits ticket channel payload ticket' channel' =
-      (channel' ≡ record channel { closeds = channel'.closeds })
-      × Waits ticket channel.closeds payload ticket' channel'.closeds
+      WaitsIn Closeds ticket channel payload ticket' channel'
 
   -- ### When memory may be wanted
 

@@ -15,11 +15,6 @@ module _ {W : Type 0} where
   payload_held None list = None
   payload_held (Some key) list = payload_in key list.untold
 
-  -- what comes back of it if the entry waits again with a payload; without one nothing does
-  abbrev pub payload_replaced : Option W → Option ℕ → Waiting W → Option W
-  payload_replaced None ticket list = None
-  payload_replaced (Some payload) ticket list = payload_held ticket list
-
   -- the ticket's entry leaves
   abbrev pub left : Option ℕ → Waiting W → Waiting W
   left None list = list

@@ -1,7 +1,7 @@
 //! The waiting lists of a channel, and what a ticket that may be there does to one.
-ghost use Rattle.std.specs.Prelude.{◌≡◌, ◌++◌, None, IfOk, MatchOption, OnErr, OnOk, false, take};
+ghost use Rattle.std.specs.Prelude.{◌≡◌, ◌++◌, None, IfOk, IfErr, OnErr, OnOk, false, take};
 ghost use Rattle.event_list.specs.Waiting.{RingsEach, nobody, payloads, told_one, told_all};
-ghost use Rattle.channel_core.specs.Tickets.{Waits, waits, payload_held, payload_replaced, left, handed_on, rung_by_handing_on, LosesAtMostOne};
+ghost use Rattle.channel_core.specs.Tickets.{Waits, waits, payload_held, left, handed_on, rung_by_handing_on, LosesAtMostOne};
 
 use crate::state::Group;
 use channel_model::OutOfMemory;
@@ -113,37 +113,26 @@ pub(crate) fn hand_on<W: Drop, B: Bell<W>>(
 }
 
 /// Who can't go on waits with the payload: its entry waits again, or it begins to wait. The answer
-/// is the payload that its entry held. Without a payload nothing changes.
+/// is the payload that its entry held. If memory was refused, `w` comes back.
 #[inline(always)]
 pub(crate) fn wait<W: Drop>(
     list: &mut WaitList<W>,
     ticket: &mut Option<Ticket>,
-    w: &mut Option<W>,
-) -> Result<Option<W>, OutOfMemory>
-    ensures ok { OnOk result (MatchOption w.old
-        ((list.new ≡ list.old) × (ticket.new ≡ ticket.old))
-        (λ payload. Waits ticket.old list.old payload ticket.new list.new)) }
-    ensures replaced { IfOk result
-        (λ payload. payload ≡ payload_replaced w.old ticket.old list.old) }
-    ensures used { OnOk result (w.new ≡ None) }
-    ensures unchanged { OnErr result (list.new ≡ list.old) }
-    ensures kept { OnErr result ((ticket.new ≡ ticket.old) × (w.new ≡ w.old)) }
+    w: W,
+) -> Result<Option<W>, NoRoom<W>>
+    ensures waits { OnOk result (Waits ticket.old list.old w ticket.new list.new) }
+    ensures replaced { IfOk result (λ had. had ≡ payload_held ticket.old list.old) }
+    ensures handed_back { IfErr result (λ error. error.0 ≡ w) }
+    ensures unchanged { OnErr result ((list.new ≡ list.old) × (ticket.new ≡ ticket.old)) }
     ensures wanted { OnErr result (waits ticket.old list.old ≡ false) }
 {
-    let Some(mut payload) = w.take() else {
-        return Ok(None);
-    };
+    let mut payload = w;
     if let Some(ticket) = ticket {
         match list.renew(ticket, payload) {
-            Ok(replaced) => return Ok(replaced),
+            Ok(had) => return Ok(had),
             Err(back) => payload = back,
         }
     }
-    match list.listen_anew(ticket, payload) {
-        Ok(()) => Ok(None),
-        Err(NoRoom(payload)) => {
-            *w = Some(payload);
-            Err(OutOfMemory)
-        }
-    }
+    list.listen_anew(ticket, payload)?;
+    Ok(None)
 }

@@ -7,5 +7,4 @@ pub mod Dropped
 pub mod Logging
 pub mod Capacity
 mod Made
-mod Looks
 mod Renewed

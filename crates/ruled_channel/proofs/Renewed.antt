@@ -5,7 +5,9 @@ use Rattle.std.proofs.lemmas.List.{map-append}
 use Rattle.event_list.specs.Keys.{is_among}
 use Rattle.event_list.specs.Waiting.{Waiting, joined, keys, renewed, repaid, untold_keys, without}
 use Rattle.event_list.proofs.Splits.{absent_right, eqb_same, is_among-append, repaid-absent}
-use Rattle.channel_core.specs.Channel.{Channel, ClosedWaits, NextWaits, RecvWaits, SendWaits}
+use Rattle.channel_core.specs.Channel.{Channel, WaitsIn, must_wait, with_list}
+use Rattle.channel_core.specs.declared.state.Group.{Group}
+use Rattle.channel_core.specs.declared.state.Group.TheVariants.{Sends, Receives, Streams, Closeds}
 use Rattle.channel_core.specs.Tickets.{Waits, waiting_again}
 
 module _ {W : Type 0} (key : ℕ) (first second : W) where
@@ -72,33 +74,31 @@ module _ {W : Type 0} where
         holds = again.holds;
       }
 
+module _ {T W : Type 0} where
+  -- who has to wait doesn't depend on who waits
+  pub must_wait-with_list : (group : Group) (list : Waiting W) (core : Channel T W)
+      → must_wait group (with_list group list core) ≡ must_wait group core
+  must_wait-with_list Sends list core = refl
+  must_wait-with_list Receives list core = refl
+  must_wait-with_list Streams list core = refl
+  must_wait-with_list Closeds list core = refl
+
 module _ {T W : Type 0} (t t' t'' : Option ℕ) (core core' core'' : Channel T W) (first second : W) where
-  pub recv_waits_twice : RecvWaits t core first t' core' → RecvWaits t' core' second t'' core'' → RecvWaits t core second t'' core''
-  recv_waits_twice once again = (
-    again.0 ∙ ap (λ (c : Channel T W). record c { receives = core''.receives }) once.0,
-    waits_twice t t' t'' _ _ _ first second once.1 again.1,
-  )
-
-  pub next_waits_twice : NextWaits t core first t' core' → NextWaits t' core' second t'' core'' → NextWaits t core second t'' core''
-  next_waits_twice once again = (
-    again.0 ∙ ap (λ (c : Channel T W). record c { streams = core''.streams }) once.0,
-    waits_twice t t' t'' _ _ _ first second once.1 again.1,
-  )
-
-  pub closed_waits_twice : ClosedWaits t core first t' core' → ClosedWaits t' core' second t'' core'' → ClosedWaits t core second t'' core''
-  closed_waits_twice once again = (
-    again.0 ∙ ap (λ (c : Channel T W). record c { closeds = core''.closeds }) once.0,
-    waits_twice t t' t'' _ _ _ first second once.1 again.1,
-  )
-
-  sends_twice : (message : Option T) → SendWaits message t core first t' core' → SendWaits message t' core' second t'' core'' → SendWaits message t core second t'' core''
-  sends_twice None once again = (again.0 ∙ once.0, again.1 ∙ once.1)
-  sends_twice (Some message) once again = (
+  pub waits_in_twice : (group : Group) → WaitsIn group t core first t' core' → WaitsIn group t' core' second t'' core''
+      → WaitsIn group t core second t'' core''
+  waits_in_twice Sends once again = (
     again.0 ∙ ap (λ (c : Channel T W). record c { sends = core''.sends }) once.0,
     waits_twice t t' t'' _ _ _ first second once.1 again.1,
   )
-
-  pub send_waits_twice : (message message' : Option T) → message' ≡ message → SendWaits message t core first t' core'
-      → SendWaits message' t' core' second t'' core'' → SendWaits message t core second t'' core''
-  send_waits_twice message message' same once again =
-      sends_twice message once (subst (λ m. SendWaits m t' core' second t'' core'') same again)
+  waits_in_twice Receives once again = (
+    again.0 ∙ ap (λ (c : Channel T W). record c { receives = core''.receives }) once.0,
+    waits_twice t t' t'' _ _ _ first second once.1 again.1,
+  )
+  waits_in_twice Streams once again = (
+    again.0 ∙ ap (λ (c : Channel T W). record c { streams = core''.streams }) once.0,
+    waits_twice t t' t'' _ _ _ first second once.1 again.1,
+  )
+  waits_in_twice Closeds once again = (
+    again.0 ∙ ap (λ (c : Channel T W). record c { closeds = core''.closeds }) once.0,
+    waits_twice t t' t'' _ _ _ first second once.1 again.1,
+  )

@@ -3,13 +3,13 @@
 //! A poll looks without a mark first. One that is ready needs none, nor memory for it; one that
 //! isn't has changed nothing. Then it waits by its mark under the same lock, so that whoever tells it
 //! finds that; `mark` says how. That is out of line, and the look is in its caller.
-ghost use Rattle.std.specs.Prelude.{◌≡◌, ◌<◌, ◌==◌, ◌⊎◌, [], ◌++◌, Some, None, IfOk, IfErr, IfSome, IfNone, IsSome, OnOk, OnErr};
+ghost use Rattle.std.specs.Prelude.{◌≡◌, ◌<◌, ◌==◌, ◌⊎◌, [], ◌++◌, Some, None, IfOk, IfErr, IfSome, IfNone, IsSome, OnOk, OnErr, true, false};
 ghost use Rattle.futures.specs.Poll.{IfReady};
 ghost use Rattle.futures.specs.declared.task.Poll.TheVariants.{Pending};
 ghost use Rattle.channel_model.specs.Errors.{message_of};
 ghost use Rattle.channel_model.specs.Tables.{OnReady, OnWait, closed_poll, next_poll, recv_poll, send_poll, try_send_answer};
-ghost use Rattle.channel_core.specs.Channel.{ClosedWaits, GrowsWithMessages, NextWaits, RecvWaits, SendWaits, is_channel_full, oldest, polled_receive, polled_send, polled_stream, unchanged};
-ghost use Rattle.channel_core.specs.Tickets.{left};
+ghost use Rattle.channel_core.specs.Channel.{ClosedWaits, GrowsWithMessages, NextWaits, RecvWaits, SendWaits, WaitsIn, is_channel_full, list_of, must_wait, oldest, polled_receive, polled_send, polled_stream, unchanged};
+ghost use Rattle.channel_core.specs.Tickets.{left, waits};
 ghost use Rattle.ruled_channel.specs.declared.mark.Mark.{Mark};
 ghost use Rattle.ruled_channel.specs.State.{HasReceivers, IsEmpty};
 ghost use Rattle.ruled_channel.specs.Rule.{Sends, Receives, Ends, Learns, Fitted};
@@ -23,7 +23,7 @@ use crate::pass::Pass;
 use crate::protocol::Protocol;
 use crate::ringer::Ringer;
 use channel_core::{
-    Core, Group, NoMemory, OutOfMemory, RecvError, SendError, Ticket, TrySendError,
+    Core, Group, NoMemory, NoRoom, OutOfMemory, RecvError, SendError, Ticket, TrySendError,
 };
 use futures::task::{Poll, Source};
 use ruled_mutex::Unruled;
@@ -36,17 +36,6 @@ fn is_untold<T: Drop>(core: &Core<T, Mark>, group: Group, ticket: &Option<Ticket
     match ticket {
         Some(ticket) => core.is_told(group, ticket) == Some(false),
         None => false,
-    }
-}
-
-// A poll of whoever can't go on is pending.
-fn expect_pending<A: Drop>(poll: Poll<A>)
-    requires { poll ≡ Pending }
-    ensures { poll ≡ Pending }
-{
-    match poll {
-        Poll::Pending => {}
-        Poll::Ready(_) => unreachable!(),
     }
 }
 
@@ -64,6 +53,29 @@ fn first_mark<C, W: Waiter<C>>(
     match waiter.mark(cell, None, source, cx) {
         Mark::Task(None) => Err(OutOfMemory),
         mark => Ok(mark),
+    }
+}
+
+// Waits by a mark, which stays with its waiter if memory was refused. The answer is the one that the
+// entry held untold.
+fn wait_by<T: Drop, C, W: Waiter<C>>(
+    core: &mut Core<T, Mark>,
+    group: Group,
+    ticket: &mut Option<Ticket>,
+    waiter: &mut W,
+    mark: Mark,
+) -> Result<Option<Mark>, OutOfMemory>
+    requires { must_wait group core.old ≡ true }
+    ensures waits { OnOk result (WaitsIn group ticket.old core.old mark ticket.new core.new) }
+    ensures unchanged { OnErr result ((core.new ≡ core.old) × (ticket.new ≡ ticket.old)) }
+    ensures wanted { OnErr result (waits ticket.old (list_of group core.old) ≡ false) }
+{
+    match core.wait(group, ticket, mark) {
+        Ok(held) => Ok(held),
+        Err(NoRoom(mark)) => {
+            waiter.keep(Some(mark));
+            Err(OutOfMemory)
+        }
     }
 }
 
@@ -92,47 +104,14 @@ impl<T: Drop, V, P: Protocol<T, V>> RuledChannel<T, V, P> {
             × (ticket.new ≡ ticket.old)) }
         ensures wanted { OnErr result (recv_poll (oldest core.old) core.old.closed ≡ Pending) }
     {
-        if core.is_empty() && !core.is_closed() {
-            self.wait_to_recv(core, ticket, waiter, cx, bell)?;
+        if core.must_wait(Group::Receives) {
+            self.wait(core, Group::Receives, ticket, waiter, cx)?;
             return Ok(Poll::Pending);
         }
         let mut left = None;
-        let polled = core.poll_recv_with(ticket, &mut None, bell, &mut left);
+        let polled = core.finish_recv(ticket, bell, &mut left);
         waiter.keep(left);
-        polled
-    }
-
-    // A receive that can't go on waits.
-    #[inline(never)]
-    fn wait_to_recv<C, W: Waiter<C>>(
-        &self,
-        core: &mut Core<T, Mark>,
-        ticket: &mut Option<Ticket>,
-        waiter: &mut W,
-        cx: &mut C,
-        bell: &mut Ringer,
-    ) -> Result<(), OutOfMemory>
-        requires { recv_poll (oldest core.old) core.old.closed ≡ Pending }
-        ensures waits { OnOk result ((w : Mark) × W.waits_by cx.new (source_of self.now) w
-            × RecvWaits ticket.old core.old w ticket.new core.new) }
-        ensures keeps { W.keeps cx.old cx.new }
-        ensures silent { bell.new ≡ bell.old }
-        ensures unchanged { OnErr result ((core.new ≡ core.old) × (ticket.new ≡ ticket.old)) }
-    {
-        let cell = waiter.cell(self.alloc)?;
-        if !is_untold(core, Group::Receives, ticket) {
-            let mut mark = Some(first_mark(waiter, cell, &self.source, cx)?);
-            let polled = core.poll_recv_with(ticket, &mut mark, bell, &mut None);
-            waiter.keep(mark);
-            expect_pending(polled?);
-            return Ok(());
-        }
-        let (mut bare, mut held) = (Some(Mark::Task(None)), None);
-        let renewed = core.poll_recv_with(ticket, &mut bare, bell, &mut held);
-        expect_pending(renewed?);
-        let mark = waiter.mark(cell, held, &self.source, cx);
-        expect_pending(core.poll_recv(ticket, mark, bell)?);
-        Ok(())
+        Ok(polled)
     }
 
     #[tactic(auto, using(crate::proofs::Logging::logs, crate::proofs::Logging::logs_if_ready))]
@@ -158,46 +137,14 @@ impl<T: Drop, V, P: Protocol<T, V>> RuledChannel<T, V, P> {
             × (ticket.new ≡ ticket.old)) }
         ensures wanted { OnErr result (next_poll (oldest core.old) core.old.closed ≡ Pending) }
     {
-        if core.is_empty() && !core.is_closed() {
-            self.wait_for_next(core, ticket, waiter, cx, bell)?;
+        if core.must_wait(Group::Streams) {
+            self.wait(core, Group::Streams, ticket, waiter, cx)?;
             return Ok(Poll::Pending);
         }
         let mut left = None;
-        let polled = core.poll_next_with(ticket, &mut None, bell, &mut left);
+        let polled = core.finish_next(ticket, bell, &mut left);
         waiter.keep(left);
-        polled
-    }
-
-    // A stream that can't go on waits.
-    fn wait_for_next<C, W: Waiter<C>>(
-        &self,
-        core: &mut Core<T, Mark>,
-        ticket: &mut Option<Ticket>,
-        waiter: &mut W,
-        cx: &mut C,
-        bell: &mut Ringer,
-    ) -> Result<(), OutOfMemory>
-        requires { next_poll (oldest core.old) core.old.closed ≡ Pending }
-        ensures waits { OnOk result ((w : Mark) × W.waits_by cx.new (source_of self.now) w
-            × NextWaits ticket.old core.old w ticket.new core.new) }
-        ensures keeps { W.keeps cx.old cx.new }
-        ensures silent { bell.new ≡ bell.old }
-        ensures unchanged { OnErr result ((core.new ≡ core.old) × (ticket.new ≡ ticket.old)) }
-    {
-        let cell = waiter.cell(self.alloc)?;
-        if !is_untold(core, Group::Streams, ticket) {
-            let mut mark = Some(first_mark(waiter, cell, &self.source, cx)?);
-            let polled = core.poll_next_with(ticket, &mut mark, bell, &mut None);
-            waiter.keep(mark);
-            expect_pending(polled?);
-            return Ok(());
-        }
-        let (mut bare, mut held) = (Some(Mark::Task(None)), None);
-        let renewed = core.poll_next_with(ticket, &mut bare, bell, &mut held);
-        expect_pending(renewed?);
-        let mark = waiter.mark(cell, held, &self.source, cx);
-        expect_pending(core.poll_next(ticket, mark, bell)?);
-        Ok(())
+        Ok(polled)
     }
 
     #[tactic(auto, using(crate::proofs::Logging::logs, crate::proofs::Logging::logs_if_ready))]
@@ -211,6 +158,7 @@ impl<T: Drop, V, P: Protocol<T, V>> RuledChannel<T, V, P> {
         cx: &mut C,
         bell: &mut Ringer,
     ) -> Result<Poll<Result<(), SendError<T>>>, OutOfMemory>
+        requires { IsSome message.old }
         ensures reply { IfOk result
             (λ poll. poll ≡ send_poll message.old core.old.closed (is_channel_full core.old)) }
         ensures after { OnReady result
@@ -228,58 +176,16 @@ impl<T: Drop, V, P: Protocol<T, V>> RuledChannel<T, V, P> {
         ensures wanted { OnErr result (GrowsWithMessages core.old
             ⊎ (send_poll message.old core.old.closed (is_channel_full core.old) ≡ Pending)) }
     {
-        if core.is_full() && !core.is_closed() {
-            self.wait_to_send(core, message, ticket, waiter, cx, bell)?;
+        if core.must_wait(Group::Sends) {
+            self.wait(core, Group::Sends, ticket, waiter, cx)?;
             return Ok(Poll::Pending);
         }
         let mut left = None;
-        let polled = core.poll_send_with(message, ticket, &mut None, bell, &mut left)?;
+        let polled = core.finish_send(message, ticket, bell, &mut left)?;
         waiter.keep(left);
-        if polled.is_pending() {
-            // The poll has no message.
-            self.wait_to_send(core, message, ticket, waiter, cx, bell)?;
-            return Ok(Poll::Pending);
-        }
         Ok(polled)
     }
 
-    // A send that can't go on waits.
-    #[inline(never)]
-    fn wait_to_send<C, W: Waiter<C>>(
-        &self,
-        core: &mut Core<T, Mark>,
-        message: &mut Option<T>,
-        ticket: &mut Option<Ticket>,
-        waiter: &mut W,
-        cx: &mut C,
-        bell: &mut Ringer,
-    ) -> Result<(), OutOfMemory>
-        requires { send_poll message.old core.old.closed (is_channel_full core.old) ≡ Pending }
-        ensures waits { OnOk result ((w : Mark) × W.waits_by cx.new (source_of self.now) w
-            × SendWaits message.old ticket.old core.old w ticket.new core.new) }
-        ensures kept { message.new ≡ message.old }
-        ensures keeps { W.keeps cx.old cx.new }
-        ensures silent { bell.new ≡ bell.old }
-        ensures unchanged { OnErr result ((core.new ≡ core.old) × (ticket.new ≡ ticket.old)) }
-    {
-        let cell = waiter.cell(self.alloc)?;
-        if !is_untold(core, Group::Sends, ticket) {
-            let mut mark = Some(first_mark(waiter, cell, &self.source, cx)?);
-            let polled = core.poll_send_with(message, ticket, &mut mark, bell, &mut None);
-            waiter.keep(mark);
-            expect_pending(polled?);
-            return Ok(());
-        }
-        let (mut bare, mut held) = (Some(Mark::Task(None)), None);
-        let renewed = core.poll_send_with(message, ticket, &mut bare, bell, &mut held);
-        expect_pending(renewed?);
-        let mark = waiter.mark(cell, held, &self.source, cx);
-        expect_pending(core.poll_send(message, ticket, mark, bell)?);
-        Ok(())
-    }
-}
-
-impl<T: Drop, V, P: Protocol<T, V>> RuledChannel<T, V, P> {
     fn poll_closed<C, W: Waiter<C>>(
         &self,
         core: &mut Core<T, Mark>,
@@ -299,43 +205,41 @@ impl<T: Drop, V, P: Protocol<T, V>> RuledChannel<T, V, P> {
         ensures unchanged { OnErr result ((core.new ≡ core.old) × (ticket.new ≡ ticket.old)) }
         ensures wanted { OnErr result (0 < core.old.receivers) }
     {
-        if core.receiver_count() > 0 {
-            self.wait_for_close(core, ticket, waiter, cx)?;
+        if core.must_wait(Group::Closeds) {
+            self.wait(core, Group::Closeds, ticket, waiter, cx)?;
             return Ok(Poll::Pending);
         }
         let mut left = None;
-        let polled = core.poll_closed_with(ticket, &mut None, &mut left);
+        let polled = core.finish_closed(ticket, &mut left);
         waiter.keep(left);
-        polled
+        Ok(polled)
     }
 
-    // A wait for the last receiver that can't go on waits.
-    fn wait_for_close<C, W: Waiter<C>>(
+    // One that can't go on waits by its mark.
+    #[inline(never)]
+    fn wait<C, W: Waiter<C>>(
         &self,
         core: &mut Core<T, Mark>,
+        group: Group,
         ticket: &mut Option<Ticket>,
         waiter: &mut W,
         cx: &mut C,
     ) -> Result<(), OutOfMemory>
-        requires { closed_poll (core.old.receivers == 0) ≡ Pending }
+        requires { must_wait group core.old ≡ true }
         ensures waits { OnOk result ((w : Mark) × W.waits_by cx.new (source_of self.now) w
-            × ClosedWaits ticket.old core.old w ticket.new core.new) }
+            × WaitsIn group ticket.old core.old w ticket.new core.new) }
         ensures keeps { W.keeps cx.old cx.new }
         ensures unchanged { OnErr result ((core.new ≡ core.old) × (ticket.new ≡ ticket.old)) }
     {
         let cell = waiter.cell(self.alloc)?;
-        if !is_untold(core, Group::Closeds, ticket) {
-            let mut mark = Some(first_mark(waiter, cell, &self.source, cx)?);
-            let polled = core.poll_closed_with(ticket, &mut mark, &mut None);
-            waiter.keep(mark);
-            expect_pending(polled?);
+        if is_untold(core, group, ticket) {
+            let held = wait_by(core, group, ticket, waiter, Mark::Task(None))?;
+            let mark = waiter.mark(cell, held, &self.source, cx);
+            wait_by(core, group, ticket, waiter, mark)?;
             return Ok(());
         }
-        let (mut bare, mut held) = (Some(Mark::Task(None)), None);
-        let renewed = core.poll_closed_with(ticket, &mut bare, &mut held);
-        expect_pending(renewed?);
-        let mark = waiter.mark(cell, held, &self.source, cx);
-        expect_pending(core.poll_closed(ticket, mark)?);
+        let mark = first_mark(waiter, cell, &self.source, cx)?;
+        wait_by(core, group, ticket, waiter, mark)?;
         Ok(())
     }
 }

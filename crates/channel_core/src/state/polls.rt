@@ -1,14 +1,15 @@
 //! The polls of those who may wait, and what they leave when one gives up.
-ghost use Rattle.std.specs.Prelude.{◌≡◌, ◌==◌, Some, None, IfOk, OnErr, MatchOption};
+ghost use Rattle.std.specs.Prelude.{◌≡◌, ◌==◌, IsSome, None, IfOk, IfErr, OnOk, OnErr, true, false};
+ghost use Rattle.futures.specs.Poll.{IfReady, OnPending};
 ghost use Rattle.event_list.specs.Waiting.{RingsEach};
 ghost use Rattle.channel_model.specs.Tables.{OnReady, OnWait, send_poll, recv_poll, next_poll, closed_poll};
-ghost use Rattle.channel_core.specs.Tickets.{payload_held, payload_replaced, left, handed_on, rung_by_handing_on};
-ghost use Rattle.channel_core.specs.Channel.{is_channel_full, oldest, polled_receive, polled_stream, polled_send, SendWaits, RecvWaits, NextWaits, ClosedWaits, SendWants, RecvWants, NextWants, ClosedWants};
+ghost use Rattle.channel_core.specs.Tickets.{waits, payload_held, left, handed_on, rung_by_handing_on};
+ghost use Rattle.channel_core.specs.Channel.{GrowsWithMessages, is_channel_full, list_of, must_wait, oldest, polled_receive, polled_stream, polled_send, WaitsIn, SendWaits, RecvWaits, NextWaits, ClosedWaits, SendWants, RecvWants, NextWants, ClosedWants};
 
-use crate::state::Core;
+use crate::state::{Core, Group};
 use crate::waiting::{hand_on, leave, wait};
 use channel_model::{NoMemory, OutOfMemory, RecvError, SendError};
-use event_list::{Bell, Ticket};
+use event_list::{Bell, NoRoom, Ticket};
 use futures::task::Poll;
 
 impl<T: Drop, W: Drop> Core<T, W> {
@@ -57,38 +58,39 @@ impl<T: Drop, W: Drop> Core<T, W> {
         ensures unpolled { OnErr result ((m.new ≡ m.old) × (t.new ≡ t.old)) }
         ensures wanted { OnErr result (SendWants m.old t.old self.old) }
     {
-        self.poll_send_with(m, t, &mut Some(w), bell, &mut None)
+        let polled = self.finish_send(m, t, bell, &mut None)?;
+        if polled.is_pending() && m.is_some() {
+            self.wait_or_fail(Group::Sends, t, w)?;
+        }
+        Ok(polled)
     }
 
-    /// `poll_send`, which gives back each payload that isn't in the list after it.
+    /// Finishes a send, if it can go on: `poll_send`, but a pending poll changes nothing.
     ///
-    /// `w` is the payload to wait with. It stays if it isn't needed. Without one the poll only
-    /// looks: if it can't go on it is pending, and nothing changes. `back` gets the payload that
-    /// the send's entry held untold, once that has left its list or was replaced, and is none else.
+    /// `back` gets the payload that the send's entry held untold, once that has left its list, and
+    /// is none else. One that can't go on waits by [`Core::wait`].
     ///
     /// # Examples
     ///
     /// ```
     /// let mut core: Core<u64, u64> = Core::bounded(rt.alloc(), 1)?;
     /// assert_eq!(rt; core.try_send(1, &mut Quiet)?, Ok(()));
-    /// let (mut message, mut ticket, mut w, mut back) = (Some(2), None, Some(10), None);
-    /// let poll = core.poll_send_with(&mut message, &mut ticket, &mut w, &mut Quiet, &mut back);
+    /// let (mut message, mut ticket, mut back) = (Some(2), None, None);
+    /// let poll = core.finish_send(&mut message, &mut ticket, &mut Quiet, &mut back);
     /// assert_eq!(rt; poll, Ok(Poll::Pending));
-    /// assert_eq!(rt; (w, back), (None, None));
+    /// assert!(rt; core.wait(Group::Sends, &mut ticket, 10).is_ok());
     ///
-    /// assert!(rt; core.close(&mut Quiet));
-    /// w = Some(11);
-    /// let poll = core.poll_send_with(&mut message, &mut ticket, &mut w, &mut Quiet, &mut back);
-    /// assert_eq!(rt; poll, Ok(Poll::Ready(Err(SendError(2)))));
-    /// assert_eq!(rt; (w, back), (Some(11), None));
+    /// assert_eq!(rt; core.try_recv(&mut Quiet), Ok(1));
+    /// let poll = core.finish_send(&mut message, &mut ticket, &mut Quiet, &mut back);
+    /// assert_eq!(rt; poll, Ok(Poll::Ready(Ok(()))));
+    /// assert_eq!(rt; (message, back), (None, None));
     /// Ticket::destroy_none(ticket);
     /// ```
     #[inline(always)]
-    pub fn poll_send_with<B: Bell<W>>(
+    pub fn finish_send<B: Bell<W>>(
         &mut self,
         m: &mut Option<T>,
         t: &mut Option<Ticket>,
-        w: &mut Option<W>,
         bell: &mut B,
         back: &mut Option<W>,
     ) -> Result<Poll<Result<(), SendError<T>>>, OutOfMemory>
@@ -98,22 +100,14 @@ impl<T: Drop, W: Drop> Core<T, W> {
         ensures rung { OnReady result
             (RingsEach B.rings bell.old (polled_send m.old t.old self.old).rung bell.new) }
         ensures finished { OnReady result ((m.new ≡ None) × (t.new ≡ None)) }
-        ensures spare { OnReady result (w.new ≡ w.old) }
         ensures given_back { OnReady result (back.new ≡ payload_held t.old self.old.sends) }
 
-        ensures waits { OnWait result (MatchOption w.old
-            ((self.new ≡ self.old) × (t.new ≡ t.old))
-            (λ payload. SendWaits m.old t.old self.old payload t.new self.new)) }
-        ensures used { OnWait result (MatchOption m.old (w.new ≡ w.old) (λ _. w.new ≡ None)) }
-        ensures replaced { OnWait result (MatchOption m.old (back.new ≡ None)
-            (λ _. back.new ≡ payload_replaced w.old t.old self.old.sends)) }
-        ensures kept { OnWait result (m.new ≡ m.old) }
-        ensures silent { OnWait result (bell.new ≡ bell.old) }
+        ensures waits { OnWait result ((self.new ≡ self.old) × (bell.new ≡ bell.old)) }
+        ensures kept { OnWait result ((m.new ≡ m.old) × (t.new ≡ t.old) × (back.new ≡ None)) }
 
         ensures unchanged { OnErr result ((self.new ≡ self.old) × (bell.new ≡ bell.old)) }
-        ensures unpolled { OnErr result ((m.new ≡ m.old) × (t.new ≡ t.old)) }
-        ensures unused { OnErr result ((w.new ≡ w.old) × (back.new ≡ None)) }
-        ensures wanted { OnErr result (SendWants m.old t.old self.old) }
+        ensures unpolled { OnErr result ((m.new ≡ m.old) × (t.new ≡ t.old) × (back.new ≡ None)) }
+        ensures wanted { OnErr result (GrowsWithMessages self.old × IsSome m.old) }
     {
         *back = None;
         let Some(message) = m.take() else {
@@ -131,7 +125,6 @@ impl<T: Drop, W: Drop> Core<T, W> {
             }
             Ok(Err(message)) => {
                 *m = Some(message);
-                *back = wait(&mut self.lists.sends, t, w)?;
                 Ok(Poll::Pending)
             }
             Err(NoMemory(message)) => {
@@ -178,75 +171,62 @@ impl<T: Drop, W: Drop> Core<T, W> {
         ensures unpolled { OnErr result (t.new ≡ t.old) }
         ensures wanted { OnErr result (RecvWants t.old self.old) }
     {
-        self.poll_recv_with(t, &mut Some(w), bell, &mut None)
+        let polled = self.finish_recv(t, bell, &mut None);
+        if polled.is_pending() {
+            self.wait_or_fail(Group::Receives, t, w)?;
+        }
+        Ok(polled)
     }
 
-    /// `poll_recv`, which gives back each payload that isn't in the list after it.
+    /// Finishes a receive, if it can go on: `poll_recv`, but a pending poll changes nothing.
     ///
-    /// `w` is the payload to wait with. It stays if it isn't needed. Without one the poll only
-    /// looks: if it can't go on it is pending, and nothing changes. `back` gets the payload that
-    /// the receive's entry held untold, once that has left its list or was replaced, and is none
-    /// else.
+    /// `back` gets the payload that the receive's entry held untold, once that has left its list,
+    /// and is none else. One that can't go on waits by [`Core::wait`].
     ///
     /// # Examples
     ///
     /// ```
     /// let mut core: Core<u64, u64> = Core::unbounded(rt.alloc());
-    /// let (mut ticket, mut w, mut back) = (None, None, None);
-    /// let poll = core.poll_recv_with(&mut ticket, &mut w, &mut Quiet, &mut back);
-    /// assert_eq!(rt; poll, Ok(Poll::Pending));
+    /// let (mut ticket, mut back) = (None, None);
+    /// let poll = core.finish_recv(&mut ticket, &mut Quiet, &mut back);
+    /// assert_eq!(rt; poll, Poll::Pending);
     /// assert!(rt; ticket.is_none());
     ///
-    /// for payload in [10, 11] {
-    ///     w = Some(payload);
-    ///     let poll = core.poll_recv_with(&mut ticket, &mut w, &mut Quiet, &mut back);
-    ///     assert_eq!(rt; poll, Ok(Poll::Pending));
-    /// }
-    /// assert_eq!(rt; back, Some(10));
-    /// core.cancel_recv(&mut ticket, &mut Quiet);
+    /// // Another receive takes the place of the message that the first one is told of.
+    /// assert_eq!(rt; core.try_send(1, &mut Quiet), Ok(Ok(())));
+    /// let poll = core.finish_recv(&mut ticket, &mut Quiet, &mut back);
+    /// assert_eq!(rt; poll, Poll::Ready(Ok(1)));
     /// Ticket::destroy_none(ticket);
     /// ```
     #[inline(always)]
-    pub fn poll_recv_with<B: Bell<W>>(
+    pub fn finish_recv<B: Bell<W>>(
         &mut self,
         t: &mut Option<Ticket>,
-        w: &mut Option<W>,
         bell: &mut B,
         back: &mut Option<W>,
-    ) -> Result<Poll<Result<T, RecvError>>, OutOfMemory>
-        ensures reply { IfOk result (λ poll. poll ≡ recv_poll (oldest self.old) self.old.closed) }
-        ensures after { OnReady result (self.new ≡ (polled_receive t.old self.old).channel) }
-        ensures rung { OnReady result
-            (RingsEach B.rings bell.old (polled_receive t.old self.old).rung bell.new) }
-        ensures finished { OnReady result (t.new ≡ None) }
-        ensures spare { OnReady result (w.new ≡ w.old) }
-        ensures given_back { OnReady result (back.new ≡ payload_held t.old self.old.receives) }
-
-        ensures waits { OnWait result (MatchOption w.old
-            ((self.new ≡ self.old) × (t.new ≡ t.old))
-            (λ payload. RecvWaits t.old self.old payload t.new self.new)) }
-        ensures used { OnWait result (w.new ≡ None) }
-        ensures replaced { OnWait result
-            (back.new ≡ payload_replaced w.old t.old self.old.receives) }
-        ensures silent { OnWait result (bell.new ≡ bell.old) }
-
-        ensures unchanged { OnErr result ((self.new ≡ self.old) × (bell.new ≡ bell.old)) }
-        ensures unpolled { OnErr result (t.new ≡ t.old) }
-        ensures unused { OnErr result ((w.new ≡ w.old) × (back.new ≡ None)) }
-        ensures wanted { OnErr result (RecvWants t.old self.old) }
+    ) -> Poll<Result<T, RecvError>>
+        ensures reply { result ≡ recv_poll (oldest self.old) self.old.closed }
+        ensures after { IfReady result
+            (λ _. self.new ≡ (polled_receive t.old self.old).channel) }
+        ensures rung { IfReady result
+            (λ _. RingsEach B.rings bell.old (polled_receive t.old self.old).rung bell.new) }
+        ensures finished { IfReady result (λ _. t.new ≡ None) }
+        ensures given_back { IfReady result
+            (λ _. back.new ≡ payload_held t.old self.old.receives) }
+        ensures waits { OnPending result ((self.new ≡ self.old) × (bell.new ≡ bell.old)) }
+        ensures kept { OnPending result ((t.new ≡ t.old) × (back.new ≡ None)) }
     {
         *back = None;
         if let Some(message) = self.queue.pop() {
             *back = leave(&mut self.lists.receives, t);
             self.lists.sends.tell_one(bell);
-            return Ok(Poll::Ready(Ok(message)));
+            return Poll::Ready(Ok(message));
         }
         if self.closed {
             *back = leave(&mut self.lists.receives, t);
-            return Ok(Poll::Ready(Err(RecvError)));
+            return Poll::Ready(Err(RecvError));
         }
-        *back = wait(&mut self.lists.receives, t, w)?;
-        Ok(Poll::Pending)
+        Poll::Pending
     }
 
     /// Polls the stream of a receiver, by its ticket.
@@ -283,71 +263,59 @@ impl<T: Drop, W: Drop> Core<T, W> {
         ensures unpolled { OnErr result (t.new ≡ t.old) }
         ensures wanted { OnErr result (NextWants t.old self.old) }
     {
-        self.poll_next_with(t, &mut Some(w), bell, &mut None)
+        let polled = self.finish_next(t, bell, &mut None);
+        if polled.is_pending() {
+            self.wait_or_fail(Group::Streams, t, w)?;
+        }
+        Ok(polled)
     }
 
-    /// `poll_next`, which gives back each payload that isn't in the list after it.
+    /// Takes the next message of a stream, or finds its end: `poll_next`, but a pending poll changes
+    /// nothing.
     ///
-    /// `w` is the payload to wait with. It stays if it isn't needed. Without one the poll only
-    /// looks: if it can't go on it is pending, and nothing changes. `back` gets the payload that
-    /// the stream's entry held untold, once that has left its list or was replaced, and is none
-    /// else.
+    /// `back` gets the payload that the stream's entry held untold, once that has left its list, and
+    /// is none else. One that can't go on waits by [`Core::wait`].
     ///
     /// # Examples
     ///
     /// ```
     /// let mut core: Core<u64, u64> = Core::unbounded(rt.alloc());
-    /// let (mut ticket, mut w, mut back) = (None, Some(10), None);
-    /// let poll = core.poll_next_with(&mut ticket, &mut w, &mut Quiet, &mut back);
-    /// assert_eq!(rt; poll, Ok(Poll::Pending));
+    /// let (mut ticket, mut back) = (None, None);
+    /// assert!(rt; core.wait(Group::Streams, &mut ticket, 10).is_ok());
     ///
     /// // The bell has the payload of one that is told.
     /// core.close(&mut Quiet);
-    /// let poll = core.poll_next_with(&mut ticket, &mut w, &mut Quiet, &mut back);
-    /// assert_eq!(rt; poll, Ok(Poll::Ready(None)));
-    /// assert_eq!(rt; back, None);
+    /// let poll = core.finish_next(&mut ticket, &mut Quiet, &mut back);
+    /// assert_eq!(rt; (poll, back), (Poll::Ready(None), None));
     /// Ticket::destroy_none(ticket);
     /// ```
-    pub fn poll_next_with<B: Bell<W>>(
+    pub fn finish_next<B: Bell<W>>(
         &mut self,
         t: &mut Option<Ticket>,
-        w: &mut Option<W>,
         bell: &mut B,
         back: &mut Option<W>,
-    ) -> Result<Poll<Option<T>>, OutOfMemory>
-        ensures reply { IfOk result (λ poll. poll ≡ next_poll (oldest self.old) self.old.closed) }
-        ensures after { OnReady result (self.new ≡ (polled_stream t.old self.old).channel) }
-        ensures rung { OnReady result
-            (RingsEach B.rings bell.old (polled_stream t.old self.old).rung bell.new) }
-        ensures finished { OnReady result (t.new ≡ None) }
-        ensures spare { OnReady result (w.new ≡ w.old) }
-        ensures given_back { OnReady result (back.new ≡ payload_held t.old self.old.streams) }
-
-        ensures waits { OnWait result (MatchOption w.old
-            ((self.new ≡ self.old) × (t.new ≡ t.old))
-            (λ payload. NextWaits t.old self.old payload t.new self.new)) }
-        ensures used { OnWait result (w.new ≡ None) }
-        ensures replaced { OnWait result
-            (back.new ≡ payload_replaced w.old t.old self.old.streams) }
-        ensures silent { OnWait result (bell.new ≡ bell.old) }
-
-        ensures unchanged { OnErr result ((self.new ≡ self.old) × (bell.new ≡ bell.old)) }
-        ensures unpolled { OnErr result (t.new ≡ t.old) }
-        ensures unused { OnErr result ((w.new ≡ w.old) × (back.new ≡ None)) }
-        ensures wanted { OnErr result (NextWants t.old self.old) }
+    ) -> Poll<Option<T>>
+        ensures reply { result ≡ next_poll (oldest self.old) self.old.closed }
+        ensures after { IfReady result
+            (λ _. self.new ≡ (polled_stream t.old self.old).channel) }
+        ensures rung { IfReady result
+            (λ _. RingsEach B.rings bell.old (polled_stream t.old self.old).rung bell.new) }
+        ensures finished { IfReady result (λ _. t.new ≡ None) }
+        ensures given_back { IfReady result (λ _. back.new ≡ payload_held t.old self.old.streams) }
+        ensures waits { OnPending result ((self.new ≡ self.old) × (bell.new ≡ bell.old)) }
+        ensures kept { OnPending result ((t.new ≡ t.old) × (back.new ≡ None)) }
     {
         *back = None;
         if let Some(message) = self.queue.pop() {
             *back = leave(&mut self.lists.streams, t);
             self.lists.sends.tell_one(bell);
-            return Ok(Poll::Ready(Some(message)));
+            return Poll::Ready(Some(message));
         }
         if self.closed {
             *back = leave(&mut self.lists.streams, t);
-            return Ok(Poll::Ready(None));
+            return Poll::Ready(None);
         }
-        *back = wait(&mut self.lists.streams, t, w)?;
-        Ok(Poll::Pending)
+        Poll::Pending
     }
 
     /// Polls a closed operation, by its ticket. It is ready exactly if no receiver is left.
@@ -379,62 +347,114 @@ impl<T: Drop, W: Drop> Core<T, W> {
         ensures unpolled { OnErr result (t.new ≡ t.old) }
         ensures wanted { OnErr result (ClosedWants t.old self.old) }
     {
-        self.poll_closed_with(t, &mut Some(w), &mut None)
+        let polled = self.finish_closed(t, &mut None);
+        if polled.is_pending() {
+            self.wait_or_fail(Group::Closeds, t, w)?;
+        }
+        Ok(polled)
     }
 
-    /// `poll_closed`, which gives back each payload that isn't in the list after it.
+    /// Finishes a closed operation, if no receiver is left: `poll_closed`, but a pending poll changes
+    /// nothing.
     ///
-    /// `w` is the payload to wait with. It stays if it isn't needed. Without one the poll only
-    /// looks: if it can't go on it is pending, and nothing changes. `back` gets the payload that
-    /// the operation's entry held untold, once that has left its list or was replaced, and is none
-    /// else.
+    /// `back` gets the payload that the operation's entry held untold, once that has left its list,
+    /// and is none else. One that can't go on waits by [`Core::wait`].
     ///
     /// # Examples
     ///
     /// ```
     /// let mut core: Core<u64, u64> = Core::unbounded(rt.alloc());
     /// let (mut ticket, mut back) = (None, None);
-    /// for payload in [10, 11] {
-    ///     let poll = core.poll_closed_with(&mut ticket, &mut Some(payload), &mut back);
-    ///     assert_eq!(rt; poll, Ok(Poll::Pending));
-    /// }
-    /// assert_eq!(rt; back, Some(10));
-    /// core.cancel_closed(&mut ticket);
+    /// assert_eq!(rt; core.finish_closed(&mut ticket, &mut back), Poll::Pending);
+    /// core.drop_receiver(&mut ticket, &mut Quiet);
+    /// assert_eq!(rt; core.finish_closed(&mut ticket, &mut back), Poll::Ready(()));
     /// Ticket::destroy_none(ticket);
     /// ```
-    pub fn poll_closed_with(
-        &mut self,
-        t: &mut Option<Ticket>,
-        w: &mut Option<W>,
-        back: &mut Option<W>,
-    ) -> Result<Poll<()>, OutOfMemory>
-        ensures reply { IfOk result (λ poll. poll ≡ closed_poll (self.old.receivers == 0)) }
-        ensures after { OnReady result (self.new ≡ record self.old {
+    pub fn finish_closed(&mut self, t: &mut Option<Ticket>, back: &mut Option<W>) -> Poll<()>
+        ensures reply { result ≡ closed_poll (self.old.receivers == 0) }
+        ensures after { IfReady result (λ _. self.new ≡ record self.old {
           closeds = left t.old self.old.closeds;
         }) }
-        ensures finished { OnReady result (t.new ≡ None) }
-        ensures spare { OnReady result (w.new ≡ w.old) }
-        ensures given_back { OnReady result (back.new ≡ payload_held t.old self.old.closeds) }
-
-        ensures waits { OnWait result (MatchOption w.old
-            ((self.new ≡ self.old) × (t.new ≡ t.old))
-            (λ payload. ClosedWaits t.old self.old payload t.new self.new)) }
-        ensures used { OnWait result (w.new ≡ None) }
-        ensures replaced { OnWait result
-            (back.new ≡ payload_replaced w.old t.old self.old.closeds) }
-
-        ensures unchanged { OnErr result (self.new ≡ self.old) }
-        ensures unpolled { OnErr result (t.new ≡ t.old) }
-        ensures unused { OnErr result ((w.new ≡ w.old) × (back.new ≡ None)) }
-        ensures wanted { OnErr result (ClosedWants t.old self.old) }
+        ensures finished { IfReady result (λ _. t.new ≡ None) }
+        ensures given_back { IfReady result (λ _. back.new ≡ payload_held t.old self.old.closeds) }
+        ensures waits { OnPending result (self.new ≡ self.old) }
+        ensures kept { OnPending result ((t.new ≡ t.old) × (back.new ≡ None)) }
     {
         *back = None;
-        if self.receivers == 0 {
-            *back = leave(&mut self.lists.closeds, t);
-            return Ok(Poll::Ready(()));
+        if self.receivers > 0 {
+            return Poll::Pending;
         }
-        *back = wait(&mut self.lists.closeds, t, w)?;
-        Ok(Poll::Pending)
+        *back = leave(&mut self.lists.closeds, t);
+        Poll::Ready(())
+    }
+
+    /// Whether one of the group has to wait: a send on an open and full channel, a receive or a
+    /// stream on an open and empty one, a closed operation as long as there is a receiver.
+    ///
+    /// # Examples
+    ///
+    /// ```
+    /// let mut core: Core<u64, ()> = Core::bounded(rt.alloc(), 1)?;
+    /// assert!(rt; core.must_wait(Group::Receives) && !core.must_wait(Group::Sends));
+    /// assert_eq!(rt; core.try_send(1, &mut Quiet)?, Ok(()));
+    /// assert!(rt; core.must_wait(Group::Sends) && !core.must_wait(Group::Receives));
+    /// ```
+    #[inline(always)]
+    pub fn must_wait(&self, g: Group) -> bool
+        ensures { result ≡ must_wait g self.now }
+    {
+        match g {
+            Group::Sends => self.is_full() && !self.closed,
+            Group::Receives | Group::Streams => self.is_empty() && !self.closed,
+            Group::Closeds => self.receivers != 0,
+        }
+    }
+
+    /// One that can't go on waits: its entry in the group's list waits again, or a new one goes
+    /// last. It is untold then, and holds `w`.
+    ///
+    /// The answer is the payload that its entry held untold before. If memory was refused nothing
+    /// has changed, and `w` comes back.
+    ///
+    /// # Examples
+    ///
+    /// ```
+    /// let mut core: Core<u64, u64> = Core::unbounded(rt.alloc());
+    /// let mut ticket = None;
+    /// assert!(rt; core.must_wait(Group::Receives));
+    /// assert_eq!(rt; core.wait(Group::Receives, &mut ticket, 10).ok(), Some(None));
+    /// assert_eq!(rt; core.wait(Group::Receives, &mut ticket, 11).ok(), Some(Some(10)));
+    /// assert_eq!(rt; core.waiting(Group::Receives), 1);
+    /// core.cancel_recv(&mut ticket, &mut Quiet);
+    /// Ticket::destroy_none(ticket);
+    /// ```
+    pub fn wait(&mut self, g: Group, t: &mut Option<Ticket>, w: W) -> Result<Option<W>, NoRoom<W>>
+        requires { must_wait g self.old ≡ true }
+        ensures waits { OnOk result (WaitsIn g t.old self.old w t.new self.new) }
+        ensures replaced { IfOk result (λ had. had ≡ payload_held t.old (list_of g self.old)) }
+        ensures handed_back { IfErr result (λ error. error.0 ≡ w) }
+        ensures unchanged { OnErr result ((self.new ≡ self.old) × (t.new ≡ t.old)) }
+        ensures wanted { OnErr result (waits t.old (list_of g self.old) ≡ false) }
+    {
+        match g {
+            Group::Sends => wait(&mut self.lists.sends, t, w),
+            Group::Receives => wait(&mut self.lists.receives, t, w),
+            Group::Streams => wait(&mut self.lists.streams, t, w),
+            Group::Closeds => wait(&mut self.lists.closeds, t, w),
+        }
+    }
+
+    // `wait`, without the payloads of before and after.
+    fn wait_or_fail(&mut self, g: Group, t: &mut Option<Ticket>, w: W) -> Result<(), OutOfMemory>
+        requires { must_wait g self.old ≡ true }
+        ensures waits { OnOk result (WaitsIn g t.old self.old w t.new self.new) }
+        ensures unchanged { OnErr result ((self.new ≡ self.old) × (t.new ≡ t.old)) }
+        ensures wanted { OnErr result (waits t.old (list_of g self.old) ≡ false) }
+    {
+        match self.wait(g, t, w) {
+            Ok(_) => Ok(()),
+            Err(NoRoom(_)) => Err(OutOfMemory),
+        }
     }
 
     /// Gives a send's wait up. A notice that it had goes to the next send.

@@ -10,6 +10,6 @@ mod waiting;
 pub use crate::proved::channel_model::{
     CloneError, MakeError, NoMemory, OutOfMemory, RecvError, SendError, TryRecvError, TrySendError,
 };
-pub use crate::proved::event_list::{Bell, Quiet, Ticket};
+pub use crate::proved::event_list::{Bell, NoRoom, Quiet, Ticket};
 pub use queue::Queue;
 pub use state::{Core, Group, HANDLE_LIMIT, Upgrade};

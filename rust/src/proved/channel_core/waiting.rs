@@ -75,27 +75,20 @@ pub(super) fn hand_on<W, B: Bell<W>>(
 }
 
 /// Who can't go on waits with the payload: its entry waits again, or it begins to wait. The answer
-/// is the payload that its entry held. Without a payload nothing changes.
+/// is the payload that its entry held. If memory was refused, `w` comes back.
 #[inline(always)]
 pub(super) fn wait<W>(
     list: &mut WaitList<W>,
     ticket: &mut Option<Ticket>,
-    w: &mut Option<W>,
-) -> Result<Option<W>, OutOfMemory> {
-    let Some(mut payload) = w.take() else {
-        return Ok(None);
-    };
+    w: W,
+) -> Result<Option<W>, NoRoom<W>> {
+    let mut payload = w;
     if let Some(ticket) = ticket {
         match list.renew(ticket, payload) {
-            Ok(replaced) => return Ok(replaced),
+            Ok(had) => return Ok(had),
             Err(back) => payload = back,
         }
     }
-    match list.listen_anew(ticket, payload) {
-        Ok(()) => Ok(None),
-        Err(NoRoom(payload)) => {
-            *w = Some(payload);
-            Err(OutOfMemory)
-        }
-    }
+    list.listen_anew(ticket, payload)?;
+    Ok(None)
 }

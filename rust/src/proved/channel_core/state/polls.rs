@@ -1,10 +1,10 @@
 // Taken out of crates/channel_core/src/state/polls.rt by tools/erase. Change that file, not this one.
 //! The polls of those who may wait, and what they leave when one gives up.
 
-use crate::proved::channel_core::state::Core;
+use crate::proved::channel_core::state::{Core, Group};
 use crate::proved::channel_core::waiting::{hand_on, leave, wait};
 use crate::proved::channel_model::{NoMemory, OutOfMemory, RecvError, SendError};
-use crate::proved::event_list::{Bell, Ticket};
+use crate::proved::event_list::{Bell, NoRoom, Ticket};
 use std::task::Poll;
 
 impl<T, W> Core<T, W> {
@@ -22,20 +22,22 @@ impl<T, W> Core<T, W> {
         w: W,
         bell: &mut B,
     ) -> Result<Poll<Result<(), SendError<T>>>, OutOfMemory> {
-        self.poll_send_with(m, t, &mut Some(w), bell, &mut None)
+        let polled = self.finish_send(m, t, bell, &mut None)?;
+        if polled.is_pending() && m.is_some() {
+            self.wait_or_fail(Group::Sends, t, w)?;
+        }
+        Ok(polled)
     }
 
-    /// `poll_send`, which gives back each payload that isn't in the list after it.
+    /// Finishes a send, if it can go on: `poll_send`, but a pending poll changes nothing.
     ///
-    /// `w` is the payload to wait with. It stays if it isn't needed. Without one the poll only
-    /// looks: if it can't go on it is pending, and nothing changes. `back` gets the payload that
-    /// the send's entry held untold, once that has left its list or was replaced, and is none else.
+    /// `back` gets the payload that the send's entry held untold, once that has left its list, and
+    /// is none else. One that can't go on waits by [`Core::wait`].
     #[inline(always)]
-    pub fn poll_send_with<B: Bell<W>>(
+    pub fn finish_send<B: Bell<W>>(
         &mut self,
         m: &mut Option<T>,
         t: &mut Option<Ticket>,
-        w: &mut Option<W>,
         bell: &mut B,
         back: &mut Option<W>,
     ) -> Result<Poll<Result<(), SendError<T>>>, OutOfMemory> {
@@ -55,7 +57,6 @@ impl<T, W> Core<T, W> {
             }
             Ok(Err(message)) => {
                 *m = Some(message);
-                *back = wait(&mut self.lists.sends, t, w)?;
                 Ok(Poll::Pending)
             }
             Err(NoMemory(message)) => {
@@ -76,35 +77,35 @@ impl<T, W> Core<T, W> {
         w: W,
         bell: &mut B,
     ) -> Result<Poll<Result<T, RecvError>>, OutOfMemory> {
-        self.poll_recv_with(t, &mut Some(w), bell, &mut None)
+        let polled = self.finish_recv(t, bell, &mut None);
+        if polled.is_pending() {
+            self.wait_or_fail(Group::Receives, t, w)?;
+        }
+        Ok(polled)
     }
 
-    /// `poll_recv`, which gives back each payload that isn't in the list after it.
+    /// Finishes a receive, if it can go on: `poll_recv`, but a pending poll changes nothing.
     ///
-    /// `w` is the payload to wait with. It stays if it isn't needed. Without one the poll only
-    /// looks: if it can't go on it is pending, and nothing changes. `back` gets the payload that
-    /// the receive's entry held untold, once that has left its list or was replaced, and is none
-    /// else.
+    /// `back` gets the payload that the receive's entry held untold, once that has left its list,
+    /// and is none else. One that can't go on waits by [`Core::wait`].
     #[inline(always)]
-    pub fn poll_recv_with<B: Bell<W>>(
+    pub fn finish_recv<B: Bell<W>>(
         &mut self,
         t: &mut Option<Ticket>,
-        w: &mut Option<W>,
         bell: &mut B,
         back: &mut Option<W>,
-    ) -> Result<Poll<Result<T, RecvError>>, OutOfMemory> {
+    ) -> Poll<Result<T, RecvError>> {
         *back = None;
         if let Some(message) = self.queue.pop() {
             *back = leave(&mut self.lists.receives, t);
             self.lists.sends.tell_one(bell);
-            return Ok(Poll::Ready(Ok(message)));
+            return Poll::Ready(Ok(message));
         }
         if self.closed {
             *back = leave(&mut self.lists.receives, t);
-            return Ok(Poll::Ready(Err(RecvError)));
+            return Poll::Ready(Err(RecvError));
         }
-        *back = wait(&mut self.lists.receives, t, w)?;
-        Ok(Poll::Pending)
+        Poll::Pending
     }
 
     /// Polls the stream of a receiver, by its ticket.
@@ -118,35 +119,36 @@ impl<T, W> Core<T, W> {
         w: W,
         bell: &mut B,
     ) -> Result<Poll<Option<T>>, OutOfMemory> {
-        self.poll_next_with(t, &mut Some(w), bell, &mut None)
+        let polled = self.finish_next(t, bell, &mut None);
+        if polled.is_pending() {
+            self.wait_or_fail(Group::Streams, t, w)?;
+        }
+        Ok(polled)
     }
 
-    /// `poll_next`, which gives back each payload that isn't in the list after it.
+    /// Takes the next message of a stream, or finds its end: `poll_next`, but a pending poll changes
+    /// nothing.
     ///
-    /// `w` is the payload to wait with. It stays if it isn't needed. Without one the poll only
-    /// looks: if it can't go on it is pending, and nothing changes. `back` gets the payload that
-    /// the stream's entry held untold, once that has left its list or was replaced, and is none
-    /// else.
+    /// `back` gets the payload that the stream's entry held untold, once that has left its list, and
+    /// is none else. One that can't go on waits by [`Core::wait`].
     #[inline]
-    pub fn poll_next_with<B: Bell<W>>(
+    pub fn finish_next<B: Bell<W>>(
         &mut self,
         t: &mut Option<Ticket>,
-        w: &mut Option<W>,
         bell: &mut B,
         back: &mut Option<W>,
-    ) -> Result<Poll<Option<T>>, OutOfMemory> {
+    ) -> Poll<Option<T>> {
         *back = None;
         if let Some(message) = self.queue.pop() {
             *back = leave(&mut self.lists.streams, t);
             self.lists.sends.tell_one(bell);
-            return Ok(Poll::Ready(Some(message)));
+            return Poll::Ready(Some(message));
         }
         if self.closed {
             *back = leave(&mut self.lists.streams, t);
-            return Ok(Poll::Ready(None));
+            return Poll::Ready(None);
         }
-        *back = wait(&mut self.lists.streams, t, w)?;
-        Ok(Poll::Pending)
+        Poll::Pending
     }
 
     /// Polls a closed operation, by its ticket. It is ready exactly if no receiver is left.
@@ -155,29 +157,75 @@ impl<T, W> Core<T, W> {
     /// holds `w`. If memory was refused nothing has changed, the ticket neither.
     #[inline]
     pub fn poll_closed(&mut self, t: &mut Option<Ticket>, w: W) -> Result<Poll<()>, OutOfMemory> {
-        self.poll_closed_with(t, &mut Some(w), &mut None)
+        let polled = self.finish_closed(t, &mut None);
+        if polled.is_pending() {
+            self.wait_or_fail(Group::Closeds, t, w)?;
+        }
+        Ok(polled)
     }
 
-    /// `poll_closed`, which gives back each payload that isn't in the list after it.
+    /// Finishes a closed operation, if no receiver is left: `poll_closed`, but a pending poll changes
+    /// nothing.
     ///
-    /// `w` is the payload to wait with. It stays if it isn't needed. Without one the poll only
-    /// looks: if it can't go on it is pending, and nothing changes. `back` gets the payload that
-    /// the operation's entry held untold, once that has left its list or was replaced, and is none
-    /// else.
+    /// `back` gets the payload that the operation's entry held untold, once that has left its list,
+    /// and is none else. One that can't go on waits by [`Core::wait`].
     #[inline]
-    pub fn poll_closed_with(
+    pub fn finish_closed(
         &mut self,
         t: &mut Option<Ticket>,
-        w: &mut Option<W>,
         back: &mut Option<W>,
-    ) -> Result<Poll<()>, OutOfMemory> {
+    ) -> Poll<()> {
         *back = None;
-        if self.receivers == 0 {
-            *back = leave(&mut self.lists.closeds, t);
-            return Ok(Poll::Ready(()));
+        if self.receivers > 0 {
+            return Poll::Pending;
         }
-        *back = wait(&mut self.lists.closeds, t, w)?;
-        Ok(Poll::Pending)
+        *back = leave(&mut self.lists.closeds, t);
+        Poll::Ready(())
+    }
+
+    /// Whether one of the group has to wait: a send on an open and full channel, a receive or a
+    /// stream on an open and empty one, a closed operation as long as there is a receiver.
+    #[inline(always)]
+    pub fn must_wait(&self, g: Group) -> bool {
+        match g {
+            Group::Sends => self.is_full() && !self.closed,
+            Group::Receives | Group::Streams => self.is_empty() && !self.closed,
+            Group::Closeds => self.receivers != 0,
+        }
+    }
+
+    /// One that can't go on waits: its entry in the group's list waits again, or a new one goes
+    /// last. It is untold then, and holds `w`.
+    ///
+    /// The answer is the payload that its entry held untold before. If memory was refused nothing
+    /// has changed, and `w` comes back.
+    #[inline]
+    pub fn wait(
+        &mut self,
+        g: Group,
+        t: &mut Option<Ticket>,
+        w: W,
+    ) -> Result<Option<W>, NoRoom<W>> {
+        match g {
+            Group::Sends => wait(&mut self.lists.sends, t, w),
+            Group::Receives => wait(&mut self.lists.receives, t, w),
+            Group::Streams => wait(&mut self.lists.streams, t, w),
+            Group::Closeds => wait(&mut self.lists.closeds, t, w),
+        }
+    }
+
+    // `wait`, without the payloads of before and after.
+    #[inline]
+    fn wait_or_fail(
+        &mut self,
+        g: Group,
+        t: &mut Option<Ticket>,
+        w: W,
+    ) -> Result<(), OutOfMemory> {
+        match self.wait(g, t, w) {
+            Ok(_) => Ok(()),
+            Err(NoRoom(_)) => Err(OutOfMemory),
+        }
     }
 
     /// Gives a send's wait up. A notice that it had goes to the next send.
