@@ -51,7 +51,7 @@
 mod blocking;
 mod channel;
 // Of the erased source too. It stands here so that the errors have no longer names than these.
-#[path = "proved/channel_model/errors.rs"]
+#[path = "proved/channel_core/errors.rs"]
 #[allow(dead_code, missing_docs)]
 #[rustfmt::skip]
 mod errors;

@@ -2,7 +2,7 @@
 import re
 
 from eraser.known import (
-    BEFORE_NOT, BOUNDS, CLAUSES, CONDITIONS, CRATES, DERIVES, EVERYWHERE, FIRST, FORMATTER,
+    BEFORE_NOT, BOUNDS, CLAUSES, CRATES, DERIVES, EVERYWHERE, FIRST, FORMATTER,
     GHOST_WORDS, ITEM_WORDS, LEFT_OUT, MACROS, NAMED, OWNERS, PATHS, REQUIRES, TAKEN, TEXT_TRAITS,
     TRAITS, WRITER,
 )
@@ -71,13 +71,7 @@ class Eraser:
             return None
         if word.text == 'fn' and text.endswith('}') and '#[inline' not in attributes:
             attributes += f'#[inline]\n{self.indent(word.start)}'
-        return f'{attributes}{self.condition(word.text, text)}{visibility}{text}'
-
-    def condition(self, word, text):
-        """The cfg that wants a module, or a use of its names."""
-        name = re.match(rf'{word} (\w+)', text) if word in {'mod', 'use'} else None
-        wanted = CONDITIONS.get(self.path_of(name[1])) if name else None
-        return f'#[cfg({wanted})]\n' if wanted else ''
+        return f'{attributes}{visibility}{text}'
 
     def indent(self, at):
         """The spaces before the line on which a place is."""

@@ -1,14 +1,13 @@
 """The words and paths that are known, and what a path is called in Rust."""
 
 # The crates that are erased, lowest first, each with the cfg that wants it, if any.
-CRATES = {'event_list': None, 'channel_model': None, 'channel_core': None, 'channel_run': 'vamorilesh_run'}
-# Modules that a cfg alone wants, and their names with them.
-CONDITIONS = {'channel_model::step': 'vamorilesh_run'}
+RUN = 'vamorilesh_run'
+CRATES = {'event_list': None, 'channel_core': None, 'channel_model': RUN, 'channel_run': RUN}
 # Modules of which no erased line runs.
-LEFT_OUT = {'channel_model::conversions', 'channel_model::laws'}
+LEFT_OUT = {'channel_core::conversions', 'channel_model::laws'}
 # Modules whose files the crate names itself, so that a user never meets a type under the path of its
 # proved source.
-NAMED = {'channel_model::errors': 'crate::errors'}
+NAMED = {'channel_core::errors': 'crate::errors'}
 # What a path is called in Rust. None: only the prover reads it.
 PATHS = {
     'std::alloc::Global': 'crate::shim::Global',

@@ -10,7 +10,7 @@ DEFINED = re.compile(r'\[(`[A-Z]\w+`(?:(?:, | and )`[A-Z]\w+`)*)(?: in `(\w+)`)?
 CRATE = re.compile(r'\b(?:test|example|bench|program)_\w+')
 RUST = ROOT / 'rust' / 'src'
 # What the package of the Rust crate leaves out of the proved source.
-UNPACKED = [RUST / 'proved' / 'channel_run', RUST / 'proved' / 'channel_model' / 'step.rs']
+UNPACKED = [RUST / 'proved' / 'channel_run', RUST / 'proved' / 'channel_model']
 PARTS = {
     'proved': '`src/proved`: waiting lists, queue, state | {} '
     '| the proved source, erased; the gate compares the bytes',

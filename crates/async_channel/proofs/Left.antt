@@ -3,8 +3,8 @@ use Rattle.std.proofs.Common.{◌+◌, ◌∙◌, ap, drop, List, Result, Ok, Er
 use Rattle.std.proofs.lemmas.List.{drop-drop}
 use Rattle.std.specs.declared.collections.VecDeque.{VecDeque}
 use Rattle.std.specs.declared.alloc.Global.{Global}
-use Rattle.channel_model.specs.declared.errors.SendError.{SendError}
-use Rattle.channel_model.specs.declared.errors.OutOfMemory.{OutOfMemory}
+use Rattle.channel_core.specs.declared.errors.SendError.{SendError}
+use Rattle.channel_core.specs.declared.errors.OutOfMemory.{OutOfMemory}
 use Rattle.async_channel.specs.Operations.{IsLeftOf, MayGiveMany}
 
 module _ {T : Type 0} where

@@ -2,8 +2,8 @@
 use Rattle.std.specs.Prelude.{◌≡◌, ⊤, ℕ, ◌-◌, Bool, List, drop, length, Option, Some, None, Result, Ok, Err}
 use Rattle.std.specs.declared.alloc.Global.{Global}
 use Rattle.std.specs.declared.collections.VecDeque.{VecDeque}
-use Rattle.channel_model.specs.declared.errors.SendError.{SendError}
-use Rattle.channel_model.specs.declared.errors.OutOfMemory.{OutOfMemory}
+use Rattle.channel_core.specs.declared.errors.SendError.{SendError}
+use Rattle.channel_core.specs.declared.errors.OutOfMemory.{OutOfMemory}
 use Rattle.async_channel.specs.Tags.{TagView}
 
 -- A sender or a weak handle: its tag, the name of the source that tasks wait for at its channel, and

@@ -5,8 +5,8 @@
 ghost use Rattle.std.specs.Prelude.{◌≡◌, ◌⊎◌, ◌+◌, ◌-◌, ◌<◌, ◌≤◌, ℕ, ⊤, [], true, false, length, take, None, IfOk, IfErr, IsSome, OnOk, OnErr, Result};
 ghost use Rattle.futures.specs.Poll.{IfReady, OnPending};
 ghost use Rattle.futures.specs.Task.{Covers, Keeps};
-ghost use Rattle.channel_model.specs.declared.errors.OutOfMemory.{OutOfMemory};
-ghost use Rattle.channel_model.specs.Tables.{OnReady, OnWait};
+ghost use Rattle.channel_core.specs.declared.errors.OutOfMemory.{OutOfMemory};
+ghost use Rattle.channel_core.specs.Tables.{OnReady, OnWait};
 ghost use Rattle.async_channel.specs.Operations.{IsLeftOf, MayGiveMany, sent_count};
 
 use crate::handles::{Receiver, Sender};

@@ -1,7 +1,7 @@
 //! The two sides of a channel.
 ghost use Rattle.std.specs.Prelude.{◌≡◌, ◌<◌, ◌↔◌, ◌≢◌, IsTrue, IsSome, IfOk, IfErr, OnErr, Err, Some, None, codes};
 ghost use Rattle.std.specs.Arc.{arc_value};
-ghost use Rattle.channel_model.specs.Errors.{message_of};
+ghost use Rattle.channel_core.specs.Errors.{message_of};
 ghost use Rattle.identity.specs.Stamps.{next_stamp};
 ghost use Rattle.ruled_channel.specs.Passes.{capacity_of, source_of};
 ghost use Rattle.async_channel.specs.Operations.{AreEndsOf, handle_of};

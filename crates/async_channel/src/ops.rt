@@ -5,8 +5,8 @@ ghost use Rattle.async_channel.specs.Owned.{handle_in};
 ghost use Rattle.futures.specs.Poll.{IfReady, OnPending};
 ghost use Rattle.futures.specs.Task.{Covers, Keeps};
 ghost use Rattle.std.specs.Prelude.{Result};
-ghost use Rattle.channel_model.specs.declared.errors.RecvError.{RecvError};
-ghost use Rattle.channel_model.specs.declared.errors.OutOfMemory.{OutOfMemory};
+ghost use Rattle.channel_core.specs.declared.errors.RecvError.{RecvError};
+ghost use Rattle.channel_core.specs.declared.errors.OutOfMemory.{OutOfMemory};
 
 use crate::handles::{Receiver, Sender};
 use crate::owned::OwnedOrRef;

@@ -1,6 +1,6 @@
 //! The stream of a receiver.
 ghost use Rattle.std.specs.Prelude.{◌≡◌, ⊤, [], None, IfSome, OnSome, OnOk, OnErr, IsSome};
-ghost use Rattle.channel_model.specs.declared.errors.OutOfMemory.{OutOfMemory};
+ghost use Rattle.channel_core.specs.declared.errors.OutOfMemory.{OutOfMemory};
 ghost use Rattle.futures.specs.Poll.{IfReady, OnPending};
 ghost use Rattle.futures.specs.Runs.{After, Within};
 ghost use Rattle.futures.specs.Task.{Covers, Keeps};

@@ -2,7 +2,7 @@
 use Rattle.std.proofs.Common.{◌≡◌, ◌+◌, ◌<◌, ◌≤◌, ℕ, List, [], ◌∷◌, length, Bool, true, false, refl, sym, ◌∙◌, ap, arith, length-append, length-drop}
 use Rattle.event_list.specs.Waiting.{Waiting, told_one, told_all, told_count, untold_count}
 use Rattle.channel_core.specs.Queue.{Contents, contents, is_full, force_pushed, IsWithin}
-use Rattle.channel_model.specs.Covered.{IsCovered}
+use Rattle.channel_core.specs.Covered.{IsCovered}
 use Rattle.channel_core.specs.Channel.{Channel, standing_of}
 
 module _ {T : Type 0} where

@@ -2,8 +2,8 @@
 use Rattle.std.proofs.Common.{◌≡◌, ◌+◌, ◌<◌, ℕ, zero, suc, List, [], ◌∷◌, ◌++◌, take, drop, length, map, replicate, Bool, true, false, Option, Some, None, Ok, Err, refl, sym, ap, ◌∙◌, subst, slice_get, add-one, arith}
 use Rattle.std.proofs.lemmas.List.{append_assoc, append-nil, drop-drop, map-append, replicate_more}
 use Rattle.event_list.specs.Waiting.{RingsEach}
-use Rattle.channel_model.specs.Tables.{try_recv_answer}
-use Rattle.channel_model.specs.declared.errors.TryRecvError.{TryRecvError}
+use Rattle.channel_core.specs.Tables.{try_recv_answer}
+use Rattle.channel_core.specs.declared.errors.TryRecvError.{TryRecvError}
 use Rattle.channel_core.specs.Channel.{Channel, Change, oldest, received, sent, taking}
 use Rattle.channel_core.specs.Batches.{followed_by, in_turn, received_many, sent_many}
 use Rattle.channel_core.proofs.Rings.{rings_in_turn}

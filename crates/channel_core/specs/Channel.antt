@@ -5,8 +5,8 @@ use Rattle.futures.specs.declared.task.Poll.TheVariants.{Pending}
 use Rattle.channel_core.specs.declared.state.Group.{Group}
 use Rattle.channel_core.specs.declared.state.Group.TheVariants.{Sends, Receives, Streams, Closeds}
 use Rattle.channel_core.specs.Queue.{is_full}
-use Rattle.channel_model.specs.Covered.{Waiters, Standing}
-use Rattle.channel_model.specs.Tables.{send_poll, recv_poll, next_poll, closed_poll}
+use Rattle.channel_core.specs.Covered.{Waiters, Standing}
+use Rattle.channel_core.specs.Tables.{send_poll, recv_poll, next_poll, closed_poll}
 use Rattle.channel_core.specs.Tickets.{waits, left, Waits}
 
 -- The capacity, if there is one, the held messages, the oldest first, whether it is closed, how

@@ -1,6 +1,6 @@
 -- How copies and upgrades change the count of handles of a kind.
 use Rattle.std.specs.Prelude.{ℕ, ◌+◌, Bool, true, false, not, ◌&&◌, nat_lt, if◌then◌else◌}
-use Rattle.channel_model.specs.Tables.{handle_limit}
+use Rattle.channel_core.specs.Tables.{handle_limit}
 use Rattle.channel_core.specs.declared.state.Upgrade.{Upgrade}
 use Rattle.channel_core.specs.declared.state.Upgrade.TheVariants.{Raised, Closed, TooMany}
 

@@ -1,7 +1,8 @@
-pub use Rattle.channel_model.specs.Covered
-pub use Rattle.channel_model.specs.Tables
 pub use Rattle.event_list.specs.Waiting
 pub use Rattle.identity.specs.Keys
+pub mod Errors
+pub mod Tables
+pub mod Covered
 pub mod Counts
 pub mod Queue
 pub mod Store

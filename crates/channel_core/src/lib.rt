@@ -3,11 +3,13 @@
 //! Each call of [`Core`] is one atomic step of a channel.
 #![tactic(auto)]
 
+mod conversions;
+mod errors;
 mod queue;
 mod state;
 mod waiting;
 
-pub use channel_model::{
+pub use errors::{
     CloneError, MakeError, NoMemory, OutOfMemory, RecvError, SendError, TryRecvError, TrySendError,
 };
 pub use event_list::{Bell, NoRoom, Quiet, Ticket};

@@ -6,7 +6,7 @@ ghost use prog.Memory.{size, capped};
 ghost use denote.Param.{layout};
 ghost use Rattle.channel_core.specs.Queue.{contents, push_reply, pushed, force_push_reply, force_pushed, popped, IsWithin};
 
-use channel_model::{NoMemory, OutOfMemory};
+use crate::errors::{NoMemory, OutOfMemory};
 use circular_buffer::HeapCircularBuffer;
 use std::alloc::Global;
 use std::collections::VecDeque;

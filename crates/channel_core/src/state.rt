@@ -28,7 +28,7 @@ ghost use Rattle.channel_core.specs.Channel.{new_channel, is_channel_full, list_
 
 use crate::queue::Queue;
 use crate::waiting::WaitLists;
-use channel_model::OutOfMemory;
+use crate::errors::OutOfMemory;
 use event_list::{Bell, Ticket};
 use std::alloc::Global;
 use std::marker::Model;
@@ -127,7 +127,7 @@ pub struct Core<T, W> {
 pub const HANDLE_LIMIT: usize = usize::MAX / 2;
 
 impl<T, W> Model for Core<T, W> {
-    ghost use Rattle.channel_model.specs.Covered.{IsCovered};
+    ghost use Rattle.channel_core.specs.Covered.{IsCovered};
     ghost use Rattle.channel_core.specs.Channel.{Channel, standing_of};
 
     ghost Value = { Channel T W };

@@ -4,7 +4,7 @@ ghost use Rattle.event_list.specs.Waiting.{RingsEach, nobody, payloads, told_one
 ghost use Rattle.channel_core.specs.Tickets.{Waits, waits, payload_held, left, handed_on, rung_by_handing_on, LosesAtMostOne};
 
 use crate::state::Group;
-use channel_model::OutOfMemory;
+use crate::errors::OutOfMemory;
 use event_list::{Bell, NoRoom, Ticket, WaitList};
 use std::alloc::Global;
 

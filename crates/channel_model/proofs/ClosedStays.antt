@@ -9,7 +9,7 @@ use Rattle.channel_model.specs.declared.step.Kind.{Kind}
 use Rattle.channel_model.specs.declared.step.Step.{Step}
 use Rattle.channel_model.specs.declared.step.Step.TheVariants.{TrySend, ForceSend, TryRecv, Poll, PollNext}
 use Rattle.channel_model.specs.declared.step.Reply.{Reply}
-use Rattle.channel_model.specs.declared.errors.TryRecvError.TheVariants.{Closed}
+use Rattle.channel_core.specs.declared.errors.TryRecvError.TheVariants.{Closed}
 use Rattle.channel_model.specs.declared.step.Reply.TheVariants.{Received, RecvPolled, NextPolled}
 use Rattle.channel_model.specs.Past.{Past}
 use Rattle.channel_model.specs.Operations.{Operation, sending, receiving, awaiting_close, operation_of, message_of, unsent_message, live_operations}

@@ -11,7 +11,7 @@ use Rattle.channel_model.specs.Replies.{due_reply}
 use Rattle.channel_model.specs.Rosters.{Roster, IsSound}
 use Rattle.channel_model.specs.Notices.{rosters}
 use Rattle.channel_model.specs.Legal.{IsLegal}
-use Rattle.channel_model.specs.Covered.{IsCovered}
+use Rattle.channel_core.specs.Covered.{IsCovered}
 use Rattle.channel_model.specs.Standing.{standing_of}
 use Rattle.channel_model.proofs.Measure.{rosters-AreSound}
 use Rattle.channel_model.proofs.Halfway.{length-held_messages, AreAllTold, Whole, open-senders, open-receivers, Whole-from_halfway}

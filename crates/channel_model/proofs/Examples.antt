@@ -11,7 +11,7 @@ use Rattle.channel_model.specs.declared.step.Refusal.TheVariants.{OutOfMemory}
 use Rattle.channel_model.specs.declared.step.Step.TheVariants.{TrySend, ForceSend, TryRecv, Close, CloneSender, DowngradeSender, UpgradeSender, DropSender, StartSend, StartRecv, Poll, PollNext, Len, IsEmpty, IsFull}
 use Rattle.channel_model.specs.declared.step.Reply.TheVariants.{Done, TrySent, Received, SendPolled, RecvPolled, Refused, Count, Flag}
 use Rattle.channel_model.specs.Past.{Past}
-use Rattle.channel_model.specs.Tables.{handle_limit}
+use Rattle.channel_core.specs.Tables.{handle_limit}
 use Rattle.channel_model.specs.Notices.{notice_of, rosters}
 use Rattle.channel_model.specs.Memory.{may_want_memory}
 use Rattle.channel_model.specs.Answers.{IsAnswer, past_after}

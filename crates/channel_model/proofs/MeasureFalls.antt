@@ -15,12 +15,12 @@ use Rattle.channel_model.specs.Handles.{live_names, Receivers, Senders}
 use Rattle.channel_model.specs.Operations.{Operation, awaiting_close, is_awaiting, is_finished_send, is_receive, is_unsent, operation_of, receiving, sending, live_operations}
 use Rattle.channel_model.specs.Messages.{accepted_by, oldest_message, received_by}
 use Rattle.channel_model.specs.Closing.{is_close, is_closed, has_none}
-use Rattle.channel_model.specs.Tables.{send_error}
+use Rattle.channel_core.specs.Tables.{send_error}
 use Rattle.channel_model.specs.Replies.{due_reply, poll_reply}
 use Rattle.channel_model.specs.Rosters.{AreSound, IsSound, Roster, Rosters, is_told, leave, told_names, wait}
 use Rattle.channel_model.specs.Notices.{after_accepting, after_closing, after_last_receiver, after_own_move, after_receiving, rosters}
 use Rattle.channel_model.specs.Legal.{IsLegal}
-use Rattle.channel_model.specs.Covered.{IsCovered}
+use Rattle.channel_core.specs.Covered.{IsCovered}
 use Rattle.channel_model.specs.Standing.{standing_of}
 use Rattle.channel_model.specs.Polling.{told_polls, waiting_in}
 use Rattle.channel_model.proofs.ReplyForms.{poll_closed_reply, poll_next_reply, poll_recv_reply, poll_send_reply, is_full}

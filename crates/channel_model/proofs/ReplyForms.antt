@@ -3,7 +3,7 @@ use Rattle.std.proofs.Common.{Bool, Option, length}
 use Rattle.channel_model.specs.declared.step.Kind.{Kind}
 use Rattle.channel_model.specs.declared.step.Reply.{Reply}
 use Rattle.channel_model.specs.declared.step.Reply.TheVariants.{TrySent, Forced, Received, SendPolled, RecvPolled, ClosedPolled, NextPolled}
-use Rattle.channel_model.specs.Tables.{try_send_answer, force_send_answer, try_recv_answer, send_poll, recv_poll, next_poll, closed_poll}
+use Rattle.channel_core.specs.Tables.{try_send_answer, force_send_answer, try_recv_answer, send_poll, recv_poll, next_poll, closed_poll}
 use Rattle.channel_model.specs.Past.{Past}
 use Rattle.channel_model.specs.Messages.{held_messages}
 use Rattle.channel_model.specs.Capacity.{capacity_of, full_at}

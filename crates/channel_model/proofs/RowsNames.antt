@@ -1,7 +1,7 @@
 -- Worked rows of handles, weak handles and names.
 use Rattle.std.specs.Prelude.{refl, [], ◌∷◌, Ok, Err, Some, None, true, false}
 use Rattle.futures.specs.declared.task.Poll.TheVariants.{Ready}
-use Rattle.channel_model.specs.declared.errors.TryRecvError.TheVariants.{Closed}
+use Rattle.channel_core.specs.declared.errors.TryRecvError.TheVariants.{Closed}
 use Rattle.channel_model.specs.declared.step.Kind.TheVariants.{Bounded, Unbounded}
 use Rattle.channel_model.specs.declared.step.Side.TheVariants.{Sender, Receiver}
 use Rattle.channel_model.specs.declared.step.Who.TheVariants.{Receiver}

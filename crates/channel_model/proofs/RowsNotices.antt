@@ -7,7 +7,7 @@ use Rattle.channel_model.specs.declared.step.Who.TheVariants.{Op, Receiver}
 use Rattle.channel_model.specs.declared.step.Notice.TheVariants.{Absent, Untold, Told}
 use Rattle.channel_model.specs.declared.step.Step.TheVariants.{TrySend, ForceSend, TryRecv, Close, IsTerminated, CloneReceiver, DropSender, DropReceiver, StartSend, StartRecv, StartClosed, Poll, PollNext, DropOp}
 use Rattle.channel_model.specs.declared.step.Reply.TheVariants.{TrySent, Forced, Received, Flag, Done, SendPolled, RecvPolled, ClosedPolled, NextPolled}
-use Rattle.channel_model.specs.Tables.{send_error}
+use Rattle.channel_core.specs.Tables.{send_error}
 use Rattle.channel_model.proofs.Script.{does, notes, Row, IsRow, EndsLegal}
 use Rattle.channel_model.proofs.ScriptLemmas.{legal}
 

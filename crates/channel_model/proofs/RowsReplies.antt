@@ -1,8 +1,8 @@
 -- Rows in which every case of the replies and refusals is met.
 use Rattle.std.specs.Prelude.{refl, [], ◌∷◌, Ok, Err, Some, None, true, false}
 use Rattle.futures.specs.declared.task.Poll.TheVariants.{Ready, Pending}
-use Rattle.channel_model.specs.declared.errors.TrySendError.TheVariants.{Full, Closed}
-use Rattle.channel_model.specs.declared.errors.TryRecvError.TheVariants.{Empty, Closed}
+use Rattle.channel_core.specs.declared.errors.TrySendError.TheVariants.{Full, Closed}
+use Rattle.channel_core.specs.declared.errors.TryRecvError.TheVariants.{Empty, Closed}
 use Rattle.channel_model.specs.declared.step.Kind.TheVariants.{Bounded, Unbounded}
 use Rattle.channel_model.specs.declared.step.Side.TheVariants.{Sender, Receiver}
 use Rattle.channel_model.specs.declared.step.Who.TheVariants.{Op, Receiver}
@@ -10,7 +10,7 @@ use Rattle.channel_model.specs.declared.step.Notice.TheVariants.{Absent, Told}
 use Rattle.channel_model.specs.declared.step.Refusal.TheVariants.{Unknown, Taken, Borrowed}
 use Rattle.channel_model.specs.declared.step.Step.TheVariants.{TrySend, ForceSend, TryRecv, Close, IsClosed, IsEmpty, IsFull, IsTerminated, Len, SenderCount, ReceiverCount, Capacity, CloneSender, CloneReceiver, CloneWeakSender, DowngradeSender, DowngradeReceiver, UpgradeSender, UpgradeReceiver, DropSender, DropReceiver, DropWeakReceiver, StartSend, StartRecv, StartClosed, Poll, PollNext, DropOp}
 use Rattle.channel_model.specs.declared.step.Reply.TheVariants.{TrySent, Forced, Received, Flag, Count, Capacity, Done, Upgraded, SendPolled, RecvPolled, ClosedPolled, NextPolled, Refused}
-use Rattle.channel_model.specs.Tables.{send_error}
+use Rattle.channel_core.specs.Tables.{send_error}
 use Rattle.channel_model.proofs.Script.{does, notes, Row, IsRow, EndsLegal}
 use Rattle.channel_model.proofs.ScriptLemmas.{legal}
 

@@ -8,7 +8,7 @@ use Rattle.channel_model.specs.declared.step.Notice.TheVariants.{Absent, Untold}
 use Rattle.channel_model.specs.declared.step.Refusal.TheVariants.{Borrowed}
 use Rattle.channel_model.specs.declared.step.Step.TheVariants.{TrySend, TryRecv, Close, IsEmpty, IsTerminated, CloneReceiver, DropReceiver, StartSend, StartRecv, StartClosed, Poll, PollNext}
 use Rattle.channel_model.specs.declared.step.Reply.TheVariants.{TrySent, Received, Flag, Done, SendPolled, RecvPolled, ClosedPolled, NextPolled, Refused}
-use Rattle.channel_model.specs.Tables.{send_error}
+use Rattle.channel_core.specs.Tables.{send_error}
 use Rattle.channel_model.proofs.Script.{does, notes, settles, Row, IsRow, EndsLegal}
 use Rattle.channel_model.proofs.ScriptLemmas.{legal}
 

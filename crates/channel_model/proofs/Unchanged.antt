@@ -10,7 +10,7 @@ use Rattle.channel_model.specs.Messages.{accepted_by, received_by}
 use Rattle.channel_model.specs.Closing.{has_none, is_close, is_closed}
 use Rattle.channel_model.specs.Rosters.{Rosters}
 use Rattle.channel_model.specs.Notices.{after_accepting, after_closing, after_last_receiver, after_own_move, after_receiving, rosters}
-use Rattle.channel_model.specs.Covered.{IsCovered}
+use Rattle.channel_core.specs.Covered.{IsCovered}
 use Rattle.channel_model.specs.Standing.{standing_of}
 use Rattle.channel_model.specs.Operations.{live_operations}
 

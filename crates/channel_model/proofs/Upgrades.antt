@@ -10,7 +10,7 @@ use Rattle.channel_model.specs.Handles.{live_names, Senders, Receivers}
 use Rattle.channel_model.specs.Messages.{held_messages}
 use Rattle.channel_model.specs.Closing.{is_closed, has_none}
 use Rattle.channel_model.specs.Legal.{IsLegal}
-use Rattle.channel_model.specs.Covered.{IsCovered}
+use Rattle.channel_core.specs.Covered.{IsCovered}
 use Rattle.channel_model.specs.Standing.{standing_of}
 use Rattle.channel_model.specs.Laws.{with_made, UpgradesWhileOpen}
 use Rattle.channel_model.proofs.CoveredPasts.{IsCovered-IsLegal}

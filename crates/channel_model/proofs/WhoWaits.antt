@@ -2,7 +2,7 @@
 use Rattle.std.proofs.Common.{◌≡◌, ℕ, ◌⊎◌, inl, inr, [], ◌∷◌, Bool, true, false, not, cond, ◌==◌, Some, None, Option, Result, refl, sym, ◌∙◌, ap, subst}
 use Rattle.std.proofs.lemmas.Bool.{eqb-true}
 use Rattle.futures.specs.declared.task.Poll.TheVariants.{Ready, Pending}
-use Rattle.channel_model.specs.declared.errors.SendError.{SendError}
+use Rattle.channel_core.specs.declared.errors.SendError.{SendError}
 use Rattle.channel_model.specs.declared.step.Kind.{Kind}
 use Rattle.channel_model.specs.declared.step.Step.{Step}
 use Rattle.channel_model.specs.declared.step.Step.TheVariants.{CloneReceiver, UpgradeReceiver, DropReceiver, StartSend, StartRecv, StartClosed, Poll, PollNext, DropOp}

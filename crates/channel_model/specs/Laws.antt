@@ -2,8 +2,8 @@
 use Rattle.std.specs.Prelude.{◌≡◌, ◌<◌, ℕ, List, [], ◌∷◌, ◌++◌, Option, Some, None, Err, Bool, true, not, length, drop, if◌then◌else◌}
 use Rattle.std.specs.Option.{ok_or}
 use Rattle.futures.specs.declared.task.Poll.TheVariants.{Ready}
-use Rattle.channel_model.specs.declared.errors.TrySendError.TheVariants.{Full, Closed}
-use Rattle.channel_model.specs.declared.errors.TryRecvError.TheVariants.{Closed}
+use Rattle.channel_core.specs.declared.errors.TrySendError.TheVariants.{Full, Closed}
+use Rattle.channel_core.specs.declared.errors.TryRecvError.TheVariants.{Closed}
 use Rattle.channel_model.specs.declared.step.Kind.{Kind}
 use Rattle.channel_model.specs.declared.step.Step.{Step}
 use Rattle.channel_model.specs.declared.step.Step.TheVariants.{TrySend, ForceSend, TryRecv, UpgradeSender, UpgradeReceiver, Poll, PollNext}

@@ -1,6 +1,6 @@
-pub mod Errors
-pub mod Covered
-pub mod Tables
+pub use Rattle.channel_core.specs.Errors
+pub use Rattle.channel_core.specs.Covered
+pub use Rattle.channel_core.specs.Tables
 pub mod Past
 pub mod Handles
 pub mod Operations

@@ -8,7 +8,7 @@ use Rattle.channel_model.specs.declared.step.Step.{Step}
 use Rattle.channel_model.specs.declared.step.Step.TheVariants.{TrySend, ForceSend, TryRecv, Close, IsClosed, IsEmpty, IsFull, IsTerminated, Len, SenderCount, ReceiverCount, Capacity, UpgradeSender, UpgradeReceiver, Poll, PollNext}
 use Rattle.channel_model.specs.declared.step.Reply.{Reply}
 use Rattle.channel_model.specs.declared.step.Reply.TheVariants.{TrySent, Forced, Received, Flag, Count, Capacity, Done, Upgraded, SendPolled, RecvPolled, ClosedPolled, NextPolled, Refused}
-use Rattle.channel_model.specs.Tables.{try_send_answer, force_send_answer, try_recv_answer, send_poll, recv_poll, next_poll, closed_poll}
+use Rattle.channel_core.specs.Tables.{try_send_answer, force_send_answer, try_recv_answer, send_poll, recv_poll, next_poll, closed_poll}
 use Rattle.channel_model.specs.Past.{Past}
 use Rattle.channel_model.specs.Operations.{Operation, awaiting_close, operation_in, receiving, sending}
 use Rattle.channel_model.specs.Capacity.{full_at}

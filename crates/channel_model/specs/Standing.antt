@@ -4,7 +4,7 @@ use Rattle.channel_model.specs.declared.step.Kind.{Kind}
 use Rattle.channel_model.specs.Past.{Past}
 use Rattle.channel_model.specs.Rosters.{Roster}
 use Rattle.channel_model.specs.View.{View, view_of}
-use Rattle.channel_model.specs.Covered.{Standing, Waiters}
+use Rattle.channel_core.specs.Covered.{Standing, Waiters}
 
 -- how many of a roster were told, and how many wait there untold
 abbrev pub waiters_of : Roster → Waiters

@@ -19,7 +19,7 @@ ghost use Rattle.channel_model.specs.Answers.{AreAnswers};
 ghost use Rattle.channel_model.specs.Legal.{IsLegal};
 ghost use Rattle.channel_model.specs.Rosters.{AreSound};
 ghost use Rattle.channel_model.specs.Notices.{rosters};
-ghost use Rattle.channel_model.specs.Covered.{IsCovered};
+ghost use Rattle.channel_core.specs.Covered.{IsCovered};
 ghost use Rattle.channel_model.specs.Standing.{standing_of};
 ghost use Rattle.channel_model.specs.Polling.{EndsWell, IsFreePolling, IsQuiet, Settles, finished_polls};
 ghost use Rattle.channel_model.specs.Laws.{AreLive, ComesBack, GivesWhatIsLeft, IsDone, StaysClosed, UpgradesWhileOpen, given_back};

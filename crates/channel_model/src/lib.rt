@@ -7,12 +7,8 @@
 //! about.
 #![tactic(auto)]
 
-mod conversions;
-mod errors;
 pub mod laws;
 mod step;
 
-pub use errors::{
-    CloneError, MakeError, NoMemory, OutOfMemory, RecvError, SendError, TryRecvError, TrySendError,
-};
+pub use channel_core::{NoMemory, OutOfMemory, RecvError, SendError, TryRecvError, TrySendError};
 pub use step::{Kind, Notice, Refusal, Reply, Side, Step, Who};

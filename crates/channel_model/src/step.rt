@@ -7,7 +7,7 @@ ghost use Rattle.channel_model.specs.Answers.{wants_memory};
 ghost use Rattle.channel_model.specs.Polling.{poll_of};
 ghost use Rattle.channel_model.specs.Replies.{is_pending, is_ready};
 
-use crate::errors::{RecvError, SendError, TryRecvError, TrySendError};
+use channel_core::{RecvError, SendError, TryRecvError, TrySendError};
 use futures::task::Poll;
 
 /// How many messages a channel may hold.

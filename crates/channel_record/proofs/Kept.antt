@@ -22,7 +22,7 @@ use Rattle.channel_model.specs.Replies.{due_reply}
 use Rattle.channel_model.proofs.ReplyForms.{force_send_reply, try_recv_reply, try_send_reply, is_full}
 use Rattle.channel_model.specs.Refusals.{refusal_of}
 use Rattle.channel_model.specs.Legal.{IsAllowed}
-use Rattle.channel_model.specs.Tables.{force_send_answer, try_recv_answer, try_send_answer}
+use Rattle.channel_core.specs.Tables.{force_send_answer, try_recv_answer, try_send_answer}
 use Rattle.channel_core.specs.Channel.{Channel, closing, forcing, is_channel_full, new_channel, oldest, sending, taking}
 use Rattle.channel_model.proofs.Conserved.{count_of}
 use Rattle.channel_model.proofs.HeldMessages.{held_messages-after}

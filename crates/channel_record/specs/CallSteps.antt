@@ -2,7 +2,7 @@
 -- what a history decides follows from it; no public clause has to cite this module.
 use Rattle.std.specs.Prelude.{not, length}
 use Rattle.channel_core.specs.Channel.{Channel, closing, force_sent, is_channel_full, oldest, received, sent}
-use Rattle.channel_model.specs.Tables.{force_send_answer, try_recv_answer, try_send_answer}
+use Rattle.channel_core.specs.Tables.{force_send_answer, try_recv_answer, try_send_answer}
 use Rattle.channel_record.specs.declared.calls.Call.{Call}
 use Rattle.channel_record.specs.declared.calls.Call.TheVariants.{TrySend, ForceSend, TryRecv, Close, IsClosed, Len}
 use Rattle.channel_record.specs.declared.calls.Outcome.{Outcome}

@@ -10,7 +10,7 @@ pub use Rattle.channel_model.specs.Polling
 pub use Rattle.channel_model.specs.Refusals
 pub use Rattle.channel_model.specs.Replies
 pub use Rattle.channel_model.specs.Rosters
-pub use Rattle.channel_model.specs.Tables
+pub use Rattle.channel_core.specs.Tables
 pub use Rattle.channel_model.specs.View
 pub use Rattle.identity.specs.Keys
 pub mod StandsFor

@@ -2,8 +2,8 @@
 use Rattle.std.specs.Prelude.{ℕ, List, ◌++◌, codes, true, false, Some, None, Ok, Err}
 use Rattle.std.specs.Fmt.{decimal}
 use Rattle.futures.specs.declared.task.Poll.TheVariants.{Ready, Pending}
-use Rattle.channel_model.specs.declared.errors.TrySendError.TheVariants.{Full, Closed}
-use Rattle.channel_model.specs.declared.errors.TryRecvError.TheVariants.{Empty, Closed}
+use Rattle.channel_core.specs.declared.errors.TrySendError.TheVariants.{Full, Closed}
+use Rattle.channel_core.specs.declared.errors.TryRecvError.TheVariants.{Empty, Closed}
 use Rattle.channel_model.specs.declared.step.Notice.{Notice}
 use Rattle.channel_model.specs.declared.step.Notice.TheVariants.{Absent, Untold, Told}
 use Rattle.channel_model.specs.declared.step.Refusal.{Refusal}

@@ -2,7 +2,7 @@
 ghost use Rattle.std.specs.Prelude.{◌≡◌, Some};
 ghost use Rattle.parallel_map.specs.Errors.{map_error_text};
 
-use channel_model::MakeError;
+use channel_core::MakeError;
 use std::error::Error;
 use std::fmt;
 
@@ -52,7 +52,7 @@ impl Error for MapError {}
 
 impl From<MakeError> for MapError {
     ghost use Rattle.std.specs.Prelude.{◌≡◌};
-    ghost use Rattle.channel_model.specs.declared.errors.MakeError.{MakeError};
+    ghost use Rattle.channel_core.specs.declared.errors.MakeError.{MakeError};
     ghost use Rattle.parallel_map.specs.declared.error.MapError.{MapError};
 
     ghost from_gives = { λ error refusal.

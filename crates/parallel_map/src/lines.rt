@@ -4,7 +4,7 @@ ghost use Rattle.identity.specs.Stamps.{next_stamp};
 ghost use Rattle.ruled_channel_rules.specs.Handles.{IsHubOf, capacity_of, known};
 ghost use Rattle.ruled_channel_rules.specs.Whole.{hub_log};
 
-use channel_model::MakeError;
+use channel_core::MakeError;
 use identity::StampMaker;
 use ruled_channel_rules::{Channel, Hub, bounded, unbounded};
 use std::alloc::Global;

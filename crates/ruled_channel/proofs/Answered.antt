@@ -4,14 +4,14 @@ use Rattle.futures.specs.declared.task.Poll.TheVariants.{Ready, Pending}
 use Rattle.std.proofs.Common.{◌≡◌, ◌≢◌, ℕ, Bool, true, false, true≢false, List, [], ◌∷◌, slice_get, Option, Some, None, Result, Ok, Err, IfOk, OnOk, OnErr, is_ok, is_some, drop, sym, refl, ap, ◌∙◌, subst, ◌⊎◌, inl, inr, arith}
 use Rattle.std.proofs.lemmas.Bool.{leb-true}
 use Rattle.channel_core.specs.Queue.{is_full}
-use Rattle.channel_model.specs.declared.errors.OutOfMemory.{OutOfMemory}
-use Rattle.channel_model.specs.declared.errors.SendError.{SendError}
-use Rattle.channel_model.specs.declared.errors.TrySendError.{TrySendError}
-use Rattle.channel_model.specs.declared.errors.TrySendError.TheVariants.{Full, Closed}
-use Rattle.channel_model.specs.declared.errors.TryRecvError.{TryRecvError}
-use Rattle.channel_model.specs.declared.errors.TryRecvError.TheVariants.{Closed}
-use Rattle.channel_model.specs.Errors.{message_of, was_closed, was_ended}
-use Rattle.channel_model.specs.Tables.{OnReady, OnWait, send_error, try_send_answer, force_send_answer, try_recv_answer, send_poll, recv_poll}
+use Rattle.channel_core.specs.declared.errors.OutOfMemory.{OutOfMemory}
+use Rattle.channel_core.specs.declared.errors.SendError.{SendError}
+use Rattle.channel_core.specs.declared.errors.TrySendError.{TrySendError}
+use Rattle.channel_core.specs.declared.errors.TrySendError.TheVariants.{Full, Closed}
+use Rattle.channel_core.specs.declared.errors.TryRecvError.{TryRecvError}
+use Rattle.channel_core.specs.declared.errors.TryRecvError.TheVariants.{Closed}
+use Rattle.channel_core.specs.Errors.{message_of, was_closed, was_ended}
+use Rattle.channel_core.specs.Tables.{OnReady, OnWait, send_error, try_send_answer, force_send_answer, try_recv_answer, send_poll, recv_poll}
 use Rattle.channel_core.specs.Channel.{Channel, is_channel_full, sending, forcing, polled_send, SendWaits, GrowsWithMessages, oldest}
 use Rattle.channel_core.specs.Tickets.{left}
 use Rattle.ruled_channel.specs.State.{State, state_of, HasPlace, joined}

@@ -3,7 +3,7 @@ use Rattle.std.proofs.Common.{◌≡◌, ◌≢◌, ℕ, zero, suc, Bool, true, 
 use Rattle.futures.specs.declared.task.Poll.{Poll}
 use Rattle.futures.specs.declared.task.Poll.TheVariants.{Ready, Pending}
 use Rattle.crossbeam_utils.specs.Register.{TurnsAt}
-use Rattle.channel_model.specs.Tables.{OnReady, OnWait}
+use Rattle.channel_core.specs.Tables.{OnReady, OnWait}
 use Rattle.channel_core.specs.Channel.{Channel, sending, sent, taking, received, is_channel_full, SendWaits, RecvWaits}
 use Rattle.channel_core.specs.Batches.{sent_many, received_many}
 use Rattle.channel_core.specs.Tickets.{left}

@@ -4,7 +4,7 @@ use Rattle.std.proofs.lemmas.List.{append_assoc, append-nil}
 use Rattle.event_list.specs.Waiting.{RingsEach}
 use Rattle.futures.specs.declared.task.Poll.{Poll}
 use Rattle.futures.specs.declared.task.Poll.TheVariants.{Ready, Pending}
-use Rattle.channel_model.specs.Tables.{OnReady}
+use Rattle.channel_core.specs.Tables.{OnReady}
 
 -- the log from before, and then what is rung
 abbrev pub Logs : {W : Type 0} → List W → W → List W → Type 0

@@ -4,10 +4,10 @@ use Rattle.futures.specs.declared.task.Poll.{Poll}
 use Rattle.futures.specs.declared.task.Poll.TheVariants.{Ready, Pending}
 use Rattle.std.proofs.lemmas.Bool.{eqb-true}
 use Rattle.event_list.specs.Waiting.{IsWaiting, RingsEach}
-use Rattle.channel_model.specs.declared.errors.RecvError.{RecvError}
-use Rattle.channel_model.specs.declared.errors.TrySendError.TheVariants.{Closed}
-use Rattle.channel_model.specs.declared.errors.TryRecvError.TheVariants.{Closed}
-use Rattle.channel_model.specs.Tables.{OnReady, OnWait, closed_poll, recv_poll, send_error, try_recv_answer, try_send_answer}
+use Rattle.channel_core.specs.declared.errors.RecvError.{RecvError}
+use Rattle.channel_core.specs.declared.errors.TrySendError.TheVariants.{Closed}
+use Rattle.channel_core.specs.declared.errors.TryRecvError.TheVariants.{Closed}
+use Rattle.channel_core.specs.Tables.{OnReady, OnWait, closed_poll, recv_poll, send_error, try_recv_answer, try_send_answer}
 use Rattle.channel_core.specs.Channel.{Channel, Change, RecvWaits, SendWaits, is_channel_full, oldest, polled_receive, polled_send, received, sent, unchanged}
 use Rattle.ruled_channel.specs.declared.mark.Mark.{Mark}
 use Rattle.ruled_channel.specs.declared.pass.Pass.{Pass}

@@ -2,7 +2,7 @@
 use Rattle.std.proofs.Common.{◌≡◌, Bool, true, false, true≢false, List, [], ◌∷◌, slice_get, Option, IfOk, OnErr, Result, Ok, Err, drop, sym, refl, ap, ◌∙◌}
 use Rattle.futures.specs.declared.task.Poll.{Poll}
 use Rattle.futures.specs.declared.task.Poll.TheVariants.{Ready, Pending}
-use Rattle.channel_model.specs.Tables.{OnReady, OnWait, next_poll, recv_poll}
+use Rattle.channel_core.specs.Tables.{OnReady, OnWait, next_poll, recv_poll}
 use Rattle.channel_core.specs.Channel.{Channel, Change, oldest, taking}
 use Rattle.ruled_channel.specs.State.{holding, state_of}
 use Rattle.ruled_channel.proofs.Answered.{is_ready}

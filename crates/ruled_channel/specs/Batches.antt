@@ -2,8 +2,8 @@
 use Rattle.std.specs.Prelude.{ℕ, List, Option, Result, Ok, Err}
 use Rattle.futures.specs.declared.task.Poll.{Poll}
 use Rattle.futures.specs.declared.task.Poll.TheVariants.{Ready, Pending}
-use Rattle.channel_model.specs.declared.errors.SendError.{SendError}
-use Rattle.channel_model.specs.Tables.{send_error}
+use Rattle.channel_core.specs.declared.errors.SendError.{SendError}
+use Rattle.channel_core.specs.Tables.{send_error}
 use Rattle.channel_core.specs.Channel.{Channel, Change}
 use Rattle.channel_core.specs.Tickets.{left}
 use Rattle.channel_core.specs.Batches.{received_many, sent_many}

@@ -1,6 +1,6 @@
 -- When a wait for the last receiver may be polled, and what it gives.
 use Rattle.std.specs.Prelude.{◌≡◌, List, Option, Result, IsSome, IfSome, OnOk, OnErr}
-use Rattle.channel_model.specs.declared.errors.OutOfMemory.{OutOfMemory}
+use Rattle.channel_core.specs.declared.errors.OutOfMemory.{OutOfMemory}
 use Rattle.ruled_channel.specs.declared.channel.RuledChannel.{RuledChannel}
 use Rattle.ruled_channel.specs.declared.pass.Pass.{Pass}
 use Rattle.ruled_channel.specs.State.{State, HasReceivers}

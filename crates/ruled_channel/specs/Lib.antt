@@ -1,8 +1,8 @@
 pub use Rattle.channel_core.specs.Channel
 pub use Rattle.channel_core.specs.Counts
 pub use Rattle.channel_core.specs.Tickets
-pub use Rattle.channel_model.specs.Errors
-pub use Rattle.channel_model.specs.Tables
+pub use Rattle.channel_core.specs.Errors
+pub use Rattle.channel_core.specs.Tables
 pub use Rattle.event_list.specs.Waiting
 pub mod Marks
 pub mod Rung

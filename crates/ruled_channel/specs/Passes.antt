@@ -1,9 +1,9 @@
 -- What a clause says of a channel's passes and of its answers.
 use Rattle.std.specs.Prelude.{◌≡◌, ◌⊎◌, ⊤, ℕ, Option, Result, Ok, Err}
-use Rattle.channel_model.specs.declared.errors.TrySendError.{TrySendError}
-use Rattle.channel_model.specs.declared.errors.TrySendError.TheVariants.{Full, Closed}
-use Rattle.channel_model.specs.declared.errors.TryRecvError.{TryRecvError}
-use Rattle.channel_model.specs.declared.errors.TryRecvError.TheVariants.{Empty, Closed}
+use Rattle.channel_core.specs.declared.errors.TrySendError.{TrySendError}
+use Rattle.channel_core.specs.declared.errors.TrySendError.TheVariants.{Full, Closed}
+use Rattle.channel_core.specs.declared.errors.TryRecvError.{TryRecvError}
+use Rattle.channel_core.specs.declared.errors.TryRecvError.TheVariants.{Empty, Closed}
 use Rattle.ruled_mutex.specs.Passes.{IsPassOf as IsMutexPass, IsSamePass as IsSameMutexPass, key_of as key_of_mutex, number as number_in_mutex, view as view_in_mutex}
 use Rattle.ruled_channel.specs.declared.channel.RuledChannel.{RuledChannel}
 use Rattle.ruled_channel.specs.declared.pass.Pass.{Pass}

@@ -1,7 +1,7 @@
 -- When a receive may be polled, what it gives, and what is left of one that is given up.
 use Rattle.std.specs.Prelude.{◌≡◌, List, Option, Some, None, Result, IsSome, IsSomeAnd, IfSome, IfOk, IfErr}
-use Rattle.channel_model.specs.declared.errors.OutOfMemory.{OutOfMemory}
-use Rattle.channel_model.specs.declared.errors.RecvError.{RecvError}
+use Rattle.channel_core.specs.declared.errors.OutOfMemory.{OutOfMemory}
+use Rattle.channel_core.specs.declared.errors.RecvError.{RecvError}
 use Rattle.ruled_channel.specs.declared.channel.RuledChannel.{RuledChannel}
 use Rattle.ruled_channel.specs.State.{State, IsEmpty}
 use Rattle.ruled_channel.specs.Rule.{Receives, Ends, Fitted}

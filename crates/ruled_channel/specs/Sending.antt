@@ -1,7 +1,7 @@
 -- When a send may be polled, what it gives, and what is left of one that is given up.
 use Rattle.std.specs.Prelude.{◌≡◌, List, Option, Some, None, Result, IsSome, IsSomeAnd, IfSome, IfOk, IfErr}
-use Rattle.channel_model.specs.declared.errors.NoMemory.{NoMemory}
-use Rattle.channel_model.specs.declared.errors.SendError.{SendError}
+use Rattle.channel_core.specs.declared.errors.NoMemory.{NoMemory}
+use Rattle.channel_core.specs.declared.errors.SendError.{SendError}
 use Rattle.ruled_channel.specs.declared.channel.RuledChannel.{RuledChannel}
 use Rattle.ruled_channel.specs.State.{State, IsClosed}
 use Rattle.ruled_channel.specs.Rule.{Sends, Learns}

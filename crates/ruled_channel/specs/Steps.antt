@@ -1,9 +1,9 @@
 -- The last step that a pass made under the lock.
 use Rattle.std.specs.Prelude.{◌≡◌, ℕ, List, [], length, Option, Some, None, Result}
 use Rattle.futures.specs.declared.task.Poll.TheVariants.{Ready}
-use Rattle.channel_model.specs.declared.errors.RecvError.{RecvError}
-use Rattle.channel_model.specs.declared.errors.SendError.{SendError}
-use Rattle.channel_model.specs.Tables.{recv_poll, send_poll}
+use Rattle.channel_core.specs.declared.errors.RecvError.{RecvError}
+use Rattle.channel_core.specs.declared.errors.SendError.{SendError}
+use Rattle.channel_core.specs.Tables.{recv_poll, send_poll}
 use Rattle.channel_core.specs.Channel.{Channel, Change, is_channel_full, new_channel, oldest, polled_receive, polled_send, unchanged}
 use Rattle.channel_core.specs.Tickets.{handed_on, left, rung_by_handing_on}
 use Rattle.ruled_mutex.specs.Passes.{found as found_when_held}

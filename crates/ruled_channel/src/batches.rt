@@ -4,7 +4,7 @@ ghost use Rattle.std.specs.Vec.{vec_len, vec_capacity};
 ghost use Rattle.std.specs.VecDeque.{deque_len, deque_capacity};
 ghost use Rattle.futures.specs.declared.task.Poll.TheVariants.{Pending};
 ghost use Rattle.futures.specs.Poll.{IfReady};
-ghost use Rattle.channel_model.specs.Tables.{OnReady, OnWait, recv_poll, send_poll, try_recv_answer, try_send_answer};
+ghost use Rattle.channel_core.specs.Tables.{OnReady, OnWait, recv_poll, send_poll, try_recv_answer, try_send_answer};
 ghost use Rattle.channel_core.specs.Batches.{CanSendNoMore, counted, moved_count, received_many, sent_many, taken_count};
 ghost use Rattle.channel_core.specs.Channel.{GrowsWithMessages, RecvWaits, SendWaits, is_channel_full, oldest, unchanged};
 ghost use Rattle.ruled_channel.specs.declared.mark.Mark.{Mark};

@@ -1,6 +1,6 @@
 //! The channel and its calls that don't wait for others' messages.
 ghost use Rattle.std.specs.Prelude.{◌≡◌, [], ◌∷◌, not, Some, IfOk, IfErr, OnOk, OnErr};
-ghost use Rattle.channel_model.specs.Errors.{message_of};
+ghost use Rattle.channel_core.specs.Errors.{message_of};
 ghost use Rattle.ruled_channel.specs.State.{IsClosed, IsUnbounded, new_state};
 ghost use Rattle.ruled_channel.specs.Rule.{Sends, Forces, Receives, Ends, Closes, Forks, Merges, Learns};
 
@@ -67,7 +67,7 @@ impl<T: Drop> RuledChannel<T, (), Unruled> {
 impl<T: Drop, V, P: Protocol<T, V>> RuledChannel<T, V, P> {
     ghost use Rattle.std.specs.Prelude.{◌≢◌};
     ghost use Rattle.channel_core.specs.Channel.{GrowsWithMessages, closing, force_sent, is_channel_full, new_channel, oldest, received, sent, unchanged};
-    ghost use Rattle.channel_model.specs.Tables.{force_send_answer, try_recv_answer, try_send_answer};
+    ghost use Rattle.channel_core.specs.Tables.{force_send_answer, try_recv_answer, try_send_answer};
     ghost use Rattle.ruled_channel.specs.Passes.{IsPassOf, IsSamePass, Refuses, FindsNone, LearnedOf, capacity_of, key_of, number, source_of, view};
     ghost use Rattle.ruled_channel.specs.Steps.{HasMade, found};
     ghost use Rattle.ruled_channel.specs.Guarded.{within};

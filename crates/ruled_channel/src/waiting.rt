@@ -6,8 +6,8 @@
 ghost use Rattle.std.specs.Prelude.{◌≡◌, ◌<◌, ◌==◌, ◌⊎◌, [], ◌++◌, Some, None, IfOk, IfErr, IfSome, IfNone, IsSome, OnOk, OnErr, true, false};
 ghost use Rattle.futures.specs.Poll.{IfReady};
 ghost use Rattle.futures.specs.declared.task.Poll.TheVariants.{Pending};
-ghost use Rattle.channel_model.specs.Errors.{message_of};
-ghost use Rattle.channel_model.specs.Tables.{OnReady, OnWait, closed_poll, next_poll, recv_poll, send_poll, try_send_answer};
+ghost use Rattle.channel_core.specs.Errors.{message_of};
+ghost use Rattle.channel_core.specs.Tables.{OnReady, OnWait, closed_poll, next_poll, recv_poll, send_poll, try_send_answer};
 ghost use Rattle.channel_core.specs.Channel.{ClosedWaits, GrowsWithMessages, NextWaits, RecvWaits, SendWaits, WaitsIn, is_channel_full, list_of, must_wait, oldest, polled_receive, polled_send, polled_stream, unchanged};
 ghost use Rattle.channel_core.specs.Tickets.{left, waits};
 ghost use Rattle.ruled_channel.specs.declared.mark.Mark.{Mark};

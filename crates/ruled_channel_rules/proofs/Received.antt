@@ -1,7 +1,7 @@
 -- A receive that keeps its receiver may be polled, and gives a receive by it.
 use Rattle.std.proofs.Common.{◌≡◌, Option, Some, None, Result, Ok, Err, rules, sym, ap, subst}
-use Rattle.channel_model.specs.declared.errors.OutOfMemory.{OutOfMemory}
-use Rattle.channel_model.specs.declared.errors.RecvError.{RecvError}
+use Rattle.channel_core.specs.declared.errors.OutOfMemory.{OutOfMemory}
+use Rattle.channel_core.specs.declared.errors.RecvError.{RecvError}
 use Rattle.ruled_channel.specs.declared.channel.RuledChannel.{RuledChannel}
 use Rattle.ruled_channel.specs.declared.pass.Pass.{Pass}
 use Rattle.ruled_channel.specs.Passes.{IsPassOf}

@@ -2,7 +2,7 @@
 use Rattle.std.specs.Prelude.{◌≡◌, ℕ, true, List, Option, Some, None, Result, OnOk, OnErr, IsSomeAnd}
 use Rattle.std.specs.declared.alloc.Global.{Global}
 use Rattle.std.specs.declared.vec.Vec.{Vec}
-use Rattle.channel_model.specs.declared.errors.OutOfMemory.{OutOfMemory}
+use Rattle.channel_core.specs.declared.errors.OutOfMemory.{OutOfMemory}
 use Rattle.ruled_channel.specs.Passes.{source_of}
 use Rattle.ruled_channel.specs.RecvAs.{channel_of as channel_below, pass_of}
 use Rattle.ruled_channel_rules.specs.declared.handles.Channel.{Channel}

@@ -1,4 +1,4 @@
-pub use Rattle.channel_model.specs.Errors
+pub use Rattle.channel_core.specs.Errors
 pub mod Merged
 pub mod Whole
 pub mod Handles

@@ -1,9 +1,9 @@
 -- When a send may be polled, and what it gives.
 use Rattle.std.specs.Prelude.{◌≡◌, Bool, ◌||◌, true, false, [], ◌∷◌, ◌++◌, Option, Result, Ok, Err, IfOk, IfErr}
-use Rattle.channel_model.specs.declared.errors.NoMemory.{NoMemory}
-use Rattle.channel_model.specs.declared.errors.SendError.{SendError}
-use Rattle.channel_model.specs.declared.errors.TrySendError.{TrySendError}
-use Rattle.channel_model.specs.declared.errors.TrySendError.TheVariants.{Full, Closed}
+use Rattle.channel_core.specs.declared.errors.NoMemory.{NoMemory}
+use Rattle.channel_core.specs.declared.errors.SendError.{SendError}
+use Rattle.channel_core.specs.declared.errors.TrySendError.{TrySendError}
+use Rattle.channel_core.specs.declared.errors.TrySendError.TheVariants.{Full, Closed}
 use Rattle.ruled_channel.specs.declared.channel.RuledChannel.{RuledChannel}
 use Rattle.ruled_channel.specs.declared.pass.Pass.{Pass}
 use Rattle.ruled_channel.specs.Sending.{MaySend as MayPoll, GivesSent}

@@ -2,8 +2,8 @@
 use Rattle.std.specs.Prelude.{◌≡◌, ℕ, Bool, ◌||◌, List, ◌∷◌, ◌++◌, Option, None, Result, IfOk, IfErr, IsSomeAnd}
 use Rattle.std.specs.declared.alloc.Global.{Global}
 use Rattle.std.specs.declared.collections.VecDeque.{VecDeque}
-use Rattle.channel_model.specs.declared.errors.NoMemory.{NoMemory}
-use Rattle.channel_model.specs.declared.errors.SendError.{SendError}
+use Rattle.channel_core.specs.declared.errors.NoMemory.{NoMemory}
+use Rattle.channel_core.specs.declared.errors.SendError.{SendError}
 use Rattle.ruled_channel.specs.Passes.{source_of}
 use Rattle.ruled_channel.specs.SendAs.{channel_of as channel_below, parts_of}
 use Rattle.ruled_channel_rules.specs.declared.handles.Channel.{Channel}

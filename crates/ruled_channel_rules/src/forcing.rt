@@ -1,6 +1,6 @@
 //! Sends that displace the oldest message of a full channel.
 ghost use Rattle.std.specs.Prelude.{◌≡◌, [], not, true, false, IfOk, IfErr};
-ghost use Rattle.channel_model.specs.Tables.{force_send_answer};
+ghost use Rattle.channel_core.specs.Tables.{force_send_answer};
 ghost use Rattle.channel_core.specs.Channel.{is_channel_full, oldest};
 ghost use Rattle.ruled_channel_rules.specs.Handles.{IsHubOf, IsForceSenderOf, displaced_by, force_closed, force_found, forced_by, known};
 ghost use Rattle.ruled_channel_rules.specs.Forcing.{HasForced, IsAsItWas};

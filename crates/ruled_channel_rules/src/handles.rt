@@ -2,7 +2,7 @@
 ghost use Rattle.std.specs.Prelude.{◌≡◌, ◌<◌, ◌≤◌, [], ◌∷◌, ◌++◌, length, ◌||◌, not, true, false, Some, None, IfOk, IfErr, OnOk, OnErr};
 ghost use Rattle.std.specs.Prelude.{IsPermutation};
 ghost use Rattle.std.specs.List.{flat_map};
-ghost use Rattle.channel_model.specs.Tables.{try_recv_answer, try_send_answer};
+ghost use Rattle.channel_core.specs.Tables.{try_recv_answer, try_send_answer};
 ghost use Rattle.channel_core.specs.Channel.{is_channel_full, oldest};
 ghost use Rattle.ruled_channel.specs.Passes.{IfFull};
 ghost use Rattle.ruled_channel_rules.specs.Handles.{IsHubOf, known, capacity_of};
@@ -123,7 +123,7 @@ impl<T: Drop> Channel<T> {
 impl<T: Drop> Sender<T> {
     ghost use Rattle.ruled_channel_rules.specs.Handles.{IsSenderOf, sent_by, sender_closed, sender_found};
     ghost use Rattle.ruled_channel_rules.specs.Sending.{found_closed, was_refused};
-    ghost use Rattle.channel_model.specs.Errors.{message_of};
+    ghost use Rattle.channel_core.specs.Errors.{message_of};
     ghost use Rattle.ruled_channel_rules.specs.SendingEach.{TellsSentAll};
 
     /// Sends a message, and waits while the channel is full. A closed channel hands it back, and

@@ -3,12 +3,12 @@ ghost use Rattle.std.specs.Prelude.{◌≡◌, ◌⊎◌, ◌+◌, ◌<◌, ◌�
 ghost use Rattle.std.specs.Bool.{OnTrue, OnFalse};
 ghost use Rattle.std.specs.Vec.{vec_len, vec_capacity};
 ghost use Rattle.event_list.specs.Waiting.{RingsEach};
-ghost use Rattle.channel_model.specs.Tables.{try_recv_answer, try_send_answer};
+ghost use Rattle.channel_core.specs.Tables.{try_recv_answer, try_send_answer};
 ghost use Rattle.channel_core.specs.Channel.{is_channel_full, oldest, GrowsWithMessages};
 ghost use Rattle.channel_core.specs.Batches.{CanSendNoMore, counted, moved_count, received_many, sent_many, taken_count};
 
 use crate::state::Core;
-use channel_model::{NoMemory, OutOfMemory, TryRecvError, TrySendError};
+use crate::errors::{NoMemory, OutOfMemory, TryRecvError, TrySendError};
 use event_list::Bell;
 use std::alloc::Global;
 use std::collections::VecDeque;

@@ -1,11 +1,11 @@
 //! The calls that never wait: a message in, a message out, and the end of the channel.
 ghost use Rattle.std.specs.Prelude.{◌≡◌, not, Some, None, Err, IfOk, OnOk, OnErr, IfErr};
 ghost use Rattle.event_list.specs.Waiting.{RingsEach};
-ghost use Rattle.channel_model.specs.Tables.{try_send_answer, force_send_answer, try_recv_answer};
+ghost use Rattle.channel_core.specs.Tables.{try_send_answer, force_send_answer, try_recv_answer};
 ghost use Rattle.channel_core.specs.Channel.{is_channel_full, oldest, GrowsWithMessages, sent, force_sent, received, closing};
 
 use crate::state::{Core, shut};
-use channel_model::{NoMemory, SendError, TryRecvError, TrySendError};
+use crate::errors::{NoMemory, SendError, TryRecvError, TrySendError};
 use event_list::Bell;
 
 impl<T: Drop, W: Drop> Core<T, W> {

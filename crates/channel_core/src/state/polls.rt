@@ -2,13 +2,13 @@
 ghost use Rattle.std.specs.Prelude.{◌≡◌, ◌==◌, IsSome, None, IfOk, IfErr, OnOk, OnErr, true, false};
 ghost use Rattle.futures.specs.Poll.{IfReady, OnPending};
 ghost use Rattle.event_list.specs.Waiting.{RingsEach};
-ghost use Rattle.channel_model.specs.Tables.{OnReady, OnWait, send_poll, recv_poll, next_poll, closed_poll};
+ghost use Rattle.channel_core.specs.Tables.{OnReady, OnWait, send_poll, recv_poll, next_poll, closed_poll};
 ghost use Rattle.channel_core.specs.Tickets.{waits, payload_held, left, handed_on, rung_by_handing_on};
 ghost use Rattle.channel_core.specs.Channel.{GrowsWithMessages, is_channel_full, list_of, must_wait, oldest, polled_receive, polled_stream, polled_send, WaitsIn, SendWaits, RecvWaits, NextWaits, ClosedWaits, SendWants, RecvWants, NextWants, ClosedWants};
 
 use crate::state::{Core, Group};
 use crate::waiting::{hand_on, leave, wait};
-use channel_model::{NoMemory, OutOfMemory, RecvError, SendError};
+use crate::errors::{NoMemory, OutOfMemory, RecvError, SendError};
 use event_list::{Bell, NoRoom, Ticket};
 use futures::task::Poll;
 

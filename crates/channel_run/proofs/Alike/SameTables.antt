@@ -17,7 +17,7 @@ use Rattle.channel_model.specs.Past.{Past}
 use Rattle.channel_model.specs.Operations.{Operation, borrows_receiver, borrows_sender, is_finished_send, live_operations, operation_in, unsent_message}
 use Rattle.channel_model.specs.Closing.{has_none}
 use Rattle.channel_model.specs.Replies.{due_reply, is_full_in, is_pending, poll_reply, reply_in}
-use Rattle.channel_model.specs.Tables.{handle_limit}
+use Rattle.channel_core.specs.Tables.{handle_limit}
 use Rattle.channel_model.specs.Refusals.{is_borrowed, is_handle, is_known, is_one_too_many, is_operation, is_taken, new_is_live, refusal_in, refusal_of}
 use Rattle.channel_model.specs.Rosters.{Rosters, waits_anywhere}
 use Rattle.channel_model.specs.Memory.{brings_message, makes_name, may_want_memory, may_want_memory_in, polls_newcomer}

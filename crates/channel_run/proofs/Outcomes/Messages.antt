@@ -1,12 +1,12 @@
 -- What a send or a receive at once, and a closing, leave of a view, outcome by outcome.
 use Rattle.std.proofs.Common.{◌≡◌, ℕ, List, [], ◌∷◌, ◌++◌, Bool, true, false, not, Some, None, Ok, Err, Option, refl, sym, ◌∙◌, ap, drop}
 use Rattle.std.specs.Prelude.{slice_get}
-use Rattle.channel_model.specs.declared.errors.TrySendError.TheVariants.{Full, Closed}
-use Rattle.channel_model.specs.declared.errors.TryRecvError.TheVariants.{Empty, Closed}
+use Rattle.channel_core.specs.declared.errors.TrySendError.TheVariants.{Full, Closed}
+use Rattle.channel_core.specs.declared.errors.TryRecvError.TheVariants.{Empty, Closed}
 use Rattle.channel_model.specs.declared.step.Side.{Side}
 use Rattle.channel_model.specs.declared.step.Step.TheVariants.{TrySend, ForceSend, TryRecv, Close}
 use Rattle.channel_model.specs.declared.step.Reply.TheVariants.{TrySent, Forced, Received, Flag}
-use Rattle.channel_model.specs.Tables.{send_error}
+use Rattle.channel_core.specs.Tables.{send_error}
 use Rattle.channel_model.specs.Closing.{closed_after, has_none}
 use Rattle.channel_model.specs.Replies.{is_full_in, reply_in}
 use Rattle.channel_model.specs.Rosters.{Rosters}

@@ -7,7 +7,7 @@ use Rattle.channel_model.specs.declared.step.Reply.TheVariants.{SendPolled, Recv
 use Rattle.channel_model.specs.Operations.{Operation, awaiting_close, is_finished_send, operation_in, receiving, sending, unsent_message, with_finished}
 use Rattle.channel_model.specs.Messages.{with_last}
 use Rattle.channel_model.specs.Closing.{has_none}
-use Rattle.channel_model.specs.Tables.{send_error}
+use Rattle.channel_core.specs.Tables.{send_error}
 use Rattle.channel_model.specs.Replies.{poll_reply, is_full_in}
 use Rattle.channel_model.specs.Rosters.{leave, wait}
 use Rattle.channel_model.specs.Notices.{after_accepting}

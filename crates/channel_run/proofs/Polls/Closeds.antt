@@ -7,14 +7,14 @@ use Rattle.event_list.specs.Waiting.{Waiting}
 use Rattle.channel_model.specs.Closing.{has_none}
 use Rattle.std.specs.Map.{keys_of}
 use Rattle.std.proofs.lemmas.List.{length-map}
-use Rattle.channel_model.specs.declared.errors.OutOfMemory.{OutOfMemory as OutOfMemoryError}
+use Rattle.channel_core.specs.declared.errors.OutOfMemory.{OutOfMemory as OutOfMemoryError}
 use Rattle.channel_model.specs.declared.step.Refusal.TheVariants.{OutOfMemory}
 use Rattle.channel_run.specs.declared.operations.Operation.{Operation as Started}
 use Rattle.channel_run.specs.declared.operations.Operation.TheVariants.{Closed}
 use Rattle.channel_model.specs.declared.step.Step.TheVariants.{Poll}
 use Rattle.channel_model.specs.declared.step.Reply.TheVariants.{ClosedPolled, Refused}
 use Rattle.channel_core.specs.Channel.{Channel, ClosedWaits, ClosedWants}
-use Rattle.channel_model.specs.Tables.{OnReady, OnWait, closed_poll}
+use Rattle.channel_core.specs.Tables.{OnReady, OnWait, closed_poll}
 use Rattle.channel_model.specs.Replies.{is_pending}
 use Rattle.channel_core.specs.Tickets.{left}
 use Rattle.channel_model.specs.Rosters.{Roster, Rosters, leave, wait}

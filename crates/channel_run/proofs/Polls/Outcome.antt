@@ -4,12 +4,12 @@ use Rattle.std.specs.Prelude.{Result, IfOk, OnErr, IsSome}
 use Rattle.futures.specs.declared.task.Poll.{Poll as Polled}
 use Rattle.futures.specs.declared.task.Poll.TheVariants.{Ready, Pending}
 use Rattle.channel_core.specs.Channel.{Channel}
-use Rattle.channel_model.specs.declared.errors.OutOfMemory.{OutOfMemory as OutOfMemoryError}
+use Rattle.channel_core.specs.declared.errors.OutOfMemory.{OutOfMemory as OutOfMemoryError}
 use Rattle.channel_model.specs.declared.step.Refusal.TheVariants.{OutOfMemory}
 use Rattle.channel_model.specs.declared.step.Step.{Step}
 use Rattle.channel_model.specs.declared.step.Reply.{Reply}
 use Rattle.channel_model.specs.declared.step.Reply.TheVariants.{Refused}
-use Rattle.channel_model.specs.Tables.{OnReady, OnWait}
+use Rattle.channel_core.specs.Tables.{OnReady, OnWait}
 use Rattle.channel_model.specs.View.{View}
 use Rattle.channel_run.specs.RunSteps.{StepsTo}
 use Rattle.channel_run.proofs.Tables.Kept.{Kept, Whole, shown_by}

@@ -4,15 +4,15 @@ use Rattle.std.specs.Prelude.{Result, IfOk, OnErr, slice_get}
 use Rattle.futures.specs.declared.task.Poll.{Poll as Polled}
 use Rattle.futures.specs.declared.task.Poll.TheVariants.{Ready, Pending}
 use Rattle.event_list.specs.Waiting.{Waiting}
-use Rattle.channel_model.specs.declared.errors.RecvError.{RecvError}
-use Rattle.channel_model.specs.declared.errors.OutOfMemory.{OutOfMemory as OutOfMemoryError}
+use Rattle.channel_core.specs.declared.errors.RecvError.{RecvError}
+use Rattle.channel_core.specs.declared.errors.OutOfMemory.{OutOfMemory as OutOfMemoryError}
 use Rattle.channel_model.specs.declared.step.Refusal.TheVariants.{OutOfMemory}
 use Rattle.channel_run.specs.declared.operations.Operation.{Operation as Started}
 use Rattle.channel_run.specs.declared.operations.Operation.TheVariants.{Recv}
 use Rattle.channel_model.specs.declared.step.Step.TheVariants.{Poll}
 use Rattle.channel_model.specs.declared.step.Reply.TheVariants.{RecvPolled, Refused}
 use Rattle.channel_core.specs.Channel.{Channel, RecvWaits, RecvWants, oldest, polled_receive, receiving, taking}
-use Rattle.channel_model.specs.Tables.{OnReady, OnWait, recv_poll}
+use Rattle.channel_core.specs.Tables.{OnReady, OnWait, recv_poll}
 use Rattle.channel_model.specs.Replies.{is_pending}
 use Rattle.channel_core.specs.Tickets.{left}
 use Rattle.channel_model.specs.Rosters.{Roster, Rosters, leave, wait}

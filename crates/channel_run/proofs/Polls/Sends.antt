@@ -4,15 +4,15 @@ use Rattle.std.specs.Prelude.{Result, IfOk, OnErr}
 use Rattle.futures.specs.declared.task.Poll.{Poll as Polled}
 use Rattle.futures.specs.declared.task.Poll.TheVariants.{Ready, Pending}
 use Rattle.event_list.specs.Waiting.{Waiting}
-use Rattle.channel_model.specs.declared.errors.SendError.{SendError}
-use Rattle.channel_model.specs.declared.errors.OutOfMemory.{OutOfMemory as OutOfMemoryError}
+use Rattle.channel_core.specs.declared.errors.SendError.{SendError}
+use Rattle.channel_core.specs.declared.errors.OutOfMemory.{OutOfMemory as OutOfMemoryError}
 use Rattle.channel_model.specs.declared.step.Refusal.TheVariants.{OutOfMemory}
 use Rattle.channel_run.specs.declared.operations.Operation.{Operation as Started}
 use Rattle.channel_run.specs.declared.operations.Operation.TheVariants.{Send}
 use Rattle.channel_model.specs.declared.step.Step.TheVariants.{Poll}
 use Rattle.channel_model.specs.declared.step.Reply.TheVariants.{SendPolled, Refused}
 use Rattle.channel_core.specs.Channel.{Channel, SendWaits, SendWants, accepting, is_channel_full, polled_send, sending}
-use Rattle.channel_model.specs.Tables.{OnReady, OnWait, send_poll}
+use Rattle.channel_core.specs.Tables.{OnReady, OnWait, send_poll}
 use Rattle.channel_model.specs.Replies.{is_pending}
 use Rattle.channel_core.specs.Tickets.{left}
 use Rattle.channel_model.specs.Operations.{operation_in, with_finished}

@@ -5,14 +5,14 @@ use Rattle.std.specs.Map.{keys_of}
 use Rattle.futures.specs.declared.task.Poll.{Poll as Polled}
 use Rattle.futures.specs.declared.task.Poll.TheVariants.{Ready, Pending}
 use Rattle.event_list.specs.Waiting.{Waiting}
-use Rattle.channel_model.specs.declared.errors.OutOfMemory.{OutOfMemory as OutOfMemoryError}
+use Rattle.channel_core.specs.declared.errors.OutOfMemory.{OutOfMemory as OutOfMemoryError}
 use Rattle.channel_model.specs.declared.step.Refusal.TheVariants.{OutOfMemory}
 use Rattle.channel_model.specs.declared.step.Step.{Step}
 use Rattle.channel_model.specs.declared.step.Step.TheVariants.{PollNext}
 use Rattle.channel_model.specs.declared.step.Reply.{Reply}
 use Rattle.channel_model.specs.declared.step.Reply.TheVariants.{NextPolled, Refused}
 use Rattle.channel_core.specs.Channel.{Channel, NextWaits, NextWants, oldest, polled_stream, receiving, taking}
-use Rattle.channel_model.specs.Tables.{OnReady, OnWait, next_poll}
+use Rattle.channel_core.specs.Tables.{OnReady, OnWait, next_poll}
 use Rattle.channel_model.specs.Replies.{is_pending}
 use Rattle.channel_core.specs.Tickets.{left}
 use Rattle.channel_model.specs.Rosters.{Roster, Rosters, leave, wait}

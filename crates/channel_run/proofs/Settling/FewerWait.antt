@@ -4,8 +4,8 @@ use Rattle.std.specs.Prelude.{if◌then◌else◌, MatchOption, slice_get}
 use Rattle.futures.specs.declared.task.Poll.{Poll as Answer}
 use Rattle.futures.specs.declared.task.Poll.TheVariants.{Ready, Pending}
 use Rattle.identity.specs.Keys.{is_among}
-use Rattle.channel_model.specs.declared.errors.RecvError.{RecvError}
-use Rattle.channel_model.specs.declared.errors.SendError.{SendError}
+use Rattle.channel_core.specs.declared.errors.RecvError.{RecvError}
+use Rattle.channel_core.specs.declared.errors.SendError.{SendError}
 use Rattle.channel_model.specs.declared.step.Refusal.{Refusal}
 use Rattle.channel_model.specs.declared.step.Refusal.TheVariants.{OutOfMemory}
 use Rattle.channel_model.specs.declared.step.Step.{Step}
@@ -17,7 +17,7 @@ use Rattle.channel_model.specs.declared.step.Who.TheVariants.{Op, Receiver}
 use Rattle.channel_model.specs.Closing.{has_none}
 use Rattle.channel_model.specs.Messages.{received_by, accepted_by}
 use Rattle.channel_model.specs.Replies.{is_ready, poll_reply, is_full_in, reply_in}
-use Rattle.channel_model.specs.Tables.{send_poll, recv_poll, next_poll, closed_poll}
+use Rattle.channel_core.specs.Tables.{send_poll, recv_poll, next_poll, closed_poll}
 use Rattle.channel_model.specs.Operations.{Operation, awaiting_close, is_finished_send, operation_in, receiving, sending}
 use Rattle.channel_model.specs.Notices.{after_accepting, after_receiving}
 use Rattle.channel_model.specs.Polling.{poll_of, told_polls, waiting_in}

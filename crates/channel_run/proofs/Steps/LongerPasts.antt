@@ -18,7 +18,7 @@ use Rattle.channel_model.specs.Refusals.{refusal_of, refusal_in}
 use Rattle.channel_model.specs.Rosters.{Rosters, wait}
 use Rattle.channel_model.specs.Notices.{after_accepting, after_closing, after_ending, after_last_receiver, after_messages, after_own_move, after_receiving, rosters}
 use Rattle.channel_model.specs.Legal.{IsAllowed}
-use Rattle.channel_model.specs.Covered.{IsCovered}
+use Rattle.channel_core.specs.Covered.{IsCovered}
 use Rattle.channel_model.specs.Standing.{standing_of}
 use Rattle.channel_model.specs.View.{AreSameNames, AreSameOperations, View, view_of}
 use Rattle.channel_run.specs.StandsFor.{StandsFor}

@@ -4,13 +4,13 @@ use Rattle.std.proofs.lemmas.List.{length-append, length-take}
 use Rattle.std.specs.Prelude.{IfOk, slice_get}
 use Rattle.std.specs.Map.{keys_of}
 use Rattle.identity.specs.Keys.{is_among}
-use Rattle.channel_model.specs.declared.errors.TryRecvError.{TryRecvError}
-use Rattle.channel_model.specs.declared.errors.TrySendError.{TrySendError}
+use Rattle.channel_core.specs.declared.errors.TryRecvError.{TryRecvError}
+use Rattle.channel_core.specs.declared.errors.TrySendError.{TrySendError}
 use Rattle.channel_model.specs.declared.step.Kind.{Kind}
 use Rattle.channel_model.specs.declared.step.Step.TheVariants.{TryRecv, TrySend}
 use Rattle.channel_model.specs.declared.step.Reply.TheVariants.{Received, TrySent}
 use Rattle.channel_model.specs.Past.{Past}
-use Rattle.channel_model.specs.Tables.{try_recv_answer, try_send_answer}
+use Rattle.channel_core.specs.Tables.{try_recv_answer, try_send_answer}
 use Rattle.channel_core.specs.Channel.{Channel, is_channel_full, received, sending, sent, taking}
 use Rattle.channel_core.specs.Batches.{CanSendNoMore, moved_count, received_many, sent_many}
 use Rattle.channel_run.specs.StandsFor.{StandsFor}

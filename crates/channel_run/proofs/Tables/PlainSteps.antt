@@ -12,7 +12,7 @@ use Rattle.channel_model.specs.Closing.{has_none}
 use Rattle.channel_model.specs.Handles.{without}
 use Rattle.channel_core.specs.Queue.{is_full}
 use Rattle.channel_model.specs.Replies.{is_full_in}
-use Rattle.channel_model.specs.Tables.{force_send_answer, try_recv_answer, try_send_answer}
+use Rattle.channel_core.specs.Tables.{force_send_answer, try_recv_answer, try_send_answer}
 use Rattle.channel_model.specs.Rosters.{Rosters}
 use Rattle.channel_model.specs.View.{View}
 use Rattle.channel_model.specs.Capacity.{full_at}

@@ -2,7 +2,7 @@
 use Rattle.std.proofs.Common.{rules, ◌≡◌, ℕ, ◌+◌, ◌<◌, ◌≤◌, Ok, Err, List, [], ◌∷◌, ◌++◌, Bool, true, false, not, ◌||◌, ◌&&◌, ◌==◌, Some, None, Option, refl, sym, ◌∙◌, ap, length, arith}
 use Rattle.std.specs.Prelude.{is_some, nat_lt, Result, OnOk}
 use Rattle.std.specs.Result.{is_err}
-use Rattle.channel_model.specs.Tables.{handle_limit}
+use Rattle.channel_core.specs.Tables.{handle_limit}
 use Rattle.channel_core.specs.Counts.{may_add, upgrade_answer, count_upgraded}
 use Rattle.std.specs.Map.{keys_of}
 use Rattle.std.proofs.lemmas.Bool.{eqb-true}

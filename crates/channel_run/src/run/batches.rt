@@ -6,7 +6,7 @@ ghost use Rattle.channel_model.specs.declared.step.Kind.{Kind};
 ghost use Rattle.channel_model.specs.declared.step.Refusal.{Refusal};
 ghost use Rattle.channel_model.specs.Past.{Past};
 ghost use Rattle.channel_model.specs.Replies.{is_full_in};
-ghost use Rattle.channel_model.specs.Tables.{try_recv_answer, try_send_answer};
+ghost use Rattle.channel_core.specs.Tables.{try_recv_answer, try_send_answer};
 ghost use Rattle.channel_core.specs.Batches.{counted, moved_count};
 ghost use Rattle.channel_run.specs.Runs.{ReceivesInTurn, SendsInTurn, SendsNoMore};
 ghost use Rattle.channel_run.specs.StandsFor.{StandsFor};

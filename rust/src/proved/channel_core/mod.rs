@@ -7,7 +7,7 @@ mod queue;
 mod state;
 mod waiting;
 
-pub use crate::proved::channel_model::{
+pub use crate::errors::{
     CloneError, MakeError, NoMemory, OutOfMemory, RecvError, SendError, TryRecvError, TrySendError,
 };
 pub use crate::proved::event_list::{Bell, NoRoom, Quiet, Ticket};

@@ -1,7 +1,7 @@
 // Taken out of crates/channel_core/src/queue.rt by tools/erase. Change that file, not this one.
 //! The queue of a channel's messages.
 
-use crate::proved::channel_model::{NoMemory, OutOfMemory};
+use crate::errors::{NoMemory, OutOfMemory};
 use crate::shim::HeapCircularBuffer;
 use crate::shim::Global;
 use crate::shim::VecDeque;

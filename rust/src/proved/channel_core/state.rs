@@ -23,7 +23,7 @@
 
 use crate::proved::channel_core::queue::Queue;
 use crate::proved::channel_core::waiting::WaitLists;
-use crate::proved::channel_model::OutOfMemory;
+use crate::errors::OutOfMemory;
 use crate::proved::event_list::{Bell, Ticket};
 use crate::shim::Global;
 

@@ -2,7 +2,7 @@
 //! The waiting lists of a channel, and what a ticket that may be there does to one.
 
 use crate::proved::channel_core::state::Group;
-use crate::proved::channel_model::OutOfMemory;
+use crate::errors::OutOfMemory;
 use crate::proved::event_list::{Bell, NoRoom, Ticket, WaitList};
 use crate::shim::Global;
 

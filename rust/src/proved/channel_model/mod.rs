@@ -7,11 +7,9 @@
 //! to agree with them in the crates above. [`laws`] has what holds after every past that can come
 //! about.
 
-#[cfg(vamorilesh_run)]
 mod step;
 
-pub use crate::errors::{
-    CloneError, MakeError, NoMemory, OutOfMemory, RecvError, SendError, TryRecvError, TrySendError,
+pub use crate::proved::channel_core::{
+    NoMemory, OutOfMemory, RecvError, SendError, TryRecvError, TrySendError,
 };
-#[cfg(vamorilesh_run)]
 pub use step::{Kind, Notice, Refusal, Reply, Side, Step, Who};

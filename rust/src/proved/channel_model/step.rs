@@ -4,7 +4,7 @@
 //! One step is one call on the channel's whole state, made while nobody else makes one. So a list
 //! of steps is any way in which the calls of any number of parties follow one another.
 
-use crate::errors::{RecvError, SendError, TryRecvError, TrySendError};
+use crate::proved::channel_core::{RecvError, SendError, TryRecvError, TrySendError};
 use std::task::Poll;
 
 /// How many messages a channel may hold.

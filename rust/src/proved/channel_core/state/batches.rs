@@ -4,7 +4,7 @@
 use crate::shim::Vec;
 
 use crate::proved::channel_core::state::Core;
-use crate::proved::channel_model::{NoMemory, OutOfMemory, TryRecvError, TrySendError};
+use crate::errors::{NoMemory, OutOfMemory, TryRecvError, TrySendError};
 use crate::proved::event_list::Bell;
 use crate::shim::Global;
 use crate::shim::VecDeque;

@@ -2,7 +2,7 @@
 //! The calls that never wait: a message in, a message out, and the end of the channel.
 
 use crate::proved::channel_core::state::{Core, shut};
-use crate::proved::channel_model::{NoMemory, SendError, TryRecvError, TrySendError};
+use crate::errors::{NoMemory, SendError, TryRecvError, TrySendError};
 use crate::proved::event_list::Bell;
 
 impl<T, W> Core<T, W> {

@@ -3,7 +3,7 @@
 
 use crate::proved::channel_core::state::{Core, Group};
 use crate::proved::channel_core::waiting::{hand_on, leave, wait};
-use crate::proved::channel_model::{NoMemory, OutOfMemory, RecvError, SendError};
+use crate::errors::{NoMemory, OutOfMemory, RecvError, SendError};
 use crate::proved::event_list::{Bell, NoRoom, Ticket};
 use std::task::Poll;
 
@@ -170,11 +170,7 @@ impl<T, W> Core<T, W> {
     /// `back` gets the payload that the operation's entry held untold, once that has left its list,
     /// and is none else. One that can't go on waits by [`Core::wait`].
     #[inline]
-    pub fn finish_closed(
-        &mut self,
-        t: &mut Option<Ticket>,
-        back: &mut Option<W>,
-    ) -> Poll<()> {
+    pub fn finish_closed(&mut self, t: &mut Option<Ticket>, back: &mut Option<W>) -> Poll<()> {
         *back = None;
         if self.receivers > 0 {
             return Poll::Pending;
@@ -200,12 +196,7 @@ impl<T, W> Core<T, W> {
     /// The answer is the payload that its entry held untold before. If memory was refused nothing
     /// has changed, and `w` comes back.
     #[inline]
-    pub fn wait(
-        &mut self,
-        g: Group,
-        t: &mut Option<Ticket>,
-        w: W,
-    ) -> Result<Option<W>, NoRoom<W>> {
+    pub fn wait(&mut self, g: Group, t: &mut Option<Ticket>, w: W) -> Result<Option<W>, NoRoom<W>> {
         match g {
             Group::Sends => wait(&mut self.lists.sends, t, w),
             Group::Receives => wait(&mut self.lists.receives, t, w),
@@ -216,12 +207,7 @@ impl<T, W> Core<T, W> {
 
     // `wait`, without the payloads of before and after.
     #[inline]
-    fn wait_or_fail(
-        &mut self,
-        g: Group,
-        t: &mut Option<Ticket>,
-        w: W,
-    ) -> Result<(), OutOfMemory> {
+    fn wait_or_fail(&mut self, g: Group, t: &mut Option<Ticket>, w: W) -> Result<(), OutOfMemory> {
         match self.wait(g, t, w) {
             Ok(_) => Ok(()),
             Err(NoRoom(_)) => Err(OutOfMemory),

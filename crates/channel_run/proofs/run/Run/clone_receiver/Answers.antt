@@ -4,7 +4,7 @@ use Rattle.std.specs.Prelude.{nat_lt}
 use Rattle.identity.specs.Keys.{is_among}
 use Rattle.channel_model.specs.declared.step.Reply.{Reply}
 use Rattle.channel_model.specs.declared.step.Step.{Step}
-use Rattle.channel_model.specs.Tables.{handle_limit}
+use Rattle.channel_core.specs.Tables.{handle_limit}
 use Rattle.channel_model.specs.View.{View}
 use Rattle.channel_core.specs.Counts.{count_added}
 use Rattle.channel_run.specs.RunShown.{Changed}

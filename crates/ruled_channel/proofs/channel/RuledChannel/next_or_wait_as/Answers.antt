@@ -1,6 +1,6 @@
 use Rattle.std.proofs.Common.{ap, refl, ◌∙◌}
 use Rattle.ruled_mutex.specs.Passes.{found}
-use Rattle.channel_model.specs.Tables.{next_poll}
+use Rattle.channel_core.specs.Tables.{next_poll}
 use Rattle.channel_core.specs.Channel.{polled_stream}
 use Rattle.ruled_channel.specs.State.{state_of}
 use Rattle.ruled_channel.specs.Passes.{key_of}

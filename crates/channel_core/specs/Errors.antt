@@ -1,13 +1,13 @@
 -- What the errors say: their messages, their cases and their texts.
 use Rattle.std.specs.Prelude.{ℕ, List, codes, Bool, true, false}
-use Rattle.channel_model.specs.declared.errors.TrySendError.{TrySendError}
-use Rattle.channel_model.specs.declared.errors.TrySendError.TheVariants.{Full, Closed}
-use Rattle.channel_model.specs.declared.errors.TryRecvError.{TryRecvError}
-use Rattle.channel_model.specs.declared.errors.TryRecvError.TheVariants.{Empty, Closed}
-use Rattle.channel_model.specs.declared.errors.MakeError.{MakeError}
-use Rattle.channel_model.specs.declared.errors.MakeError.TheVariants.{OutOfMemory, NoStamps}
-use Rattle.channel_model.specs.declared.errors.CloneError.{CloneError}
-use Rattle.channel_model.specs.declared.errors.CloneError.TheVariants.{TooMany, OutOfMemory}
+use Rattle.channel_core.specs.declared.errors.TrySendError.{TrySendError}
+use Rattle.channel_core.specs.declared.errors.TrySendError.TheVariants.{Full, Closed}
+use Rattle.channel_core.specs.declared.errors.TryRecvError.{TryRecvError}
+use Rattle.channel_core.specs.declared.errors.TryRecvError.TheVariants.{Empty, Closed}
+use Rattle.channel_core.specs.declared.errors.MakeError.{MakeError}
+use Rattle.channel_core.specs.declared.errors.MakeError.TheVariants.{OutOfMemory, NoStamps}
+use Rattle.channel_core.specs.declared.errors.CloneError.{CloneError}
+use Rattle.channel_core.specs.declared.errors.CloneError.TheVariants.{TooMany, OutOfMemory}
 
 module _ {T : Type 0} where
   -- the message that came back

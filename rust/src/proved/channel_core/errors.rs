@@ -1,4 +1,4 @@
-// Taken out of crates/channel_model/src/errors.rt by tools/erase. Change that file, not this one.
+// Taken out of crates/channel_core/src/errors.rt by tools/erase. Change that file, not this one.
 //! What a call answers if it doesn't do what was asked.
 //!
 //! Nothing has changed after any of these, and a message that was handed in comes back. No text and

@@ -11,7 +11,7 @@ impl From<AllocError> for OutOfMemory {
 
 impl From<OutOfMemory> for MakeError {
     ghost use Rattle.std.specs.Prelude.{◌≡◌};
-    ghost use Rattle.channel_model.specs.declared.errors.MakeError.TheVariants.{OutOfMemory};
+    ghost use Rattle.channel_core.specs.declared.errors.MakeError.TheVariants.{OutOfMemory};
 
     ghost from_gives = { λ _ error. error ≡ OutOfMemory };
 
@@ -22,7 +22,7 @@ impl From<OutOfMemory> for MakeError {
 
 impl From<OutOfMemory> for CloneError {
     ghost use Rattle.std.specs.Prelude.{◌≡◌};
-    ghost use Rattle.channel_model.specs.declared.errors.CloneError.TheVariants.{OutOfMemory};
+    ghost use Rattle.channel_core.specs.declared.errors.CloneError.TheVariants.{OutOfMemory};
 
     ghost from_gives = { λ _ error. error ≡ OutOfMemory };
 

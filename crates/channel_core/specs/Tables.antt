@@ -2,12 +2,12 @@
 use Rattle.std.specs.Prelude.{⊤, Option, Some, None, Result, Ok, Err, Bool, true, false, ℕ, ◌^◌, ◌-◌}
 use Rattle.futures.specs.declared.task.Poll.{Poll}
 use Rattle.futures.specs.declared.task.Poll.TheVariants.{Ready, Pending}
-use Rattle.channel_model.specs.declared.errors.SendError.{SendError}
-use Rattle.channel_model.specs.declared.errors.TrySendError.{TrySendError}
-use Rattle.channel_model.specs.declared.errors.TrySendError.TheVariants.{Full, Closed}
-use Rattle.channel_model.specs.declared.errors.RecvError.{RecvError}
-use Rattle.channel_model.specs.declared.errors.TryRecvError.{TryRecvError}
-use Rattle.channel_model.specs.declared.errors.TryRecvError.TheVariants.{Empty, Closed}
+use Rattle.channel_core.specs.declared.errors.SendError.{SendError}
+use Rattle.channel_core.specs.declared.errors.TrySendError.{TrySendError}
+use Rattle.channel_core.specs.declared.errors.TrySendError.TheVariants.{Full, Closed}
+use Rattle.channel_core.specs.declared.errors.RecvError.{RecvError}
+use Rattle.channel_core.specs.declared.errors.TryRecvError.{TryRecvError}
+use Rattle.channel_core.specs.declared.errors.TryRecvError.TheVariants.{Empty, Closed}
 
 -- a fact for a poll that was ready
 abbrev pub OnReady : {A E : Type 0} → Result (Poll A) E → Type 0 → Type 0

@@ -3,7 +3,7 @@
 //! Nothing has changed after any of these, and a message that was handed in comes back. No text and
 //! no `Debug` asks anything of the message's type.
 ghost use Rattle.std.specs.Prelude.{◌≡◌, Some, codes};
-ghost use Rattle.channel_model.specs.Errors.{message_of, was_full, was_closed, try_send_text, try_send_debug, was_empty, was_ended, try_recv_text, try_recv_debug, make_text, make_debug, clone_text, clone_debug};
+ghost use Rattle.channel_core.specs.Errors.{message_of, was_full, was_closed, try_send_text, try_send_debug, was_empty, was_ended, try_recv_text, try_recv_debug, make_text, make_debug, clone_text, clone_debug};
 
 use std::error::Error;
 use std::fmt;
