@@ -26,9 +26,9 @@ ghost use Rattle.identity.specs.Keys.{AreDifferent};
 ghost use Rattle.event_list.specs.Waiting.{RingsEach, keys, payloads, payload_in, told_count, told_all, told_flag};
 ghost use Rattle.channel_core.specs.Channel.{new_channel, is_channel_full, list_of};
 
+use crate::errors::OutOfMemory;
 use crate::queue::Queue;
 use crate::waiting::WaitLists;
-use crate::errors::OutOfMemory;
 use event_list::{Bell, Ticket};
 use std::alloc::Global;
 use std::marker::Model;

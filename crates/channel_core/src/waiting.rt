@@ -3,8 +3,8 @@ ghost use Rattle.std.specs.Prelude.{◌≡◌, ◌++◌, None, IfOk, IfErr, OnEr
 ghost use Rattle.event_list.specs.Waiting.{RingsEach, nobody, payloads, told_one, told_all};
 ghost use Rattle.channel_core.specs.Tickets.{Waits, waits, payload_held, left, handed_on, rung_by_handing_on, LosesAtMostOne};
 
-use crate::state::Group;
 use crate::errors::OutOfMemory;
+use crate::state::Group;
 use event_list::{Bell, NoRoom, Ticket, WaitList};
 use std::alloc::Global;
 

@@ -2,9 +2,9 @@
 //!
 //! A past is the list of the steps that were made on a channel, each with its reply. The
 //! definitions say what it decides: the reply that is due to a step, what is held, who is live, who
-//! waits and who was told. They know nothing of the code that keeps a channel; that code is proved
-//! to agree with them in the crates above. [`laws`] has what holds after every past that can come
-//! about.
+//! waits and who was told. Of the core they know the errors, the reply tables and the law of notices,
+//! and nothing of its code. The crates above prove that what they make of it agrees with them.
+//! [`laws`] has what holds after every past that can come about.
 #![tactic(auto)]
 
 pub mod laws;

@@ -58,6 +58,7 @@ fn first_mark<C, W: Waiter<C>>(
 
 // Waits by a mark, which stays with its waiter if memory was refused. The answer is the one that the
 // entry held untold.
+#[inline(always)]
 fn wait_by<T: Drop, C, W: Waiter<C>>(
     core: &mut Core<T, Mark>,
     group: Group,

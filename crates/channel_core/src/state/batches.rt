@@ -7,8 +7,8 @@ ghost use Rattle.channel_core.specs.Tables.{try_recv_answer, try_send_answer};
 ghost use Rattle.channel_core.specs.Channel.{is_channel_full, oldest, GrowsWithMessages};
 ghost use Rattle.channel_core.specs.Batches.{CanSendNoMore, counted, moved_count, received_many, sent_many, taken_count};
 
-use crate::state::Core;
 use crate::errors::{NoMemory, OutOfMemory, TryRecvError, TrySendError};
+use crate::state::Core;
 use event_list::Bell;
 use std::alloc::Global;
 use std::collections::VecDeque;

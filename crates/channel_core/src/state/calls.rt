@@ -4,8 +4,8 @@ ghost use Rattle.event_list.specs.Waiting.{RingsEach};
 ghost use Rattle.channel_core.specs.Tables.{try_send_answer, force_send_answer, try_recv_answer};
 ghost use Rattle.channel_core.specs.Channel.{is_channel_full, oldest, GrowsWithMessages, sent, force_sent, received, closing};
 
-use crate::state::{Core, shut};
 use crate::errors::{NoMemory, SendError, TryRecvError, TrySendError};
+use crate::state::{Core, shut};
 use event_list::Bell;
 
 impl<T: Drop, W: Drop> Core<T, W> {

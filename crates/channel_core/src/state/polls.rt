@@ -6,9 +6,9 @@ ghost use Rattle.channel_core.specs.Tables.{OnReady, OnWait, send_poll, recv_pol
 ghost use Rattle.channel_core.specs.Tickets.{waits, payload_held, left, handed_on, rung_by_handing_on};
 ghost use Rattle.channel_core.specs.Channel.{GrowsWithMessages, is_channel_full, list_of, must_wait, oldest, polled_receive, polled_stream, polled_send, WaitsIn, SendWaits, RecvWaits, NextWaits, ClosedWaits, SendWants, RecvWants, NextWants, ClosedWants};
 
+use crate::errors::{NoMemory, OutOfMemory, RecvError, SendError};
 use crate::state::{Core, Group};
 use crate::waiting::{hand_on, leave, wait};
-use crate::errors::{NoMemory, OutOfMemory, RecvError, SendError};
 use event_list::{Bell, NoRoom, Ticket};
 use futures::task::Poll;
 
@@ -187,16 +187,17 @@ impl<T: Drop, W: Drop> Core<T, W> {
     ///
     /// ```
     /// let mut core: Core<u64, u64> = Core::unbounded(rt.alloc());
-    /// let (mut ticket, mut back) = (None, None);
-    /// let poll = core.finish_recv(&mut ticket, &mut Quiet, &mut back);
-    /// assert_eq!(rt; poll, Poll::Pending);
-    /// assert!(rt; ticket.is_none());
-    ///
-    /// // Another receive takes the place of the message that the first one is told of.
+    /// let (mut first, mut second, mut back) = (None, None, None);
+    /// assert!(rt; core.wait(Group::Receives, &mut first, 10).is_ok());
+    /// assert!(rt; core.wait(Group::Receives, &mut second, 11).is_ok());
     /// assert_eq!(rt; core.try_send(1, &mut Quiet), Ok(Ok(())));
-    /// let poll = core.finish_recv(&mut ticket, &mut Quiet, &mut back);
-    /// assert_eq!(rt; poll, Poll::Ready(Ok(1)));
-    /// Ticket::destroy_none(ticket);
+    ///
+    /// // The first one was told, and the second one is polled first.
+    /// let poll = core.finish_recv(&mut second, &mut Quiet, &mut back);
+    /// assert_eq!(rt; (poll, back), (Poll::Ready(Ok(1)), Some(11)));
+    /// core.cancel_recv(&mut first, &mut Quiet);
+    /// Ticket::destroy_none(first);
+    /// Ticket::destroy_none(second);
     /// ```
     #[inline(always)]
     pub fn finish_recv<B: Bell<W>>(
@@ -428,6 +429,7 @@ impl<T: Drop, W: Drop> Core<T, W> {
     /// core.cancel_recv(&mut ticket, &mut Quiet);
     /// Ticket::destroy_none(ticket);
     /// ```
+    #[inline(always)]
     pub fn wait(&mut self, g: Group, t: &mut Option<Ticket>, w: W) -> Result<Option<W>, NoRoom<W>>
         requires { must_wait g self.old ≡ true }
         ensures waits { OnOk result (WaitsIn g t.old self.old w t.new self.new) }
@@ -445,6 +447,7 @@ impl<T: Drop, W: Drop> Core<T, W> {
     }
 
     // `wait`, without the payloads of before and after.
+    #[inline(always)]
     fn wait_or_fail(&mut self, g: Group, t: &mut Option<Ticket>, w: W) -> Result<(), OutOfMemory>
         requires { must_wait g self.old ≡ true }
         ensures waits { OnOk result (WaitsIn g t.old self.old w t.new self.new) }

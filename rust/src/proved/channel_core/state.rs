@@ -21,9 +21,9 @@
 //! A poll looks first, and waits only if it can't go on: its own entry leaves before anybody is
 //! told, so that it never tells itself.
 
+use crate::errors::OutOfMemory;
 use crate::proved::channel_core::queue::Queue;
 use crate::proved::channel_core::waiting::WaitLists;
-use crate::errors::OutOfMemory;
 use crate::proved::event_list::{Bell, Ticket};
 use crate::shim::Global;
 

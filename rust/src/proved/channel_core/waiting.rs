@@ -1,8 +1,8 @@
 // Taken out of crates/channel_core/src/waiting.rt by tools/erase. Change that file, not this one.
 //! The waiting lists of a channel, and what a ticket that may be there does to one.
 
-use crate::proved::channel_core::state::Group;
 use crate::errors::OutOfMemory;
+use crate::proved::channel_core::state::Group;
 use crate::proved::event_list::{Bell, NoRoom, Ticket, WaitList};
 use crate::shim::Global;
 

@@ -3,8 +3,8 @@
 
 use crate::shim::Vec;
 
-use crate::proved::channel_core::state::Core;
 use crate::errors::{NoMemory, OutOfMemory, TryRecvError, TrySendError};
+use crate::proved::channel_core::state::Core;
 use crate::proved::event_list::Bell;
 use crate::shim::Global;
 use crate::shim::VecDeque;

@@ -1,8 +1,8 @@
 // Taken out of crates/channel_core/src/state/calls.rt by tools/erase. Change that file, not this one.
 //! The calls that never wait: a message in, a message out, and the end of the channel.
 
-use crate::proved::channel_core::state::{Core, shut};
 use crate::errors::{NoMemory, SendError, TryRecvError, TrySendError};
+use crate::proved::channel_core::state::{Core, shut};
 use crate::proved::event_list::Bell;
 
 impl<T, W> Core<T, W> {

@@ -1,9 +1,9 @@
 // Taken out of crates/channel_core/src/state/polls.rt by tools/erase. Change that file, not this one.
 //! The polls of those who may wait, and what they leave when one gives up.
 
+use crate::errors::{NoMemory, OutOfMemory, RecvError, SendError};
 use crate::proved::channel_core::state::{Core, Group};
 use crate::proved::channel_core::waiting::{hand_on, leave, wait};
-use crate::errors::{NoMemory, OutOfMemory, RecvError, SendError};
 use crate::proved::event_list::{Bell, NoRoom, Ticket};
 use std::task::Poll;
 
@@ -195,7 +195,7 @@ impl<T, W> Core<T, W> {
     ///
     /// The answer is the payload that its entry held untold before. If memory was refused nothing
     /// has changed, and `w` comes back.
-    #[inline]
+    #[inline(always)]
     pub fn wait(&mut self, g: Group, t: &mut Option<Ticket>, w: W) -> Result<Option<W>, NoRoom<W>> {
         match g {
             Group::Sends => wait(&mut self.lists.sends, t, w),
@@ -206,7 +206,7 @@ impl<T, W> Core<T, W> {
     }
 
     // `wait`, without the payloads of before and after.
-    #[inline]
+    #[inline(always)]
     fn wait_or_fail(&mut self, g: Group, t: &mut Option<Ticket>, w: W) -> Result<(), OutOfMemory> {
         match self.wait(g, t, w) {
             Ok(_) => Ok(()),
