@@ -156,12 +156,7 @@ impl<T> Channel<T> {
     ) -> Option<Waker> {
         ticket.as_ref()?;
         self.step_beside(|core, spare, told| {
-            let left = match group {
-                Group::Sends => core.withdraw_send(ticket, told),
-                Group::Receives => core.withdraw_recv(ticket, told),
-                Group::Streams => core.withdraw_stream(ticket),
-                Group::Closeds => core.withdraw_closed(ticket),
-            };
+            let left = core.withdraw(group, ticket, told);
             self.settle(ticket, link, spare);
             left
         })

@@ -11,7 +11,7 @@ ghost use Rattle.async_channel.specs.Operations.{IsLeftOf, MayGiveMany, sent_cou
 
 use crate::handles::{Receiver, Sender};
 use crate::many::ROUND_LIMIT;
-use channel_core::{OutOfMemory, SendError, Ticket};
+use channel_core::{Group, OutOfMemory, SendError, Ticket};
 use futures::Future;
 use futures::task::{Context, Poll};
 use ruled_channel::Marker;
@@ -334,7 +334,7 @@ impl<T: Drop, R: Wait + Clone + Drop> SendMany<'_, T, R> {
         let sender = self.sender;
         if self.ticket.is_some() {
             let (channel, mut pass) = sender.link.channel();
-            channel.give_up_send(&sender.link.rt, &mut pass, &mut self.ticket);
+            channel.give_up(&sender.link.rt, &mut pass, Group::Sends, &mut self.ticket);
         }
         self.count -= self.unsent.len();
         let none = VecDeque::new(sender.link.shared.channel.alloc());
@@ -422,7 +422,7 @@ impl<T: Drop, R: Wait + Clone + Drop> Drop for SendMany<'_, T, R> {
         } = self;
         if ticket.is_some() {
             let (channel, mut pass) = sender.link.channel();
-            channel.give_up_send(&sender.link.rt, &mut pass, &mut ticket);
+            channel.give_up(&sender.link.rt, &mut pass, Group::Sends, &mut ticket);
         }
         Ticket::destroy_none(ticket);
     }
@@ -505,7 +505,7 @@ impl<T: Drop, R: Wait + Clone + Drop> Drop for RecvMany<'_, T, R> {
         } = self;
         if ticket.is_some() {
             let (channel, mut pass) = receiver.link.channel();
-            channel.give_up_recv(&receiver.link.rt, &mut pass, &mut ticket);
+            channel.give_up(&receiver.link.rt, &mut pass, Group::Receives, &mut ticket);
         }
         Ticket::destroy_none(ticket);
     }

@@ -10,7 +10,7 @@ ghost use Rattle.channel_core.specs.declared.errors.OutOfMemory.{OutOfMemory};
 
 use crate::handles::{Receiver, Sender};
 use crate::owned::OwnedOrRef;
-use channel_core::{NoMemory, OutOfMemory, RecvError, SendError, Ticket, TrySendError};
+use channel_core::{Group, NoMemory, OutOfMemory, RecvError, SendError, Ticket, TrySendError};
 use futures::Future;
 use futures::task::{Context, Poll};
 use ruled_channel::{Mark, Marker, Unruled, Waiter};
@@ -473,7 +473,7 @@ impl<T: Drop, R: Wait + Clone + Drop> Drop for Closed<'_, T, R> {
         if ticket.is_some() {
             let link = &sender.get().link;
             let (channel, mut pass) = link.channel();
-            channel.give_up_closed(&link.rt, &mut pass, &mut ticket);
+            channel.give_up(&link.rt, &mut pass, Group::Closeds, &mut ticket);
         }
         Ticket::destroy_none(ticket);
     }

@@ -4,7 +4,7 @@ ghost use Rattle.async_channel.specs.Owned.{handle_in};
 
 use crate::handles::{Receiver, Sender};
 use crate::ops::{Closed, Recv, Send};
-use channel_core::Ticket;
+use channel_core::{Group, Ticket};
 use std::sync::Wait;
 
 /// The handle of an operation: its own one, or one that it borrows.
@@ -34,7 +34,7 @@ impl<T: Drop, R: Wait + Clone + Drop> OwnedOrRef<'_, Sender<T, R>> {
         let link = &self.get().link;
         let (channel, mut pass) = link.channel();
         let mut ticket = Some(ticket);
-        channel.give_up_send(&link.rt, &mut pass, &mut ticket);
+        channel.give_up(&link.rt, &mut pass, Group::Sends, &mut ticket);
         Ticket::destroy_none(ticket);
     }
 }
@@ -46,7 +46,7 @@ impl<T: Drop, R: Wait + Clone + Drop> OwnedOrRef<'_, Receiver<T, R>> {
         let link = &self.get().link;
         let (channel, mut pass) = link.channel();
         let mut ticket = Some(ticket);
-        channel.give_up_recv(&link.rt, &mut pass, &mut ticket);
+        channel.give_up(&link.rt, &mut pass, Group::Receives, &mut ticket);
         Ticket::destroy_none(ticket);
     }
 }

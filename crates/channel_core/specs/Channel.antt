@@ -7,7 +7,7 @@ use Rattle.channel_core.specs.declared.state.Group.TheVariants.{Sends, Receives,
 use Rattle.channel_core.specs.Queue.{is_full}
 use Rattle.channel_core.specs.Covered.{Waiters, Standing}
 use Rattle.channel_core.specs.Tables.{send_poll, recv_poll, next_poll, closed_poll}
-use Rattle.channel_core.specs.Tickets.{waits, left, Waits}
+use Rattle.channel_core.specs.Tickets.{waits, left, handed_on, rung_by_handing_on, Waits}
 
 -- The capacity, if there is one, the held messages, the oldest first, whether it is closed, how
 -- many senders and receivers there are, and who waits. The payload of an untold waiter is a `W`.
@@ -203,6 +203,20 @@ module _ {T W : Type 0} where
   -- a stream's entry leaves, and then a message, if there is one
   abbrev pub polled_stream : Option ℕ → Channel T W → Change T W
   polled_stream ticket channel = received (record channel { streams = left ticket channel.streams })
+
+  -- One of the group gives up, and its entry leaves. A notice that a send or a receive had goes on to
+  -- the next one. Streams are told together, as closed operations are, so none has to go on.
+  abbrev pub given_up : Group → Option ℕ → Channel T W → Change T W
+  given_up Sends ticket channel = record {
+    channel = record channel { sends = handed_on ticket channel.sends };
+    rung = rung_by_handing_on ticket channel.sends;
+  }
+  given_up Receives ticket channel = record {
+    channel = record channel { receives = handed_on ticket channel.receives };
+    rung = rung_by_handing_on ticket channel.receives;
+  }
+  given_up Streams ticket channel = unchanged (record channel { streams = left ticket channel.streams })
+  given_up Closeds ticket channel = unchanged (record channel { closeds = left ticket channel.closeds })
 
   -- one of the group that can't go on waits, and nothing else changes
   abbrev pub WaitsIn : Group → Option ℕ → Channel T W → W → Option ℕ → Channel T W → Type 0

@@ -7,4 +7,4 @@ pub mod Dropped
 pub mod Logging
 pub mod Capacity
 mod Made
-mod Renewed
+mod Waits

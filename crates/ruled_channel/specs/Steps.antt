@@ -4,8 +4,8 @@ use Rattle.futures.specs.declared.task.Poll.TheVariants.{Ready}
 use Rattle.channel_core.specs.declared.errors.RecvError.{RecvError}
 use Rattle.channel_core.specs.declared.errors.SendError.{SendError}
 use Rattle.channel_core.specs.Tables.{recv_poll, send_poll}
-use Rattle.channel_core.specs.Channel.{Channel, Change, is_channel_full, new_channel, oldest, polled_receive, polled_send, unchanged}
-use Rattle.channel_core.specs.Tickets.{handed_on, left, rung_by_handing_on}
+use Rattle.channel_core.specs.declared.state.Group.TheVariants.{Closeds, Receives, Sends}
+use Rattle.channel_core.specs.Channel.{Channel, Change, given_up, is_channel_full, new_channel, oldest, polled_receive, polled_send}
 use Rattle.ruled_mutex.specs.Passes.{found as found_when_held}
 use Rattle.ruled_channel.specs.declared.look.Status.{Status}
 use Rattle.ruled_channel.specs.declared.mark.Mark.{Mark}
@@ -63,23 +63,15 @@ module _ {T V : Type 0} where
       × HasMadeWith polled_receive pass
 
 module _ {T W : Type 0} where
-  -- a send's entry leaves, and a notice that it had goes on to the next one
+  -- a send, a receive or a wait for the last receiver is given up
   abbrev pub send_given_up : Option ℕ → Channel T W → Change T W
-  send_given_up ticket channel = record {
-    channel = record channel { sends = handed_on ticket channel.sends };
-    rung = rung_by_handing_on ticket channel.sends;
-  }
+  send_given_up = given_up Sends
 
-  -- a receive's, likewise
   abbrev pub receive_given_up : Option ℕ → Channel T W → Change T W
-  receive_given_up ticket channel = record {
-    channel = record channel { receives = handed_on ticket channel.receives };
-    rung = rung_by_handing_on ticket channel.receives;
-  }
+  receive_given_up = given_up Receives
 
-  -- the entry of a wait for the last receiver leaves
   abbrev pub closed_left : Option ℕ → Channel T W → Change T W
-  closed_left ticket channel = unchanged (record channel { closeds = left ticket channel.closeds })
+  closed_left = given_up Closeds
 
   -- what a look at it says
   abbrev pub status_of : Channel T W → Status

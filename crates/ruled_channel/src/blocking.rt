@@ -14,7 +14,7 @@ use crate::outcomes::{AtEnd, Lesson, Received, Seen, Sent};
 use crate::pass::Pass;
 use crate::protocol::Protocol;
 use channel_core::{
-    NoMemory, OutOfMemory, RecvError, SendError, Ticket, TryRecvError, TrySendError,
+    Group, NoMemory, OutOfMemory, RecvError, SendError, Ticket, TryRecvError, TrySendError,
 };
 use futures::task::Poll;
 use std::hint;
@@ -97,7 +97,7 @@ impl<T: Drop, V, P: Protocol<T, V>> RuledChannel<T, V, P> {
                     continue;
                 }
                 Err(refused) => {
-                    self.give_up_send(rt, pass, &mut ticket);
+                    self.give_up(rt, pass, Group::Sends, &mut ticket);
                     Err(refused)
                 }
             };
@@ -154,7 +154,7 @@ impl<T: Drop, V, P: Protocol<T, V>> RuledChannel<T, V, P> {
                     continue;
                 }
                 Err(OutOfMemory) => {
-                    self.give_up_recv(rt, pass, &mut ticket);
+                    self.give_up(rt, pass, Group::Receives, &mut ticket);
                     Err(OutOfMemory)
                 }
             };

@@ -14,7 +14,7 @@ use crate::channel::RuledChannel;
 use crate::mark::Marker;
 use crate::pass::Pass;
 use crate::protocol::Protocol;
-use channel_core::{OutOfMemory, Ticket};
+use channel_core::{Group, OutOfMemory, Ticket};
 use futures::future::Future;
 use futures::task::{Context, Poll};
 use std::sync::Wait;
@@ -116,7 +116,7 @@ impl<T: Drop, V, P: Protocol<T, V>, R: Wait> Future for UntilClosed<'_, '_, T, V
                 Poll::Pending
             }
             Err(refused) => {
-                channel.give_up_closed(self.rt, &mut pass, ticket);
+                channel.give_up(self.rt, &mut pass, Group::Closeds, ticket);
                 Poll::Ready((pass, Err(refused)))
             }
         }
@@ -153,7 +153,7 @@ impl<T: Drop, V, P: Protocol<T, V>, R: Wait> UntilClosed<'_, '_, T, V, P, R> {
         };
         if self.ticket.is_some() {
             self.channel
-                .give_up_closed(self.rt, &mut pass, &mut self.ticket);
+                .give_up(self.rt, &mut pass, Group::Closeds, &mut self.ticket);
         }
         Some(pass)
     }

@@ -16,7 +16,7 @@ use crate::mark::Marker;
 use crate::outcomes::{AtEnd, Received};
 use crate::pass::Pass;
 use crate::protocol::Protocol;
-use channel_core::{OutOfMemory, RecvError, Ticket};
+use channel_core::{Group, OutOfMemory, RecvError, Ticket};
 use futures::future::Future;
 use futures::task::{Context, Poll};
 use std::marker::PhantomData;
@@ -136,7 +136,7 @@ impl<T: Drop, V, P: Protocol<T, V>, M: Received<T, V>, E: AtEnd<V>, R: Wait> Fut
                 Poll::Pending
             }
             Err(refused) => {
-                channel.give_up_recv(self.rt, &mut pass, ticket);
+                channel.give_up(self.rt, &mut pass, Group::Receives, ticket);
                 Poll::Ready((pass, Err(refused)))
             }
         }
@@ -174,7 +174,7 @@ impl<T: Drop, V, P: Protocol<T, V>, M, E, R: Wait> RecvAs<'_, '_, T, V, P, M, E,
         };
         if self.ticket.is_some() {
             self.channel
-                .give_up_recv(self.rt, &mut pass, &mut self.ticket);
+                .give_up(self.rt, &mut pass, Group::Receives, &mut self.ticket);
         }
         Some(pass)
     }

@@ -16,7 +16,7 @@ use crate::mark::Marker;
 use crate::outcomes::{Lesson, Sent};
 use crate::pass::Pass;
 use crate::protocol::Protocol;
-use channel_core::{NoMemory, SendError, Ticket, TrySendError};
+use channel_core::{Group, NoMemory, SendError, Ticket, TrySendError};
 use futures::future::Future;
 use futures::task::{Context, Poll};
 use std::marker::PhantomData;
@@ -139,7 +139,7 @@ impl<T: Drop, V, P: Protocol<T, V>, M: Sent<T, V>, L: Lesson<T, V>, R: Wait> Fut
                 Poll::Pending
             }
             Err(refused) => {
-                channel.give_up_send(self.rt, &mut pass, t);
+                channel.give_up(self.rt, &mut pass, Group::Sends, t);
                 Poll::Ready((pass, Err(refused)))
             }
         }
@@ -178,7 +178,7 @@ impl<T: Drop, V, P: Protocol<T, V>, M, L, R: Wait> SendAs<'_, '_, T, V, P, M, L,
         };
         if self.ticket.is_some() {
             self.channel
-                .give_up_send(self.rt, &mut pass, &mut self.ticket);
+                .give_up(self.rt, &mut pass, Group::Sends, &mut self.ticket);
         }
         Some((pass, message))
     }

@@ -8,13 +8,13 @@ ghost use Rattle.futures.specs.Poll.{IfReady};
 ghost use Rattle.futures.specs.declared.task.Poll.TheVariants.{Pending};
 ghost use Rattle.channel_core.specs.Errors.{message_of};
 ghost use Rattle.channel_core.specs.Tables.{OnReady, OnWait, closed_poll, next_poll, recv_poll, send_poll, try_send_answer};
-ghost use Rattle.channel_core.specs.Channel.{ClosedWaits, GrowsWithMessages, NextWaits, RecvWaits, SendWaits, WaitsIn, is_channel_full, list_of, must_wait, oldest, polled_receive, polled_send, polled_stream, unchanged};
+ghost use Rattle.channel_core.specs.Channel.{ClosedWaits, GrowsWithMessages, NextWaits, RecvWaits, SendWaits, WaitsIn, given_up, is_channel_full, list_of, must_wait, oldest, polled_receive, polled_send, polled_stream, unchanged};
 ghost use Rattle.channel_core.specs.Tickets.{left, waits};
 ghost use Rattle.ruled_channel.specs.declared.mark.Mark.{Mark};
 ghost use Rattle.ruled_channel.specs.State.{HasReceivers, IsEmpty};
 ghost use Rattle.ruled_channel.specs.Rule.{Sends, Receives, Ends, Learns, Fitted};
 ghost use Rattle.ruled_channel.specs.Passes.{IsPassOf, IsSamePass, LearnedOf, Refuses, IfFull, UnlessFull, WantsToSend, key_of, number, source_of, view};
-ghost use Rattle.ruled_channel.specs.Steps.{HasMade, closed_left, found, made, receive_given_up, send_given_up, woken};
+ghost use Rattle.ruled_channel.specs.Steps.{HasMade, closed_left, found, made, woken};
 
 use crate::channel::RuledChannel;
 use crate::mark::{Mark, Waiter};
@@ -251,7 +251,7 @@ impl<T: Drop, V, P: Protocol<T, V>> RuledChannel<T, V, P> {
     ///
     /// It is for who keeps the send's ticket and its waiter: the future of a send, or a thread that
     /// blocks. After `Full` there is a ticket, and after every other answer none. If memory was
-    /// refused the ticket is as it was, and its entry stays; `give_up_send` takes it out.
+    /// refused the ticket is as it was, and its entry stays; `give_up` takes it out.
     ///
     /// ```
     /// let (channel, mut pass) = bounded_with::<u64, (), Unruled>(rt.alloc(), 1)?;
@@ -329,7 +329,7 @@ impl<T: Drop, V, P: Protocol<T, V>> RuledChannel<T, V, P> {
     ///
     /// It is for who keeps the receive's ticket and its waiter. A pending poll leaves a ticket, and
     /// a ready one none. If memory was refused the ticket is as it was, and its entry stays;
-    /// `give_up_recv` takes it out.
+    /// `give_up` takes it out.
     ///
     /// ```
     /// let (channel, mut pass) = bounded_with::<u64, (), Unruled>(rt.alloc(), 1)?;
@@ -342,7 +342,7 @@ impl<T: Drop, V, P: Protocol<T, V>> RuledChannel<T, V, P> {
     ///     &mut (),
     /// );
     /// assert_eq!(rt; polled, Ok(Poll::Pending));
-    /// channel.give_up_recv(&rt, &mut pass, &mut ticket);
+    /// channel.give_up(&rt, &mut pass, Group::Receives, &mut ticket);
     /// Ticket::destroy_none(ticket);
     /// ```
     #[inline(always)]
@@ -463,7 +463,7 @@ impl<T: Drop, V, P: Protocol<T, V>> RuledChannel<T, V, P> {
     ///
     /// It is for who keeps the ticket and the waiter of the wait. A pending poll leaves a ticket,
     /// and a ready one none. If memory was refused the ticket is as it was, and its entry stays;
-    /// `give_up_closed` takes it out.
+    /// `give_up` takes it out.
     ///
     /// ```
     /// let (channel, mut pass) = bounded_with::<u64, (), Unruled>(rt.alloc(), 1)?;
@@ -471,7 +471,7 @@ impl<T: Drop, V, P: Protocol<T, V>> RuledChannel<T, V, P> {
     /// let polled =
     ///     channel.closed_or_wait(&rt, &mut pass, &mut ticket, &mut sleeper, &mut ());
     /// assert_eq!(rt; polled, Ok(Poll::Pending));
-    /// channel.give_up_closed(&rt, &mut pass, &mut ticket);
+    /// channel.give_up(&rt, &mut pass, Group::Closeds, &mut ticket);
     /// Ticket::destroy_none(ticket);
     /// ```
     pub fn closed_or_wait<R, C, W>(
@@ -508,73 +508,32 @@ impl<T: Drop, V, P: Protocol<T, V>> RuledChannel<T, V, P> {
         polled
     }
 
-    /// Who waits to send waits no more; a notice that it had goes on to the next one.
+    /// Who waits in the group's list waits no more. A notice that a send or a receive had goes on to
+    /// the next one.
     ///
     /// ```
     /// let (channel, mut pass) = bounded_with::<u64, (), Unruled>(rt.alloc(), 1)?;
     /// let mut ticket = None;
-    /// channel.give_up_send(&rt, &mut pass, &mut ticket);
+    /// channel.give_up(&rt, &mut pass, Group::Sends, &mut ticket);
     /// Ticket::destroy_none(ticket);
     /// ```
-    pub fn give_up_send<R: Wait>(&self, rt: &R, pass: &mut Pass<T, V>, ticket: &mut Option<Ticket>)
-        requires { IsPassOf self.now pass.old }
-        ensures own { IsPassOf self.now pass.new × IsSamePass pass.old pass.new }
-        ensures same { view pass.new ≡ view pass.old }
-        ensures ticket { ticket.new ≡ None }
-        ensures step { HasMade (send_given_up ticket.old) pass.new }
-    {
-        let held = self.mutex.lock(rt, &mut pass.lock);
-        let mut bell = Ringer::new();
-        let core = pass.lock.value_mut(&self.mutex, &held);
-        let _left = core.withdraw_send(ticket, &mut bell);
-        self.give_back::<Kept<Unruled>>(pass, held, bell);
-    }
-
-    /// Who waits to receive waits no more; a notice that it had goes on to the next one.
-    ///
-    /// ```
-    /// let (channel, mut pass) = bounded_with::<u64, (), Unruled>(rt.alloc(), 1)?;
-    /// let mut ticket = None;
-    /// channel.give_up_recv(&rt, &mut pass, &mut ticket);
-    /// Ticket::destroy_none(ticket);
-    /// ```
-    pub fn give_up_recv<R: Wait>(&self, rt: &R, pass: &mut Pass<T, V>, ticket: &mut Option<Ticket>)
-        requires { IsPassOf self.now pass.old }
-        ensures own { IsPassOf self.now pass.new × IsSamePass pass.old pass.new }
-        ensures same { view pass.new ≡ view pass.old }
-        ensures ticket { ticket.new ≡ None }
-        ensures step { HasMade (receive_given_up ticket.old) pass.new }
-    {
-        let held = self.mutex.lock(rt, &mut pass.lock);
-        let mut bell = Ringer::new();
-        let core = pass.lock.value_mut(&self.mutex, &held);
-        let _left = core.withdraw_recv(ticket, &mut bell);
-        self.give_back::<Kept<Unruled>>(pass, held, bell);
-    }
-
-    /// Who waits for the last receiver waits no more.
-    ///
-    /// ```
-    /// let (channel, mut pass) = bounded_with::<u64, (), Unruled>(rt.alloc(), 1)?;
-    /// let mut ticket = None;
-    /// channel.give_up_closed(&rt, &mut pass, &mut ticket);
-    /// Ticket::destroy_none(ticket);
-    /// ```
-    pub fn give_up_closed<R: Wait>(
+    pub fn give_up<R: Wait>(
         &self,
         rt: &R,
         pass: &mut Pass<T, V>,
+        group: Group,
         ticket: &mut Option<Ticket>,
     )
         requires { IsPassOf self.now pass.old }
         ensures own { IsPassOf self.now pass.new × IsSamePass pass.old pass.new }
         ensures same { view pass.new ≡ view pass.old }
         ensures ticket { ticket.new ≡ None }
-        ensures step { HasMade (closed_left ticket.old) pass.new }
+        ensures step { HasMade (given_up group ticket.old) pass.new }
     {
         let held = self.mutex.lock(rt, &mut pass.lock);
+        let mut bell = Ringer::new();
         let core = pass.lock.value_mut(&self.mutex, &held);
-        let _left = core.withdraw_closed(ticket);
-        self.give_back::<Kept<Unruled>>(pass, held, Ringer::new());
+        let _left = core.withdraw(group, ticket, &mut bell);
+        self.give_back::<Kept<Unruled>>(pass, held, bell);
     }
 }

@@ -4,12 +4,12 @@ ghost use Rattle.futures.specs.Poll.{IfReady, OnPending};
 ghost use Rattle.event_list.specs.Waiting.{RingsEach};
 ghost use Rattle.channel_core.specs.Tables.{OnReady, OnWait, send_poll, recv_poll, next_poll, closed_poll};
 ghost use Rattle.channel_core.specs.Tickets.{waits, payload_held, left, handed_on, rung_by_handing_on};
-ghost use Rattle.channel_core.specs.Channel.{GrowsWithMessages, is_channel_full, list_of, must_wait, oldest, polled_receive, polled_stream, polled_send, WaitsIn, SendWaits, RecvWaits, NextWaits, ClosedWaits, SendWants, RecvWants, NextWants, ClosedWants};
+ghost use Rattle.channel_core.specs.Channel.{GrowsWithMessages, given_up, is_channel_full, list_of, must_wait, oldest, polled_receive, polled_stream, polled_send, WaitsIn, SendWaits, RecvWaits, NextWaits, ClosedWaits, SendWants, RecvWants, NextWants, ClosedWants};
 
 use crate::errors::{NoMemory, OutOfMemory, RecvError, SendError};
 use crate::state::{Core, Group};
 use crate::waiting::{hand_on, leave, wait};
-use event_list::{Bell, NoRoom, Ticket};
+use event_list::{Bell, NoRoom, Quiet, Ticket};
 use futures::task::Poll;
 
 impl<T: Drop, W: Drop> Core<T, W> {
@@ -480,30 +480,7 @@ impl<T: Drop, W: Drop> Core<T, W> {
             (rung_by_handing_on t.old self.old.sends) bell.new }
         ensures ticket { t.new ≡ None }
     {
-        self.withdraw_send(t, bell);
-    }
-
-    /// `cancel_send`, which gives the payload that the entry held untold.
-    ///
-    /// # Examples
-    ///
-    /// ```
-    /// let mut core: Core<u64, u64> = Core::bounded(rt.alloc(), 1)?;
-    /// assert_eq!(rt; core.try_send(1, &mut Quiet)?, Ok(()));
-    /// let (mut message, mut ticket) = (Some(2), None);
-    /// let poll = core.poll_send(&mut message, &mut ticket, 10, &mut Quiet);
-    /// assert_eq!(rt; poll, Ok(Poll::Pending));
-    /// assert_eq!(rt; core.withdraw_send(&mut ticket, &mut Quiet), Some(10));
-    /// Ticket::destroy_none(ticket);
-    /// ```
-    pub fn withdraw_send<B: Bell<W>>(&mut self, t: &mut Option<Ticket>, bell: &mut B) -> Option<W>
-        ensures given_back { result ≡ payload_held t.old self.old.sends }
-        ensures after { self.new ≡ record self.old { sends = handed_on t.old self.old.sends } }
-        ensures rung { RingsEach B.rings bell.old
-            (rung_by_handing_on t.old self.old.sends) bell.new }
-        ensures ticket { t.new ≡ None }
-    {
-        hand_on(&mut self.lists.sends, t, bell)
+        self.withdraw(Group::Sends, t, bell);
     }
 
     /// Gives a receive's wait up. A notice that it had goes to the next receive.
@@ -533,36 +510,7 @@ impl<T: Drop, W: Drop> Core<T, W> {
             (rung_by_handing_on t.old self.old.receives) bell.new }
         ensures ticket { t.new ≡ None }
     {
-        self.withdraw_recv(t, bell);
-    }
-
-    /// `cancel_recv`, which gives the payload that the entry held untold.
-    ///
-    /// # Examples
-    ///
-    /// ```
-    /// let mut core: Core<u64, u64> = Core::unbounded(rt.alloc());
-    /// let (mut first, mut second) = (None, None);
-    /// assert_eq!(rt; core.poll_recv(&mut first, 10, &mut Quiet), Ok(Poll::Pending));
-    /// assert_eq!(rt; core.poll_recv(&mut second, 11, &mut Quiet), Ok(Poll::Pending));
-    /// assert_eq!(rt; core.withdraw_recv(&mut second, &mut Quiet), Some(11));
-    ///
-    /// // The bell has the payload of one that is told.
-    /// assert_eq!(rt; core.try_send(1, &mut Quiet), Ok(Ok(())));
-    /// assert_eq!(rt; core.withdraw_recv(&mut first, &mut Quiet), None);
-    /// Ticket::destroy_none(first);
-    /// Ticket::destroy_none(second);
-    /// ```
-    pub fn withdraw_recv<B: Bell<W>>(&mut self, t: &mut Option<Ticket>, bell: &mut B) -> Option<W>
-        ensures given_back { result ≡ payload_held t.old self.old.receives }
-        ensures after { self.new ≡ record self.old {
-          receives = handed_on t.old self.old.receives;
-        } }
-        ensures rung { RingsEach B.rings bell.old
-            (rung_by_handing_on t.old self.old.receives) bell.new }
-        ensures ticket { t.new ≡ None }
-    {
-        hand_on(&mut self.lists.receives, t, bell)
+        self.withdraw(Group::Receives, t, bell);
     }
 
     /// Gives a stream's wait up. Streams are told together, so that no notice is handed on.
@@ -581,30 +529,7 @@ impl<T: Drop, W: Drop> Core<T, W> {
         ensures after { self.new ≡ record self.old { streams = left t.old self.old.streams } }
         ensures ticket { t.new ≡ None }
     {
-        self.withdraw_stream(t);
-    }
-
-    /// `cancel_stream`, which gives the payload that the entry held untold.
-    ///
-    /// Who gives a receiver up and wants the payload back makes this call first, and then
-    /// `drop_receiver` without a ticket.
-    ///
-    /// # Examples
-    ///
-    /// ```
-    /// let mut core: Core<u64, u64> = Core::unbounded(rt.alloc());
-    /// let mut ticket = None;
-    /// assert_eq!(rt; core.poll_next(&mut ticket, 10, &mut Quiet), Ok(Poll::Pending));
-    /// assert_eq!(rt; core.withdraw_stream(&mut ticket), Some(10));
-    /// assert!(rt; core.drop_receiver(&mut ticket, &mut Quiet));
-    /// Ticket::destroy_none(ticket);
-    /// ```
-    pub fn withdraw_stream(&mut self, t: &mut Option<Ticket>) -> Option<W>
-        ensures given_back { result ≡ payload_held t.old self.old.streams }
-        ensures after { self.new ≡ record self.old { streams = left t.old self.old.streams } }
-        ensures ticket { t.new ≡ None }
-    {
-        leave(&mut self.lists.streams, t)
+        self.withdraw(Group::Streams, t, &mut Quiet);
     }
 
     /// Gives a closed operation's wait up. Closed operations are told together, so that no notice
@@ -624,26 +549,46 @@ impl<T: Drop, W: Drop> Core<T, W> {
         ensures after { self.new ≡ record self.old { closeds = left t.old self.old.closeds } }
         ensures ticket { t.new ≡ None }
     {
-        self.withdraw_closed(t);
+        self.withdraw(Group::Closeds, t, &mut Quiet);
     }
 
-    /// `cancel_closed`, which gives the payload that the entry held untold.
+    /// Gives the wait of one of the group up, as `cancel_send` and its kin do. The answer is the
+    /// payload that its entry held untold.
+    ///
+    /// Who gives a receiver up and wants the payload of its stream back makes this call first, and
+    /// then `drop_receiver` without a ticket.
     ///
     /// # Examples
     ///
     /// ```
     /// let mut core: Core<u64, u64> = Core::unbounded(rt.alloc());
-    /// let mut ticket = None;
-    /// assert_eq!(rt; core.poll_closed(&mut ticket, 10), Ok(Poll::Pending));
-    /// assert_eq!(rt; core.withdraw_closed(&mut ticket), Some(10));
-    /// assert_eq!(rt; core.withdraw_closed(&mut ticket), None);
-    /// Ticket::destroy_none(ticket);
+    /// let (mut first, mut second) = (None, None);
+    /// assert_eq!(rt; core.poll_recv(&mut first, 10, &mut Quiet), Ok(Poll::Pending));
+    /// assert_eq!(rt; core.poll_recv(&mut second, 11, &mut Quiet), Ok(Poll::Pending));
+    /// assert_eq!(rt; core.withdraw(Group::Receives, &mut second, &mut Quiet), Some(11));
+    ///
+    /// // The bell has the payload of one that is told.
+    /// assert_eq!(rt; core.try_send(1, &mut Quiet), Ok(Ok(())));
+    /// assert_eq!(rt; core.withdraw(Group::Receives, &mut first, &mut Quiet), None);
+    /// Ticket::destroy_none(first);
+    /// Ticket::destroy_none(second);
     /// ```
-    pub fn withdraw_closed(&mut self, t: &mut Option<Ticket>) -> Option<W>
-        ensures given_back { result ≡ payload_held t.old self.old.closeds }
-        ensures after { self.new ≡ record self.old { closeds = left t.old self.old.closeds } }
+    pub fn withdraw<B: Bell<W>>(
+        &mut self,
+        g: Group,
+        t: &mut Option<Ticket>,
+        bell: &mut B,
+    ) -> Option<W>
+        ensures given_back { result ≡ payload_held t.old (list_of g self.old) }
+        ensures after { self.new ≡ (given_up g t.old self.old).channel }
+        ensures rung { RingsEach B.rings bell.old (given_up g t.old self.old).rung bell.new }
         ensures ticket { t.new ≡ None }
     {
-        leave(&mut self.lists.closeds, t)
+        match g {
+            Group::Sends => hand_on(&mut self.lists.sends, t, bell),
+            Group::Receives => hand_on(&mut self.lists.receives, t, bell),
+            Group::Streams => leave(&mut self.lists.streams, t),
+            Group::Closeds => leave(&mut self.lists.closeds, t),
+        }
     }
 }

@@ -4,7 +4,7 @@
 use crate::errors::{NoMemory, OutOfMemory, RecvError, SendError};
 use crate::proved::channel_core::state::{Core, Group};
 use crate::proved::channel_core::waiting::{hand_on, leave, wait};
-use crate::proved::event_list::{Bell, NoRoom, Ticket};
+use crate::proved::event_list::{Bell, NoRoom, Quiet, Ticket};
 use std::task::Poll;
 
 impl<T, W> Core<T, W> {
@@ -217,52 +217,45 @@ impl<T, W> Core<T, W> {
     /// Gives a send's wait up. A notice that it had goes to the next send.
     #[inline]
     pub fn cancel_send<B: Bell<W>>(&mut self, t: &mut Option<Ticket>, bell: &mut B) {
-        self.withdraw_send(t, bell);
-    }
-
-    /// `cancel_send`, which gives the payload that the entry held untold.
-    #[inline]
-    pub fn withdraw_send<B: Bell<W>>(&mut self, t: &mut Option<Ticket>, bell: &mut B) -> Option<W> {
-        hand_on(&mut self.lists.sends, t, bell)
+        self.withdraw(Group::Sends, t, bell);
     }
 
     /// Gives a receive's wait up. A notice that it had goes to the next receive.
     #[inline]
     pub fn cancel_recv<B: Bell<W>>(&mut self, t: &mut Option<Ticket>, bell: &mut B) {
-        self.withdraw_recv(t, bell);
-    }
-
-    /// `cancel_recv`, which gives the payload that the entry held untold.
-    #[inline]
-    pub fn withdraw_recv<B: Bell<W>>(&mut self, t: &mut Option<Ticket>, bell: &mut B) -> Option<W> {
-        hand_on(&mut self.lists.receives, t, bell)
+        self.withdraw(Group::Receives, t, bell);
     }
 
     /// Gives a stream's wait up. Streams are told together, so that no notice is handed on.
     #[inline]
     pub fn cancel_stream(&mut self, t: &mut Option<Ticket>) {
-        self.withdraw_stream(t);
-    }
-
-    /// `cancel_stream`, which gives the payload that the entry held untold.
-    ///
-    /// Who gives a receiver up and wants the payload back makes this call first, and then
-    /// `drop_receiver` without a ticket.
-    #[inline]
-    pub fn withdraw_stream(&mut self, t: &mut Option<Ticket>) -> Option<W> {
-        leave(&mut self.lists.streams, t)
+        self.withdraw(Group::Streams, t, &mut Quiet);
     }
 
     /// Gives a closed operation's wait up. Closed operations are told together, so that no notice
     /// is handed on.
     #[inline]
     pub fn cancel_closed(&mut self, t: &mut Option<Ticket>) {
-        self.withdraw_closed(t);
+        self.withdraw(Group::Closeds, t, &mut Quiet);
     }
 
-    /// `cancel_closed`, which gives the payload that the entry held untold.
+    /// Gives the wait of one of the group up, as `cancel_send` and its kin do. The answer is the
+    /// payload that its entry held untold.
+    ///
+    /// Who gives a receiver up and wants the payload of its stream back makes this call first, and
+    /// then `drop_receiver` without a ticket.
     #[inline]
-    pub fn withdraw_closed(&mut self, t: &mut Option<Ticket>) -> Option<W> {
-        leave(&mut self.lists.closeds, t)
+    pub fn withdraw<B: Bell<W>>(
+        &mut self,
+        g: Group,
+        t: &mut Option<Ticket>,
+        bell: &mut B,
+    ) -> Option<W> {
+        match g {
+            Group::Sends => hand_on(&mut self.lists.sends, t, bell),
+            Group::Receives => hand_on(&mut self.lists.receives, t, bell),
+            Group::Streams => leave(&mut self.lists.streams, t),
+            Group::Closeds => leave(&mut self.lists.closeds, t),
+        }
     }
 }

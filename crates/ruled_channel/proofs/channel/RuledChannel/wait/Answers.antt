@@ -1,4 +1,4 @@
-use Rattle.ruled_channel.proofs.Renewed.{waits_in_twice}
+use Rattle.ruled_channel.proofs.Waits.{waits_in_twice}
 use Rattle.ruled_channel.proofs.channel.RuledChannel.wait.Goals as goal
 
 pub returns-then-is_untold-clause-waits : goal.returns-then-is_untold-clause-waits

@@ -1,14 +1,17 @@
--- Who waits twice in a row waits as by the second payload alone.
+-- One that waits, in any of the four lists. If it waits twice in a row, it waits as by the second
+-- payload alone.
 use Rattle.std.proofs.Common.{◌≡◌, ◌==◌, ℕ, Bool, true, false, not, cond, List, [], ◌∷◌, map, filter, Option, Some, None, IsSomeAnd, refl, sym, ap, ◌∙◌, subst, inl, inr}
 use Rattle.std.proofs.lemmas.Bool.{cases_Bool, or_from, or_right}
 use Rattle.std.proofs.lemmas.List.{map-append}
 use Rattle.event_list.specs.Keys.{is_among}
 use Rattle.event_list.specs.Waiting.{Waiting, joined, keys, renewed, repaid, untold_keys, without}
 use Rattle.event_list.proofs.Splits.{absent_right, eqb_same, is_among-append, repaid-absent}
-use Rattle.channel_core.specs.Channel.{Channel, WaitsIn, must_wait, with_list}
+use Rattle.channel_core.specs.Channel.{Channel, WaitsIn, given_up, must_wait, with_list}
 use Rattle.channel_core.specs.declared.state.Group.{Group}
 use Rattle.channel_core.specs.declared.state.Group.TheVariants.{Sends, Receives, Streams, Closeds}
 use Rattle.channel_core.specs.Tickets.{Waits, waiting_again}
+use Rattle.ruled_channel.specs.State.{state_of}
+use Rattle.ruled_channel.specs.declared.mark.Mark.{Mark}
 
 module _ {W : Type 0} (key : ℕ) (first second : W) where
   abbrev pays : W → ℕ × W → ℕ × W
@@ -82,6 +85,14 @@ module _ {T W : Type 0} where
   must_wait-with_list Receives list core = refl
   must_wait-with_list Streams list core = refl
   must_wait-with_list Closeds list core = refl
+
+-- and no rule sees that one waits no more
+pub same_given_up : {T : Type 0} (group : Group) (ticket : Option ℕ) (core : Channel T Mark)
+    → state_of (given_up group ticket core).channel ≡ state_of core
+same_given_up Sends ticket core = refl
+same_given_up Receives ticket core = refl
+same_given_up Streams ticket core = refl
+same_given_up Closeds ticket core = refl
 
 module _ {T W : Type 0} (t t' t'' : Option ℕ) (core core' core'' : Channel T W) (first second : W) where
   pub waits_in_twice : (group : Group) → WaitsIn group t core first t' core' → WaitsIn group t' core' second t'' core''
