@@ -6,7 +6,7 @@ use Rattle.std.proofs.lemmas.List.{map-append}
 use Rattle.event_list.specs.Keys.{is_among}
 use Rattle.event_list.specs.Waiting.{Waiting, joined, keys, renewed, repaid, untold_keys, without}
 use Rattle.event_list.proofs.Splits.{absent_right, eqb_same, is_among-append, repaid-absent}
-use Rattle.channel_core.specs.Channel.{Channel, WaitsIn, given_up, must_wait, with_list}
+use Rattle.channel_core.specs.Channel.{Channel, WaitsIn, given_up}
 use Rattle.channel_core.specs.declared.state.Group.{Group}
 use Rattle.channel_core.specs.declared.state.Group.TheVariants.{Sends, Receives, Streams, Closeds}
 use Rattle.channel_core.specs.Tickets.{Waits, waiting_again}
@@ -77,16 +77,7 @@ module _ {W : Type 0} where
         holds = again.holds;
       }
 
-module _ {T W : Type 0} where
-  -- who has to wait doesn't depend on who waits
-  pub must_wait-with_list : (group : Group) (list : Waiting W) (core : Channel T W)
-      → must_wait group (with_list group list core) ≡ must_wait group core
-  must_wait-with_list Sends list core = refl
-  must_wait-with_list Receives list core = refl
-  must_wait-with_list Streams list core = refl
-  must_wait-with_list Closeds list core = refl
-
--- and no rule sees that one waits no more
+-- no rule sees that one waits no more
 pub same_given_up : {T : Type 0} (group : Group) (ticket : Option ℕ) (core : Channel T Mark)
     → state_of (given_up group ticket core).channel ≡ state_of core
 same_given_up Sends ticket core = refl
