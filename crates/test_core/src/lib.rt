@@ -1,4 +1,4 @@
-//! Tests of what contracts of runs and scripts let through, by public calls alone.
+//! Tests of what contracts of runs, scripts, maps and the mutex let through, by public calls alone.
 #![tactic(auto)]
 
 #[cfg(test)]
@@ -11,6 +11,10 @@ mod hostile;
 mod kept;
 #[cfg(test)]
 mod large;
+#[cfg(test)]
+mod locks;
+#[cfg(test)]
+mod maps;
 #[cfg(test)]
 mod replay;
 #[cfg(test)]

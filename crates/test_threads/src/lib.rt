@@ -1,4 +1,4 @@
-//! Tests with real threads, and of sizes beyond any limit, by public calls alone.
+//! Tests of handles with real threads, and of sizes beyond any limit, by public calls alone.
 #![tactic(auto)]
 
 #[cfg(test)]
@@ -11,10 +11,6 @@ mod each_way;
 mod left;
 #[cfg(test)]
 mod lists;
-#[cfg(test)]
-mod locks;
-#[cfg(test)]
-mod maps;
 #[cfg(test)]
 mod meeting;
 #[cfg(test)]

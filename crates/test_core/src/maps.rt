@@ -1,13 +1,14 @@
 //! Maps by several threads: how many workers there are, who gets what, and in which order.
-use crate::waiting::TURNS;
-use async_channel::StampMaker;
+use channel_record::StampMaker;
 use parallel_map::{Gate, Job, MapError, Open, Piece, gather, map_all, map_in_chunks};
 use std::alloc::{AllocError, AllocGlobal};
 use std::process::Abort;
 use std::sync::Wait;
 use std::sync::atomic::{AtomicBool, AtomicU64, Ordering};
-use std::thread;
-use std::thread::Threads;
+use std::thread::{self, Threads};
+
+/// How often a worker looks for the others before it gives up.
+const LOOKS: u32 = 10_000_000;
 
 /// Answers each number as it is.
 struct Same;
@@ -238,7 +239,7 @@ fn each_chunk_has_its_size(rt: HostRuntime) {
     ] {
         let map = (count, 2, 4, largest);
         // The worker at the first place waits for that of the second chunk.
-        let gate = met(&rt, map, 1, 2, TURNS);
+        let gate = met(&rt, map, 1, 2, LOOKS);
         assert!(rt; !gate.is_late.load(Ordering::SeqCst), "{map:?}");
         assert_eq!(rt; gate.next.load(Ordering::SeqCst), size, "{map:?}");
     }
@@ -249,7 +250,7 @@ fn workers_run_at_once(rt: HostRuntime) {
     // All wait for one another, or the first for all that it doesn't hold.
     for (count, workers, cap, below) in [(2, 2, 2, 2), (100, 100, 1, 100), (64, 2, 4, 1)] {
         let map = (count, workers, cap, None);
-        let gate = met(&rt, map, below, count, TURNS);
+        let gate = met(&rt, map, below, count, LOOKS);
         assert!(rt; !gate.is_late.load(Ordering::SeqCst), "{map:?}");
     }
 }
