@@ -32,6 +32,9 @@ const LOOKS: u32 = 100;
 /// How long it pauses between two looks. All of them take longer than some pauses at a taken lock.
 const PAUSE: Duration = Duration::from_nanos(100);
 
+/// What the other side needs for a message, at the least.
+const MESSAGE: Duration = Duration::from_nanos(10);
+
 /// How `seen` is written: in the one order of all calls on all channels. Who sends on one channel and
 /// then reads of another, while somebody does so the other way round, may count on that. On x86 the
 /// unlock after it does as much.
@@ -83,18 +86,27 @@ impl<T> Channel<T> {
         }
     }
 
-    /// Makes a step under the lock, and then wakes those whom it told.
+    /// Makes a step of this group's under the lock, and then wakes those whom it told. What isn't a send
+    /// or a receive takes no turns, as those of the group `Closeds`.
     #[inline]
-    pub(crate) fn step<A>(&self, step: impl FnOnce(&mut Core<T>, &mut Told) -> A) -> A {
-        self.step_beside(|core, _spare, told| step(core, told))
+    pub(crate) fn step<A>(
+        &self,
+        group: Group,
+        step: impl FnOnce(&mut Core<T>, &mut Told) -> A,
+    ) -> A {
+        self.step_beside(group, |core, _spare, told| step(core, told))
     }
 
     /// Makes a step that may take the spare link, or leave one.
     #[inline]
-    fn step_beside<A>(&self, step: impl FnOnce(&mut Core<T>, &mut Link<T>, &mut Told) -> A) -> A {
+    fn step_beside<A>(
+        &self,
+        group: Group,
+        step: impl FnOnce(&mut Core<T>, &mut Link<T>, &mut Told) -> A,
+    ) -> A {
         let mut told = Told::default();
         let answer = {
-            let mut locked = self.locked.lock();
+            let mut locked = self.locked.lock(move || self.time_to_turn(group));
             let (core, spare) = &mut *locked;
             let answer = step(core, spare, &mut told);
             let seen = 2 * core.len() + usize::from(core.is_closed());
@@ -124,7 +136,7 @@ impl<T> Channel<T> {
         let mut own = will_wait.then(|| context.waker().clone());
         let mut left = None;
         loop {
-            let answer = self.step_beside(|core, spare, told| {
+            let answer = self.step_beside(group, |core, spare, told| {
                 let answer = finish(core, ticket, told, &mut left);
                 let mut waits = || {
                     if let Some(own) = own.take() {
@@ -155,7 +167,7 @@ impl<T> Channel<T> {
         link: Option<&mut Link<T>>,
     ) -> Option<Waker> {
         ticket.as_ref()?;
-        self.step_beside(|core, spare, told| {
+        self.step_beside(group, |core, spare, told| {
             let left = core.withdraw(group, ticket, told);
             self.settle(ticket, link, spare);
             left
@@ -205,6 +217,18 @@ impl<T> Channel<T> {
         }
     }
 
+    /// How long the other side seems to need until it has nothing left to do: an empty channel is the
+    /// senders' turn, and a full one the receivers'. Without a bound there are no turns.
+    fn time_to_turn(&self, group: Group) -> Duration {
+        let left = self.capacity().and_then(|most| match group {
+            Group::Sends => Some(self.len()),
+            Group::Receives | Group::Streams => Some(most - self.len()),
+            Group::Closeds => None,
+        });
+        let left = left.map_or(u32::MAX, |left| u32::try_from(left).unwrap_or(u32::MAX));
+        MESSAGE * left
+    }
+
     /// Lets others run for a while, at most until who waits for this seems to go on. That is cheaper
     /// than to sleep if another thread is about to make it so.
     #[inline]
@@ -243,7 +267,7 @@ impl<T> Channel<T> {
     /// Counts one more handle if the channel is open, and answers whether it is. The core isn't told:
     /// it knows of one.
     pub(crate) fn upgrade(&self, side: Side) -> bool {
-        self.step(|core, told| {
+        self.step(Group::Closeds, |core, told| {
             if core.is_closed() {
                 return false;
             }
@@ -267,7 +291,7 @@ impl<T> Channel<T> {
     /// Tells the core that a side has no handle left.
     #[cold]
     fn end(&self, side: Side) {
-        self.step(|core, told| end(core, side, told));
+        self.step(Group::Closeds, |core, told| end(core, side, told));
     }
 }
 

@@ -7,18 +7,22 @@ use crate::primitives::{pause, turns};
 use crate::primitives::{Mutex, MutexGuard};
 #[cfg(not(feature = "parking_lot"))]
 use std::sync::{PoisonError, TryLockError};
-#[cfg(not(feature = "parking_lot"))]
 use std::time::Duration;
 
 /// How often a thread looks at a taken lock before it sleeps until it is free.
 #[cfg(not(feature = "parking_lot"))]
 const LOOKS: u32 = 12;
 
-/// How long it pauses before each look: so long that whoever has the lock can take it many times, and
-/// its cache lines stay where they are. With 0.6, 1 and 1.5 microseconds a message took 79, 80 and 74 ns
-/// from one thread to one over 128 places, and 123, 91 and 75 from four to four without a bound.
+/// How long it pauses before each look, unless it has its turn: so long that whoever has the lock can
+/// take it many times, and its cache lines stay where they are. With 1.5 microseconds, and no turns, a
+/// message took 131 ns from four threads to four over 128 places, in batches of 32 74, and now 100 and
+/// 38; from one thread to one as long as now, 79 and 68. Models don't pause.
 #[cfg(not(feature = "parking_lot"))]
-const PAUSE: Duration = Duration::from_nanos(1_500);
+const LONG: Duration = Duration::from_nanos(if cfg!(vamorilesh_loom) { 0 } else { 4_500 });
+
+/// How long it pauses at the least, before it asks whether it has its turn.
+#[cfg(not(feature = "parking_lot"))]
+const SHORT: Duration = Duration::from_nanos(300);
 
 /// A value that one thread at a time can reach.
 ///
@@ -33,14 +37,16 @@ impl<V> Lock<V> {
 
     #[cfg(feature = "parking_lot")]
     #[inline]
-    pub(crate) fn lock(&self) -> MutexGuard<'_, V> {
+    pub(crate) fn lock(&self, _time_to_turn: impl Fn() -> Duration) -> MutexGuard<'_, V> {
         self.0.lock()
     }
 
+    /// Takes the lock. `time_to_turn` says how long others may have work under it, which this thread had
+    /// better let them do first.
     #[cfg(not(feature = "parking_lot"))]
     #[inline]
-    pub(crate) fn lock(&self) -> MutexGuard<'_, V> {
-        self.try_lock().unwrap_or_else(|| self.wait())
+    pub(crate) fn lock(&self, time_to_turn: impl Fn() -> Duration) -> MutexGuard<'_, V> {
+        self.try_lock().unwrap_or_else(move || self.wait(time_to_turn))
     }
 
     #[cfg(not(feature = "parking_lot"))]
@@ -55,14 +61,26 @@ impl<V> Lock<V> {
 
     #[cfg(not(feature = "parking_lot"))]
     #[cold]
-    fn wait(&self) -> MutexGuard<'_, V> {
+    fn wait(&self, time_to_turn: impl Fn() -> Duration) -> MutexGuard<'_, V> {
         for _look in 0..turns(LOOKS) {
-            pause(PAUSE);
+            pause_for_turn(&time_to_turn);
             if let Some(guard) = self.try_lock() {
                 return guard;
             }
         }
         self.0.lock().unwrap_or_else(PoisonError::into_inner)
+    }
+}
+
+/// Pauses until this thread has its turn, or for long.
+#[cfg(not(feature = "parking_lot"))]
+fn pause_for_turn(time_to_turn: &dyn Fn() -> Duration) {
+    let (mut paused, mut time) = (Duration::ZERO, SHORT);
+    while paused < LONG && !time.is_zero() {
+        let pausing = time.clamp(SHORT, LONG);
+        pause(pausing);
+        paused += pausing;
+        time = time_to_turn();
     }
 }
 
