@@ -1,5 +1,6 @@
 //! What a thread did before a call is seen by whoever sees that call.
 
+use std::cell::RefCell;
 use std::sync::Arc;
 
 use loom::model;
@@ -105,4 +106,13 @@ fn of_the_last_handles() {
         (r, (weak, s))
     };
     is_in_order(receivers, none, |(weak, _)| weak.upgrade().is_none());
+    // Who drops the last one has to see what was done before the others.
+    let two_senders = || {
+        let (s, r) = unbounded::<u64>();
+        (s.clone(), (RefCell::new(Some(s)), r))
+    };
+    is_in_order(two_senders, none, |(last, r)| {
+        last.take();
+        r.is_closed()
+    });
 }
