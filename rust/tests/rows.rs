@@ -200,6 +200,53 @@ fn polls_wake_nobody_of_their_own() {
     assert_eq!(receive.woken(), 1);
 }
 
+/// A task polls operations that go on at once, or after they waited, while another of its own waits
+/// for that.
+#[test]
+fn operations_of_one_task_wake_it_for_each_other() {
+    for waits in [false, true] {
+        for is_batch in [false, true] {
+            let ((s, r), log) = (bounded(1), support::Log::default());
+            let waker = log.waker(1);
+            let mut send = Box::pin(async {
+                if is_batch {
+                    return s.send_many([1]).await.is_ok();
+                }
+                s.send(1).await.is_ok()
+            });
+            if waits {
+                assert_eq!(s.try_send(0), Ok(()));
+                assert!(support::poll_with(&mut send, &waker).is_pending());
+                assert_eq!((r.try_recv(), log.take()), (Ok(0), vec![1]));
+            }
+            let mut receive = Box::pin(r.recv());
+            assert!(support::poll_with(&mut receive, &waker).is_pending());
+            assert_eq!(support::poll_with(&mut send, &waker), Ready(true));
+            assert_eq!(log.take(), [1]);
+            assert_eq!(support::poll_with(&mut receive, &waker), Ready(Ok(1)));
+        }
+        for kind in 0..3 {
+            let ((s, mut r), log) = (bounded(1), support::Log::default());
+            let (waker, _other) = (log.waker(1), r.clone());
+            let mut receive = Box::pin(async move {
+                match kind {
+                    0 => r.recv().await.is_ok(),
+                    1 => r.recv_many(&mut Vec::new(), 1).await > 0,
+                    _ => r.next().await.is_some(),
+                }
+            });
+            assert!(!waits || support::poll_with(&mut receive, &waker).is_pending());
+            assert_eq!(s.try_send(0), Ok(()));
+            let mut send = Box::pin(s.send(1));
+            assert!(support::poll_with(&mut send, &waker).is_pending());
+            assert_eq!(log.take(), vec![1; usize::from(waits)]);
+            assert_eq!(support::poll_with(&mut receive, &waker), Ready(true));
+            assert_eq!(log.take(), [1]);
+            assert!(support::poll_with(&mut send, &waker).is_ready());
+        }
+    }
+}
+
 #[test]
 fn a_cancelled_wait_of_a_stream_is_handed_to_nobody() {
     let (s, r) = unbounded();
