@@ -135,6 +135,21 @@ fn the_last_sender_goes_before_its_closed_operation() {
 }
 
 #[test]
+fn a_closed_operation_whose_sender_is_gone_leaves_its_waker_with_nobody() {
+    let (s, r) = unbounded::<u8>();
+    let (waker, told) = counting();
+    {
+        let mut closed = pin!(s.closed());
+        assert!(poll_pinned(&mut closed, &waker).is_pending());
+        drop(s);
+    }
+    // Those of the test are left: the receiver has none.
+    assert_eq!(Arc::strong_count(&told), 2);
+    drop(r);
+    assert_eq!(told.woken(), 0);
+}
+
+#[test]
 fn messages_go_with_the_last_handle_whatever_operation_is_pending() {
     let (message, (waker, told)) = (Arc::new(0), counting());
     let (s, r) = bounded(2);
