@@ -23,6 +23,15 @@ fn numbers(count: usize) -> VecDeque<usize> {
     (0..count).collect()
 }
 
+type ReceiveMany = fn(&Receiver<usize>, &mut Vec<usize>, usize) -> usize;
+
+/// Each call that receives many messages, where there are some.
+const RECEIVES: [ReceiveMany; 3] = [
+    |r, into, limit| r.try_recv_many(into, limit).unwrap(),
+    |r, into, limit| r.recv_many_blocking(into, limit),
+    |r, into, limit| block_on(r.recv_many(into, limit)),
+];
+
 /// Polls an operation of several waiters, each with a waker of its own, all of which wait.
 fn all_wait<F: Future>(waiters: &mut [Pin<Box<F>>], log: &Log) {
     for (name, waiter) in waiters.iter_mut().enumerate() {
@@ -373,17 +382,19 @@ fn a_round_of_a_send_of_many_ends_before_its_wakers_are_woken() {
 }
 
 #[test]
-fn try_recv_many_goes_on_with_what_those_whom_it_wakes_send() {
-    let (s, r) = bounded(1);
-    let waker = Waker::from(Arc::new(Sends(s.clone())));
-    assert_eq!(s.try_send(1), Ok(()));
-    let mut sends: Vec<_> = (0..5).map(|_| Box::pin(s.send(2))).collect();
-    for send in &mut sends {
-        assert!(support::poll_with(send, &waker).is_pending());
+fn a_receive_of_many_goes_on_with_what_those_whom_it_wakes_send() {
+    for receive in RECEIVES {
+        let (s, r) = bounded(1);
+        let waker = Waker::from(Arc::new(Sends(s.clone())));
+        assert_eq!(s.try_send(1), Ok(()));
+        let mut sends: Vec<_> = (0..5).map(|_| Box::pin(s.send(2))).collect();
+        for send in &mut sends {
+            assert!(support::poll_with(send, &waker).is_pending());
+        }
+        let mut into = Vec::new();
+        assert_eq!((receive(&r, &mut into, 4), r.len()), (4, 1));
+        assert_eq!(into, [1, usize::MAX, usize::MAX, usize::MAX]);
     }
-    let mut into = Vec::new();
-    assert_eq!(r.try_recv_many(&mut into, 4), Ok(4));
-    assert_eq!(into, [1, usize::MAX, usize::MAX, usize::MAX]);
 }
 
 /// A waker that closes the channel when it is woken.
@@ -421,26 +432,51 @@ fn a_batch_that_is_cut_short_by_a_close_says_what_went_in() {
     });
 }
 
-/// A waker that takes a message when it is woken.
+/// A waker that takes a message when it is woken, if there is one.
 struct Takes(Receiver<usize>, AtomicUsize);
 
 impl Wake for Takes {
     fn wake(self: Arc<Self>) {
-        self.1.store(self.0.try_recv().unwrap(), Ordering::SeqCst);
+        if let Ok(message) = self.0.try_recv() {
+            self.1.store(message, Ordering::SeqCst);
+        }
     }
 }
 
 #[test]
 fn a_round_of_a_receive_of_many_ends_before_its_wakers_are_woken() {
-    let (s, r) = bounded(2 * ROUND_LIMIT);
-    s.try_send_many(&mut numbers(2 * ROUND_LIMIT)).unwrap();
-    let taker = Arc::new(Takes(r.clone(), AtomicUsize::new(0)));
-    let mut send = Box::pin(s.send(0));
-    assert!(poll_with(&mut send, &Waker::from(taker.clone())).is_pending());
-    let mut into = Vec::new();
-    assert_eq!(r.try_recv_many(&mut into, ROUND_LIMIT + 1), Ok(ROUND_LIMIT + 1));
-    assert_eq!(taker.1.load(Ordering::SeqCst), ROUND_LIMIT);
-    assert!(into.into_iter().eq((0..ROUND_LIMIT).chain([ROUND_LIMIT + 1])));
+    for receive in RECEIVES {
+        let (s, r) = bounded(2 * ROUND_LIMIT);
+        s.try_send_many(&mut numbers(2 * ROUND_LIMIT)).unwrap();
+        let taker = Arc::new(Takes(r.clone(), AtomicUsize::new(0)));
+        let mut send = Box::pin(s.send(0));
+        assert!(poll_with(&mut send, &Waker::from(taker.clone())).is_pending());
+        let mut into = Vec::new();
+        assert_eq!(receive(&r, &mut into, ROUND_LIMIT + 1), ROUND_LIMIT + 1);
+        assert_eq!(taker.1.load(Ordering::SeqCst), ROUND_LIMIT);
+        assert!(into.into_iter().eq((0..ROUND_LIMIT).chain([ROUND_LIMIT + 1])));
+    }
+}
+
+#[test]
+fn a_send_of_many_goes_on_where_those_whom_it_wakes_make_room() {
+    let sends: [fn(&Sender<usize>) -> usize; 2] = [
+        |s| s.try_send_many(&mut numbers(5)).unwrap(),
+        |s| {
+            let mut send = s.send_many(0..5);
+            assert_eq!(block_on(poll_once(&mut send)), None);
+            send.sent()
+        },
+    ];
+    for send in sends {
+        let (s, r) = bounded(1);
+        let waker = Waker::from(Arc::new(Takes(r.clone(), AtomicUsize::new(0))));
+        let mut receives: Vec<_> = (0..3).map(|_| Box::pin(r.recv())).collect();
+        for receive in &mut receives {
+            assert!(poll_with(receive, &waker).is_pending());
+        }
+        assert_eq!((send(&s), r.try_recv()), (4, Ok(3)));
+    }
 }
 
 /// A waker that panics when it is woken.
