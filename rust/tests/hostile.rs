@@ -119,6 +119,24 @@ fn a_poll_again_with_the_same_waker_copies_nothing() {
     assert_eq!((poll_copied(&mut closed), poll_copied(&mut s.closed())), ((true, 0), (true, 0)));
 }
 
+#[test]
+fn one_that_is_ready_copies_no_waker() {
+    let (s, mut r) = bounded(3);
+    assert_eq!(poll_copied(&mut s.send(1)), (true, 0));
+    assert_eq!(poll_copied(&mut r.recv()), (true, 0));
+    assert_eq!(poll_copied(&mut s.send_many([1, 2, 3])), (true, 0));
+    assert_eq!(poll_copied(&mut r.recv_many(&mut Vec::new(), 1)), (true, 0));
+    assert_eq!(poll_copied(&mut r.next()), (true, 0));
+    assert!(s.try_send_many(&mut [4, 5].into()) == Ok(2) && s.close());
+    assert_eq!(poll_copied(&mut s.send(6)), (true, 0));
+    assert_eq!(poll_copied(&mut s.send_many([6])), (true, 0));
+    for _ in ["what is left", "the end"] {
+        assert_eq!(poll_copied(&mut r.recv()), (true, 0));
+        assert_eq!(poll_copied(&mut r.recv_many(&mut Vec::new(), 1)), (true, 0));
+        assert_eq!(poll_copied(&mut r.next()), (true, 0));
+    }
+}
+
 thread_local! {
     /// What the wakers below were when they were woken.
     static WOKEN: RefCell<Vec<usize>> = const { RefCell::new(Vec::new()) };
