@@ -8,7 +8,7 @@
 //! back before it sends the next. At last it joins every worker that was started, whatever was
 //! refused meanwhile. Both channels are under the rule that what is received is what is sent. So
 //! once all ends are back the caller has had the chunks of all answers, each once.
-ghost use Rattle.std.specs.Prelude.{◌≡◌, ◌+◌, ◌^◌, ◌<◌, ◌≤◌, ◌⊎◌, [], ◌∷◌, ◌++◌, All, length, take, drop, map, vec_len, true, false, IsTrue, IfOk, IfErr, IfSome, IsSome, OnOk, OnErr, Err};
+ghost use Rattle.std.specs.Prelude.{◌≡◌, ◌+◌, ◌^◌, ◌<◌, ◌≤◌, ◌⊎◌, [], ◌∷◌, ◌++◌, All, length, take, drop, map, min, vec_len, true, false, IsTrue, IfOk, IfErr, IfSome, IsSome, OnOk, OnErr, Err};
 ghost use Rattle.std.specs.Vec.{vec_capacity};
 ghost use Rattle.ruled_channel_rules.specs.Handles.{IsSenderOf, IsReceiverOf, sent_by, got_by, has_ended, sender_closed, receiver_closed, known};
 ghost use Rattle.ruled_channel_rules.specs.Whole.{hub_log, together, sender_log, receiver_log};
@@ -291,7 +291,7 @@ fn send_place<A, B: Drop, J, G, R: Wait>(
     ensures collector { IsSome result → IsCollectorOf task.now.chunks collector.new }
     ensures sent { IsSome result → sent_by feeder.new ≡ sent_by feeder.old ++ from ∷ [] }
     ensures most { IfSome result (λ out. out ≤ task.now.most_out) }
-    ensures fewer { before < task.now.most_out → IfSome result (λ out. out ≡ before + 1) }
+    ensures fewer { IfSome result (λ out. out ≡ min (before + 1) task.now.most_out) }
     ensures out { IfSome result (λ out. out + length (got_by collector.new.receiver)
         ≡ before + 1 + length (got_by collector.old.receiver)) }
 {
