@@ -28,7 +28,7 @@ TOP = pathlib.Path(__file__).resolve().parent.parent.parent
 EXAMPLES = TOP / "examples"
 SECONDS = 120
 # How many cases there are, so that none is lost.
-CASES = 78
+CASES = 90
 LARGEST = 2**64 - 1
 USAGE = b"chanexplore takes --orders N, N from 1 to 10000000, or no argument\n"
 
@@ -120,6 +120,20 @@ def faulty():
         "another party's name": (b"unbounded\nParty a\n", b"line 2: unknown command\n"),
         "an empty line": (party + b"\n", b"line 3: unknown command\n"),
         "an empty line before": (b"unbounded\n\nparty a\n", b"line 2: unknown command\n"),
+        "a bad name and another": (b"unbounded\nparty ! b\n", b"line 2: wrong number of words\n"),
+        "no capacity": (b"bounded 0\nparty a\n", b"line 1: capacity is zero\n"),
+        "a large capacity": (b"bounded 1000001\n", b"line 1: capacity is too large\n"),
+        "a bad capacity": (b"bounded 01\n", b"line 1: bad number\n"),
+        "a bad number before": (b"unbounded\ntry_send s0 01\n", b"line 2: bad number\n"),
+        "a bad name before": (b"unbounded\nlen x0\n", b"line 2: bad name\n"),
+        "too few words before": (b"unbounded\nlen\n", b"line 2: wrong number of words\n"),
+        "a bad number in a party": (party + b"try_send s0 +1\n", b"line 3: bad number\n"),
+        "a bad name in a party": (party + b"len s00\n", b"line 3: bad name\n"),
+        "too many words in a party": (party + b"len s0 \n", b"line 3: wrong number of words\n"),
+        "the last of 1,000 names again": (
+            b"unbounded\n" + b"".join(b"party p%d\n" % it for it in range(1000)) + b"party p999\n",
+            b"line 1002: bad name\n",
+        ),
     }
 
 
@@ -189,7 +203,9 @@ def at_limits():
     number = b"line %d: unknown command\n" % (filler.count(b"\n") + 1)
     filler += b"x" * (2**20 - len(filler))
     return {
-        "the longest name": (long + b"n" * 250 + b"\nlen s0\n", [], 0, b"orders 1", b""),
+        "the longest names": (
+            long + b"n" * 250 + b"\nlen s0\nparty " + b"n" * 249 + b"m\n", [], 0, b"orders 1", b""
+        ),
         "a name too long": (long + b"n" * 251 + b"\n", [], 2, b"", b"line 2" + fault),
         "the longest line": (party + b"x" * 256, [], 2, b"", b"line 3: unknown command\n"),
         "a line too long": (party + b"x" * 257, [], 2, b"", b"line 3" + fault),
@@ -206,10 +222,6 @@ def at_limits():
         "a first line too long": (b"unbounded " + b"x" * 247, [], 2, b"", b"line 1" + fault),
         "the second name again": (one + names + b"party b\n", [], 2, b"", b"line 8: bad name\n"),
         "the third name again": (one + names + b"party c\n", [], 2, b"", b"line 8: bad name\n"),
-        "the last of many names again": (
-            b"unbounded\n" + b"".join(b"party p%d\n" % it for it in range(50)) + b"party p49\n",
-            [], 2, b"", b"line 52: bad name\n",
-        ),
         "names that are alike": (
             b"unbounded\n" + b"".join(
                 b"party %s\n" % it for it in b"abc abd axc bbc ab a bc c abcd".split()
@@ -255,6 +267,7 @@ def hostile():
         "no order": (two, ["--orders", "0"], 2, b"", USAGE),
         "too many orders": (two, ["--orders", "10000001"], 2, b"", USAGE),
         "another argument": (two, ["--all"], 2, b"", USAGE),
+        "an empty argument": (two, [""], 2, b"", USAGE),
         "an argument more": (two, ["--orders", "5", "6"], 2, b"", USAGE),
     }
 
@@ -275,6 +288,30 @@ def wrong_with_many(program):
         yield "a script is another one"
 
 
+def wrong_with_long(program):
+    """What is wrong with the report on 400 parties of three lines, the last of whom awaits."""
+    names = [f"p{number}" for number in range(400)]
+    lines = [[f"len s{number}", "len r0", "is_full s0"] for number in range(400)]
+    lines[-1][-1] = "await r0"
+    replies = {"len r0": "0", "is_full s0": "false", "await r0": "pending"}
+    clones = [f"clone s0 s{number}" for number in range(1, 400)]
+    parties = [it for name, own in zip(names, lines) for it in (f"party {name}", *own)]
+    answers = [
+        f"{name}: {line} => {replies.get(line, '0')}"
+        for name, own in zip(names, lines) for line in own
+    ]
+    turns = [line.replace("await", "next") for own in lines for line in own]
+    head = ["orders 1, and more: the limit is met", "outcomes 1", "stuck 1", ""]
+    report = [*head, "outcome 1: 1 order, stuck", *answers, "script"]
+    wanted = [*report, "unbounded", *clones, *turns]
+    given = "\n".join(["unbounded", *clones, *parties])
+    ran = run(program, given.encode(), ["--orders", "1"])
+    got = ran.stdout.decode().splitlines()
+    if (ran.returncode, got) != (3, wanted):
+        at = next((at for at, pair in enumerate(zip(got, wanted)) if pair[0] != pair[1]), None)
+        yield f"status {ran.returncode}, {len(got)} lines, line {at}"
+
+
 def cases(programs, write):
     """Each case: its name, and what is wrong with it."""
     explorer = programs["chanexplore"]
@@ -286,6 +323,7 @@ def cases(programs, write):
         yield name, [got] if got != (0 if whole else 3, report, b"") else []
     yield "characters of names", [*wrong_with_names(explorer)][:1]
     yield "many outcomes", [*wrong_with_many(explorer)]
+    yield "a long report", [*wrong_with_long(explorer)]
     yield "devices", [*wrong_with_devices(explorer)]
     yield "a terminal", [*wrong_with_terminal(explorer)]
     for name, (given, arguments, *wanted) in (hostile() | at_limits()).items():
