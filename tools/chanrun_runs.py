@@ -1,31 +1,35 @@
 #!/usr/bin/env python3
-"""Runs the built chanrun on each case of tools/chanrun_runs.
+"""Runs the built chanrun and chantrace on each case of tools/chanrun_runs.
 
 A case is a folder: args (one a line), stdin, stdout, stderr and status. The file stdout_to, if
-there is one, names a device that standard output goes to. Status and both streams are compared.
+there is one, names a device that standard output goes to, and stdin_from what standard input comes
+from. A case whose name begins with `trace_` is chantrace's. Status and both streams are compared.
 Of one case each of the three is then changed, and the difference has to be named. The gate leaves
-the program built; if it isn't, `rt run` builds it. The last line counts the cases, and the status
+the programs built; if one isn't, `rt run` builds it. The last line counts the cases, and the status
 is 0 if all passed and there are as many as are stored here.
 """
 
+import os
 import pathlib
 import subprocess
 import sys
 
 TOOLS = pathlib.Path(__file__).resolve().parent
-CRATE = TOOLS.parent / "crates" / "program_chanrun"
-PROGRAM = CRATE / "out" / "program_chanrun"
+CRATES = TOOLS.parent / "crates"
 SECONDS = 60
 # How many cases there are, so that none is lost.
-CASES = 8
+CASES = 14
 
 
-def built():
-    """The program as the gate leaves it, or as `rt run` builds it."""
-    if not PROGRAM.is_file():
-        with open(CRATE / "stdin", "rb") as script:
-            subprocess.run(["rt", "run"], cwd=CRATE, stdin=script, stdout=subprocess.DEVNULL)
-    return PROGRAM
+def built(case):
+    """The program of a case as the gate leaves it, or as `rt run` builds it."""
+    name = "program_chantrace" if case.name.startswith("trace_") else "program_chanrun"
+    crate = CRATES / name
+    program = crate / "out" / name
+    if not program.is_file():
+        with open(crate / "stdin", "rb") as script:
+            subprocess.run(["rt", "run"], cwd=crate, stdin=script, stdout=subprocess.DEVNULL)
+    return program
 
 
 def told(case, name):
@@ -43,41 +47,41 @@ def wanted_of(case):
     }
 
 
-def differences(program, case, wanted):
+def differences(case, wanted):
     """Runs one case, and names what is other than wanted."""
     arguments = told(case, "args").decode().splitlines()
-    device = told(case, "stdout_to").decode().strip()
+    device, source = (told(case, it).decode().strip() for it in ("stdout_to", "stdin_from"))
+    given = {"stdin": os.open(source, os.O_RDONLY)} if source else {"input": told(case, "stdin")}
     with open(device or "/dev/null", "wb") as output:
         ran = subprocess.run(
-            [program, *arguments],
-            input=told(case, "stdin"),
+            [built(case), *arguments],
             stdout=output if device else subprocess.PIPE,
             stderr=subprocess.PIPE,
             timeout=SECONDS,
+            **given,
         )
     given = {"status": ran.returncode, "stdout": ran.stdout or b"", "stderr": ran.stderr}
     return [f"{it}: {given[it]!r}, not {wanted[it]!r}" for it in wanted if given[it] != wanted[it]]
 
 
-def overlooked(program, case):
+def overlooked(case):
     """Which of the three may be other than wanted, with no difference named."""
     wanted = wanted_of(case)
     others = {"status": wanted["status"] + 1, "stdout": b"other", "stderr": b"other"}
     return [
         it for it, other in others.items()
-        if len(differences(program, case, {**wanted, it: other})) != 1
+        if len(differences(case, {**wanted, it: other})) != 1
     ]
 
 
 def main():
-    program = built()
     cases = sorted(it for it in (TOOLS / "chanrun_runs").iterdir() if it.is_dir())
     failed = 0
     for case in cases:
-        wrong = differences(program, case, wanted_of(case))
+        wrong = differences(case, wanted_of(case))
         failed += bool(wrong)
         print(f"chanrun: {case.name}: {'; '.join(wrong) or 'ok'}")
-    missed = overlooked(program, TOOLS / "chanrun_runs" / "good_script")
+    missed = overlooked(TOOLS / "chanrun_runs" / "good_script")
     for it in missed:
         print(f"chanrun: another {it} isn't seen")
     print(f"chanrun: {len(cases) - failed} passed, {failed + len(missed)} failed; stored: {CASES}")
