@@ -1,6 +1,6 @@
 //! Operations that wait in turn: each by one entry, which goes with it. A notice is handed on.
 use crate::party::Party;
-use crate::waiting::{channel, new_task, numbers};
+use crate::waiting::{TURNS, channel, new_task, numbers};
 use crate::ways::numbers_from;
 use async_channel::{Group, Receiver, Sender, WeakSender};
 use futures::task::Poll;
@@ -11,11 +11,21 @@ use std::alloc::AllocGlobal;
 use std::process::Abort;
 use std::random::RandomSource;
 use std::sync::Wait;
+use std::thread;
+use std::thread::Threads;
 
 /// A channel of one place, as whoever tells others has it.
 trait Line {
     /// Tells who has waited longest in the group, or all who wait for the last receiver.
     fn tell(&mut self, group: Group);
+
+    /// Takes back what it told of.
+    fn take_back(&mut self, group: Group) {
+        self.tell(match group {
+            Group::Sends => Group::Receives,
+            _ => Group::Sends,
+        })
+    }
 
     fn close(&mut self);
 
@@ -97,9 +107,10 @@ where
     }
 }
 
-/// Lets three operations wait, and gives the last one up. The first keeps its place when it is
-/// polled again, and lets go of no waker; another task takes it over. Once it was told, it goes on,
-/// or it is given up and tells the second.
+/// Lets three operations wait, one of which was told in vain, waits last, and is given up. The first
+/// keeps its place when it is polled again, and lets go of no waker; another task takes it over.
+/// Once it was told, it goes on, and the second is given up after a close; or it is given up and
+/// tells the second.
 fn take_turns<R, L, F>(rt: &R, line: &mut L, group: Group, operations: (F, F, F), goes_on: bool)
 where
     R: RandomSource + AllocGlobal + Abort,
@@ -110,17 +121,20 @@ where
 {
     let (task, other, last) = (new_task(rt), new_task(rt), new_task(rt));
     let (first, second, third) = operations;
+    let third = wait(rt, &new_task(rt), third);
     let (first, mut second) = (wait(rt, &task, first), wait(rt, &other, second));
+    let are_all_told = matches!(group, Group::Closeds);
+    if !are_all_told {
+        line.tell(group);
+        line.take_back(group);
+    }
     drop(wait(rt, &new_task(rt), third));
     let first = wait(rt, &task, first);
     let is_kept = !task.is_woken() && line.numbers(group) == (2, 0);
     let mut first = wait(rt, &last, first);
-    assert!(rt;
-        is_kept && !last.is_woken() && !other.is_woken(),
-        "{group:?}"
-    );
+    let is_kept = is_kept && !last.is_woken() && !other.is_woken();
+    assert!(rt; is_kept, "{group:?}");
     line.tell(group);
-    let are_all_told = matches!(group, Group::Closeds);
     let is_told = last.is_woken() && other.is_woken() == are_all_told;
     let told = if are_all_told { 2 } else { 1 };
     assert!(rt; is_told && line.numbers(group) == (2, told), "{group:?}");
@@ -130,12 +144,42 @@ where
             is_ready && line.numbers(group) == (1, usize::from(are_all_told)),
             "{group:?}"
         );
-        return;
+        line.close();
+        assert_eq!(rt; line.numbers(group), (1, 1), "{group:?}");
+        drop(second);
+    } else {
+        drop(first);
+        let is_told = other.is_woken() && line.numbers(group) == (1, 1);
+        assert!(rt; is_told && other.poll(&mut second).is_ready(), "{group:?}");
     }
-    drop(first);
-    let is_told = other.is_woken() && line.numbers(group) == (1, 1);
-    assert!(rt; is_told && other.poll(&mut second).is_ready(), "{group:?}");
     assert_eq!(rt; line.numbers(group), (0, 0));
+}
+
+/// Blocks a thread behind an operation, which is told and given up. So the thread goes on.
+fn tell_a_thread<R, F>(rt: &R, line: &mut Ruled<'_, R>, group: Group, operation: F)
+where
+    R: Threads + Wait + Sync + RandomSource + AllocGlobal + Abort,
+    F: Future + Drop,
+    F::Output: Drop,
+    requires { F.can_poll operation }
+{
+    let operation = wait(rt, &new_task(rt), operation);
+    let mut other = line.party.another();
+    thread::scope(thread::scope_env(), rt, |scope| {
+        let started = scope.spawn(move || match group {
+            Group::Sends => assert!(rt; other.send(rt, 4)),
+            _ => assert!(rt; other.receive(rt).is_some()),
+        });
+        assert!(rt; started.is_ok());
+        for _ in 0..TURNS {
+            if line.numbers(group) == (2, 0) {
+                break;
+            }
+            thread::yield_now();
+        }
+        line.tell(group);
+        drop(operation);
+    });
 }
 
 /// Three of them.
@@ -153,6 +197,8 @@ fn receives_take_turns(rt: HostRuntime) {
     let (ruled, pass) = made.expect(&rt, "a channel");
     let party = Party::new(&ruled, pass);
     let mut ruled_line = Ruled { rt: &rt, party };
+    let receive = ruled.recv_as::<Unruled, Unruled, _>(&rt, ruled.pass());
+    tell_a_thread(&rt, &mut ruled_line, Group::Receives, receive);
     for goes_on in [false, true] {
         take_turns(&rt, &mut line, Group::Receives, three!(r.recv()), goes_on);
         let receives = three!(ruled.recv_as::<Unruled, Unruled, _>(&rt, ruled.pass()));
@@ -191,15 +237,16 @@ fn sends_take_turns(rt: HostRuntime) {
     let mut ruled_line = Ruled { rt: &rt, party };
     line.tell(Group::Receives);
     ruled_line.tell(Group::Receives);
+    let send = ruled.send_as::<Unruled, Unruled, _>(&rt, ruled.pass(), 5);
+    assert!(rt; matches!(&wait(&rt, &new_task(&rt), send).into_parts(), Some((_, 5))));
+    assert_eq!(rt; ruled_line.numbers(Group::Sends), (0, 0));
+    let send = ruled.send_as::<Unruled, Unruled, _>(&rt, ruled.pass(), 3);
+    tell_a_thread(&rt, &mut ruled_line, Group::Sends, send);
     for goes_on in [false, true] {
         take_turns(&rt, &mut line, Group::Sends, three!(s.send(2)), goes_on);
         let sends = three!(ruled.send_as::<Unruled, Unruled, _>(&rt, ruled.pass(), 2));
         take_turns(&rt, &mut ruled_line, Group::Sends, sends, goes_on);
     }
-    let send = ruled.send_as::<Unruled, Unruled, _>(&rt, ruled.pass(), 5);
-    let send = wait(&rt, &new_task(&rt), send);
-    assert!(rt; matches!(&send.into_parts(), Some((_, 5))));
-    assert_eq!(rt; ruled_line.numbers(Group::Sends), (0, 0));
 }
 
 #[test]
@@ -233,69 +280,6 @@ fn who_waits_for_the_last_receiver_takes_turns(rt: HostRuntime) {
     }
 }
 
-/// Lets two operations wait, closes the channel, and gives both up.
-fn leave_after_the_close<R, L, F, G>(rt: &R, line: &mut L, group: Group, operations: (F, G))
-where
-    R: RandomSource + AllocGlobal + Abort,
-    L: Line,
-    F: Future + Drop,
-    F::Output: Drop,
-    G: Future + Drop,
-    G::Output: Drop,
-    requires { F.can_poll operations.0 × G.can_poll operations.1 }
-{
-    let (first, second) = operations;
-    let first = wait(rt, &new_task(rt), first);
-    let second = wait(rt, &new_task(rt), second);
-    line.close();
-    assert_eq!(rt; line.numbers(group), (2, 2), "{group:?}");
-    drop((first, second));
-    assert_eq!(rt; line.numbers(group), (0, 0), "{group:?}");
-}
-
-#[test]
-fn a_receive_that_is_given_up_after_the_close_leaves_its_list(rt: HostRuntime) {
-    let (s, r) = channel(&rt, Some(1));
-    let mut line = Handles::new(&rt, &s, r.try_clone().expect(&rt, "memory"));
-    let mut into = Vec::new(rt.alloc());
-    let receives = (r.recv(), r.recv_many(&mut into, 5));
-    leave_after_the_close(&rt, &mut line, Group::Receives, receives);
-}
-
-#[test]
-fn a_send_that_is_given_up_after_the_close_leaves_its_list(rt: HostRuntime) {
-    let (s, r) = channel(&rt, Some(1));
-    let unsent = numbers_from(rt.alloc(), 2, 1).expect(&rt, "memory");
-    let mut line = Handles::new(&rt, &s, r);
-    line.tell(Group::Receives);
-    let sends = (s.send(1), s.send_many(unsent));
-    leave_after_the_close(&rt, &mut line, Group::Sends, sends);
-}
-
-#[test]
-fn whoever_is_given_up_after_the_close_under_a_rule_leaves(rt: HostRuntime) {
-    for is_full in [false, true] {
-        let made = bounded_with::<u32, (), Unruled>(rt.alloc(), 1);
-        let (ruled, pass) = made.expect(&rt, "a channel");
-        let party = Party::new(&ruled, pass);
-        let mut line = Ruled { rt: &rt, party };
-        if is_full {
-            line.tell(Group::Receives);
-            let sends = (
-                ruled.send_as::<Unruled, Unruled, _>(&rt, ruled.pass(), 2),
-                ruled.send_as::<Unruled, Unruled, _>(&rt, ruled.pass(), 3),
-            );
-            leave_after_the_close(&rt, &mut line, Group::Sends, sends);
-        } else {
-            let receives = (
-                ruled.recv_as::<Unruled, Unruled, _>(&rt, ruled.pass()),
-                ruled.recv_as::<Unruled, Unruled, _>(&rt, ruled.pass()),
-            );
-            leave_after_the_close(&rt, &mut line, Group::Receives, receives);
-        }
-    }
-}
-
 #[test]
 fn a_told_send_of_many_that_gives_its_messages_back_hands_on(rt: HostRuntime) {
     let (s, r) = channel(&rt, Some(1));
@@ -325,6 +309,19 @@ fn operations_that_are_not_polled_change_nothing(rt: HostRuntime) {
     assert_eq!(rt; s.send_many(list).into_unsent().len(), 2);
     assert!(rt; into.is_empty() && !s.is_closed());
     assert_eq!(rt; (s.len(), r.try_recv()), (1, Ok(0)));
+}
+
+#[test]
+fn finished_batches_act_as_new_ones(rt: HostRuntime) {
+    let ((s, r), task) = (channel(&rt, None), new_task(&rt));
+    let mut send = s.send_many(numbers_from(rt.alloc(), 0, 2).expect(&rt, "memory"));
+    let mut into = Vec::new(rt.alloc());
+    let mut recv = r.recv_many(&mut into, 1);
+    for _ in 0..2 {
+        assert!(rt; matches!(&task.poll(&mut send), Poll::Ready(Ok(Ok(())))));
+        assert!(rt; matches!(&task.poll(&mut recv), Poll::Ready(Ok(1))));
+        s.close();
+    }
 }
 
 #[test]
