@@ -70,6 +70,8 @@ fn give_room_back<T>(deque: &mut VecDeque<T, Global>)
     ensures if_large { (deque_capacity deque.new ≡ deque_capacity deque.old)
         ⊎ ((4 < deque_capacity deque.old)
         × (4096 < deque_capacity deque.old * capped (size (layout T.row)))) }
+    ensures emptied { deque.old.items ≡ [] → (deque_capacity deque.new ≤ 4)
+        ⊎ (deque_capacity deque.new * capped (size (layout T.row)) ≤ 4096) }
 {
     let (used, room) = (deque.len(), deque.capacity());
     if (used == room / 4 || used == 0) && is_large::<T>(room) {
