@@ -14,8 +14,8 @@ use std::fmt;
 ///
 /// ```
 /// let error = SendError(7);
-/// let text = format!(in rt.alloc(); "{error}")?;
-/// assert_eq!(rt; text.as_str(), "sending into a closed channel");
+/// let text = format!(in rt.alloc(); "{error}, {error:?}")?;
+/// assert_eq!(rt; text.as_str(), "sending into a closed channel, SendError(..)");
 /// assert_eq!(rt; error.into_inner(), 7);
 /// ```
 #[derive(Clone, Copy, Drop, PartialEq, Eq)]
@@ -29,7 +29,13 @@ pub struct SendError<T>(pub T);
 /// let error = TrySendError::Full(7);
 /// assert!(rt; error.is_full());
 /// assert!(rt; !error.is_closed());
+/// let text = format!(in rt.alloc(); "{error}, {error:?}")?;
+/// assert_eq!(rt; text.as_str(), "sending into a full channel, Full(..)");
 /// assert_eq!(rt; error.into_inner(), 7);
+///
+/// let error = TrySendError::Closed(7);
+/// let text = format!(in rt.alloc(); "{error}, {error:?}")?;
+/// assert_eq!(rt; text.as_str(), "sending into a closed channel, Closed(..)");
 /// ```
 #[derive(Clone, Copy, Drop, PartialEq, Eq)]
 pub enum TrySendError<T> {
@@ -44,8 +50,8 @@ pub enum TrySendError<T> {
 /// # Examples
 ///
 /// ```
-/// let text = format!(in rt.alloc(); "{RecvError}")?;
-/// assert_eq!(rt; text.as_str(), "receiving from an empty and closed channel");
+/// let text = format!(in rt.alloc(); "{RecvError}, {RecvError:?}")?;
+/// assert_eq!(rt; text.as_str(), "receiving from an empty and closed channel, RecvError");
 /// ```
 #[derive(Clone, Copy, PartialEq, Eq)]
 pub struct RecvError;
@@ -57,6 +63,12 @@ pub struct RecvError;
 /// ```
 /// assert!(rt; TryRecvError::Empty.is_empty());
 /// assert!(rt; TryRecvError::Closed.is_closed());
+///
+/// let (empty, closed) = (TryRecvError::Empty, TryRecvError::Closed);
+/// let text = format!(in rt.alloc(); "{empty}, {empty:?}")?;
+/// assert_eq!(rt; text.as_str(), "receiving from an empty channel, Empty");
+/// let text = format!(in rt.alloc(); "{closed}, {closed:?}")?;
+/// assert_eq!(rt; text.as_str(), "receiving from an empty and closed channel, Closed");
 /// ```
 #[derive(Clone, Copy, PartialEq, Eq)]
 pub enum TryRecvError {
@@ -71,8 +83,8 @@ pub enum TryRecvError {
 /// # Examples
 ///
 /// ```
-/// let text = format!(in rt.alloc(); "{OutOfMemory}")?;
-/// assert_eq!(rt; text.as_str(), "out of memory");
+/// let text = format!(in rt.alloc(); "{OutOfMemory}, {OutOfMemory:?}")?;
+/// assert_eq!(rt; text.as_str(), "out of memory, OutOfMemory");
 /// ```
 #[derive(Clone, Copy, PartialEq, Eq)]
 pub struct OutOfMemory;
@@ -82,7 +94,10 @@ pub struct OutOfMemory;
 /// # Examples
 ///
 /// ```
-/// let NoMemory(message) = NoMemory(7);
+/// let error = NoMemory(7);
+/// let text = format!(in rt.alloc(); "{error}, {error:?}")?;
+/// assert_eq!(rt; text.as_str(), "out of memory, NoMemory(..)");
+/// let NoMemory(message) = error;
 /// assert_eq!(rt; message, 7);
 /// ```
 #[derive(Clone, Copy, Drop, PartialEq, Eq)]
@@ -93,9 +108,11 @@ pub struct NoMemory<T>(pub T);
 /// # Examples
 ///
 /// ```
-/// let error = MakeError::NoStamps;
-/// let text = format!(in rt.alloc(); "{error}")?;
-/// assert_eq!(rt; text.as_str(), "no stamp is left");
+/// let (stamps, memory) = (MakeError::NoStamps, MakeError::OutOfMemory);
+/// let text = format!(in rt.alloc(); "{stamps}, {stamps:?}")?;
+/// assert_eq!(rt; text.as_str(), "no stamp is left, NoStamps");
+/// let text = format!(in rt.alloc(); "{memory}, {memory:?}")?;
+/// assert_eq!(rt; text.as_str(), "out of memory, OutOfMemory");
 /// ```
 #[derive(Clone, Copy, PartialEq, Eq)]
 pub enum MakeError {
@@ -110,9 +127,11 @@ pub enum MakeError {
 /// # Examples
 ///
 /// ```
-/// let error = CloneError::TooMany;
-/// let text = format!(in rt.alloc(); "{error}")?;
-/// assert_eq!(rt; text.as_str(), "too many handles");
+/// let (many, memory) = (CloneError::TooMany, CloneError::OutOfMemory);
+/// let text = format!(in rt.alloc(); "{many}, {many:?}")?;
+/// assert_eq!(rt; text.as_str(), "too many handles, TooMany");
+/// let text = format!(in rt.alloc(); "{memory}, {memory:?}")?;
+/// assert_eq!(rt; text.as_str(), "out of memory, OutOfMemory");
 /// ```
 #[derive(Clone, Copy, PartialEq, Eq)]
 pub enum CloneError {
