@@ -10,31 +10,21 @@ use std::thread::join;
 /// A call by the clerk of that number.
 type Row = (usize, Call<u64>);
 
-/// Each call with each outcome, by three clerks, at a channel with room for three messages or
-/// without a bound.
-const CALLS: [Row; 21] = [
-    (0, TryRecv),
-    (0, TrySend(1)),
-    (1, TrySend(2)),
-    (2, ForceSend(3)),
-    (0, Len),
-    (1, TrySend(4)),
-    (2, ForceSend(5)),
-    (0, TryRecv),
-    (1, TrySend(6)),
-    (1, IsClosed),
-    (2, Close),
-    (1, Close),
-    (2, IsClosed),
-    (0, TrySend(7)),
-    (1, ForceSend(8)),
-    (2, TryRecv),
-    (0, TryRecv),
-    (1, TryRecv),
-    (2, TryRecv),
-    (0, TryRecv),
-    (1, TryRecv),
-];
+/// Each call with each outcome, by its letter, at a channel with room for three messages or without a
+/// bound.
+const CALLS: &str = "rssflsfrsiccisfrrrrrr";
+
+/// The call of a letter, with this message.
+fn call_of(letter: u8, message: u64) -> Call<u64> {
+    match letter {
+        b's' => TrySend(message),
+        b'f' => ForceSend(message),
+        b'r' => TryRecv,
+        b'l' => Len,
+        b'i' => IsClosed,
+        _ => Close,
+    }
+}
 
 /// A recorder of a channel with so much room, or without a bound if it is 0.
 fn new_recorder(rt: &(impl AllocGlobal + Abort), capacity: usize) -> Recorder<u64> {
@@ -68,41 +58,35 @@ fn make(
     }
 }
 
-/// Records the calls, and hands the clerks in, in this order or the other one, with one more that
-/// made none. A book has what the clerks wrote down, and no other outcomes than the channel's.
-fn records<R: Wait + Abort + AllocGlobal>(
-    rt: &R,
-    capacity: usize,
-    is_reversed: bool,
-    rows: &[Row],
-) {
-    let (recorder, mut clerks) = (new_recorder(rt, capacity), Vec::new(rt.alloc()));
-    make(rt, &recorder, &mut clerks, rows);
+/// Records the calls, by three clerks in turn, and hands these in, in this order or the other one,
+/// with one more that made none. A book has what the clerks wrote down, and no other outcomes than the channel's.
+fn records<R: Wait + Abort + AllocGlobal>(rt: &R, room: usize, is_reversed: bool, letters: &str) {
+    let (recorder, mut clerks) = (new_recorder(rt, room), Vec::new(rt.alloc()));
+    for (place, letter) in letters.bytes().enumerate() {
+        let row = (place % 3, call_of(letter, place as u64));
+        make(rt, &recorder, &mut clerks, &[row]);
+    }
     if is_reversed {
         clerks.as_mut_slice().reverse();
     }
     clerks.push(new_clerk(rt, &recorder)).expect(rt, "memory");
     let book = recorder.finish(clerks).expect(rt, "a book");
-    assert_eq!(rt; book.history().len(), rows.len());
+    assert_eq!(rt; book.history().len(), letters.len());
 }
 
 #[test]
 fn each_call_with_each_outcome(rt: HostRuntime) {
     for is_reversed in [false, true] {
-        records(&rt, 0, is_reversed, &[]);
-        records(&rt, 0, is_reversed, &CALLS);
-        records(&rt, 3, is_reversed, &CALLS);
+        records(&rt, 0, is_reversed, "");
+        records(&rt, 0, is_reversed, CALLS);
+        records(&rt, 3, is_reversed, CALLS);
     }
     assert!(rt; new_recorder(&rt, 0).finish(Vec::new(rt.alloc())).is_ok());
 }
 
 /// What comes of a recorder whose clerks also called another one, which has the same stamp. Clerk 0
 /// is of the recorder, and clerk 1 of the other. Clerk 2 is of the recorder, and not handed in.
-fn finished<R: Wait + Abort + AllocGlobal>(
-    rt: &R,
-    others: &[Row],
-    own: &[Row],
-) -> Option<FinishError> {
+fn ends<R: Wait + Abort + AllocGlobal>(rt: &R, others: &[Row], own: &[Row]) -> Option<FinishError> {
     let (recorder, other) = (new_recorder(rt, 0), new_recorder(rt, 0));
     let clerks = vec![in rt.alloc();
         new_clerk(rt, &recorder),
@@ -135,10 +119,10 @@ const MISMATCHES: [(&[Row], &[Row]); 6] = [
 #[test]
 fn entries_that_are_not_the_history(rt: HostRuntime) {
     for (others, own) in &MISMATCHES {
-        assert_eq!(rt; finished(&rt, others, own), Some(FinishError::Mismatch));
+        assert_eq!(rt; ends(&rt, others, own), Some(FinishError::Mismatch));
     }
     let own = [(0, TrySend(1)), (1, Len)];
-    assert_eq!(rt; finished(&rt, &[], &own), None);
+    assert_eq!(rt; ends(&rt, &[], &own), None);
 }
 
 #[test]

@@ -12,7 +12,7 @@ use std::random::RandomSource;
 use std::sync::Wait;
 
 /// Each call of either side.
-const WAYS: [(Sends, Receives); 8] = [
+pub const WAYS: [(Sends, Receives); 8] = [
     (TrySend, TryRecv),
     (ForceSend, RecvBlocking),
     (SendBlocking, Recv),
@@ -74,10 +74,7 @@ fn fill<T: Message, R: Wait + Clone + Drop + AllocGlobal + Abort>(
 ) {
     assert!(rt; send_all(task, sending, s, all(rt, count)), "{sending:?}");
     for way in [TrySend, TrySendMany, Send, SendMany] {
-        assert!(rt;
-            !s.is_full() || !send_all(task, way, s, all(rt, 1)),
-            "{way:?}"
-        );
+        assert!(rt; !s.is_full() || !send_all(task, way, s, all(rt, 1)));
     }
 }
 
@@ -94,10 +91,7 @@ fn pass<T: Message, R: Wait + Clone + Drop + RandomSource + AllocGlobal + Abort>
         let task = new_task(rt);
         fill(rt, &task, sending, &s, count);
         let is_full = capacity == Some(count);
-        assert_eq!(rt;
-            (s.len(), s.is_full(), r.is_full()),
-            (count, is_full, is_full)
-        );
+        assert!(rt; (s.len(), s.is_full(), r.is_full()) == (count, is_full, is_full));
         let came = receive_all(rt.alloc(), &task, receiving, &mut r, (count, count));
         assert_eq!(rt; came.len(), count, "{receiving:?}");
         for (number, message) in came.iter().enumerate() {

@@ -1,7 +1,8 @@
 //! A hundred thousand of each that may wait, and of each handle: no limit shows that the contracts
 //! don't tell.
+use crate::each_way::WAYS;
 use crate::waiting::{channel, new_task, numbers};
-use crate::ways::numbers_from;
+use crate::ways::{numbers_from, send_all};
 use Kept::*;
 use async_channel::{
     CloneError, Closed, Group, Receiver, Recv, Send, SendError, SendMany, Sender, WeakReceiver,
@@ -29,11 +30,7 @@ enum Kept<'a, R: Wait + Clone + Drop> {
 
 impl<'a, R: Wait + Clone + Drop> Kept<'a, R> {
     /// One of a group. A send has the message 7.
-    fn new(
-        group: Group,
-        s: &'a Sender<u64, R>,
-        r: &Receiver<u64, R>,
-    ) -> Result<Kept<'a, R>, CloneError> {
+    fn new(group: Group, s: &'a Sender<u64, R>, r: &Receiver<u64, R>) -> Result<Self, CloneError> {
         Ok(match group {
             Group::Sends => Sending(s.send(7)),
             Group::Receives => Receiving(r.try_clone()?.into_recv()),
@@ -71,14 +68,26 @@ fn each_waits<R: Wait + Clone + Drop + RandomSource + AllocGlobal + Abort>(
     }
 }
 
+/// Sends two messages by each call where there is no bound.
+fn each_sends<R>(rt: &R, s: &Sender<u64, R>)
+where
+    R: Wait + Clone + Drop + RandomSource + AllocGlobal + Abort,
+{
+    for (way, _) in WAYS {
+        let two = numbers_from(rt.alloc(), 7, 2).expect(rt, "memory");
+        assert!(rt; send_all(&new_task(rt), way, s, two), "{way:?}");
+    }
+}
+
 /// Has as many of a group wait, closes the channel, and polls all to their end.
 fn many_wait<R: Wait + Clone + Drop + RandomSource + AllocGlobal + Abort>(
     rt: &R,
     group: Group,
     is_batch: bool,
 ) {
-    let (s, r) = channel(rt, Some(1));
     let is_full = matches!(group, Group::Sends);
+    let is_unbounded = matches!(group, Group::Closeds);
+    let (s, r) = channel(rt, Some(usize::from(!is_unbounded)));
     assert!(rt; !is_full || s.try_send(1) == Ok(Ok(())));
     let (task, mut all) = (new_task(rt), Vec::new(rt.alloc()));
     let weak = s.downgrade().expect(rt, "memory");
@@ -94,6 +103,9 @@ fn many_wait<R: Wait + Clone + Drop + RandomSource + AllocGlobal + Abort>(
     assert_eq!(rt; numbers(&weak, group), (MANY, 0));
     if !is_full {
         each_waits(rt, &s, &r);
+    }
+    if is_unbounded {
+        each_sends(rt, &s);
     }
     assert_eq!(rt; numbers(&weak, group), (MANY, 0));
     // those of the last group are told when no receiver is left
@@ -213,8 +225,9 @@ fn strong_and_weak_handles(rt: HostRuntime) {
         all.push(made).expect(&rt, "memory");
     }
     assert_eq!(rt; first.counts(), [(100_001, 100_001); 2]);
-    // whoever waits beside so many handles waits like beside few
+    // beside so many handles all goes on as beside few
     each_waits(&rt, &first.sender, &first.receiver);
+    each_sends(&rt, &first.sender);
     drop(all);
     assert_eq!(rt; first.counts(), [(1, 1); 2]);
     assert!(rt; !first.sender.is_closed());
