@@ -79,10 +79,7 @@ fn narrow(rt: &impl Abort, alloc: Global, room: usize, then: Refusing) {
     };
     assert!(rt; given == end, "{given:?} in place of {end:?} at {room}");
     let text = TEXT.as_bytes().get(..room).unwrap_or(&[]);
-    assert!(rt;
-        writer.into_inner().written.as_slice() == text,
-        "another text at {room}"
-    );
+    assert!(rt; writer.into_inner().written.as_slice() == text);
 }
 
 #[test]
@@ -106,10 +103,7 @@ fn a_reader_that_fails(rt: HostRuntime) -> Result<(), Fail> {
         });
         let mut writer = FromStd::new(Vec::new(alloc));
         let given = run_script(alloc, &mut reader, &mut writer);
-        assert!(rt;
-            given == Err(ScriptError::Read),
-            "{given:?} at call {fails_at}"
-        );
+        assert!(rt; given == Err(ScriptError::Read), "{given:?}");
         assert!(rt; writer.into_inner().is_empty());
     }
     Ok(())

@@ -78,10 +78,7 @@ fn the_history_as_a_script(rt: HostRuntime) {
         let answer = ReplyText(reply(outcome));
         let wanted = format!(in alloc; "{answer}").expect(&rt, "memory");
         let given = lines.next();
-        assert!(rt;
-            given == Some(wanted.as_str()),
-            "{call:?}: {given:?}, not {wanted}"
-        );
+        assert_eq!(rt; given, Some(wanted.as_str()));
         assert!(rt; wanted.starts_with("ok"));
     }
     assert!(rt; lines.next().is_none());
