@@ -4,9 +4,10 @@
     tools/refused_requests.py            compares, too, what is stored of each row
     tools/refused_requests.py --write    stores it, in refused_requests/requests.txt
 
-Two built programs make the rows: chanrun and test_channel the scripts of test_channel/data that both
-make, test_channel also those of batches, and what no script says; chanrun those of tools/chanrun_runs. An allocator laid in front of a program counts its requests, and refuses the one
-that it is told to. It stands in front of each call of the C library that gives memory.
+Built programs make the rows: chanrun and test_channel the scripts of test_channel/data that both
+make, test_channel also those of batches, and what no script says; chanrun and chantrace those of
+tools/chanrun_runs, chantrace and chanexplore their stored runs. An allocator laid in front of a
+program counts its requests, and refuses the one that it is told to. It stands in front of each call of the C library that gives memory.
 
 Each row is made once with all memory, and must write and end with what it is to. Then it is made
 again for each request, and that one request is refused. Five things may come of that:
@@ -183,14 +184,22 @@ def rows_of_handles():
 
 
 def faulty_scripts():
-    """The stored runs of chanrun on standard input alone, most of which end with a fault."""
+    """The runs of chanrun and chantrace on standard input alone, most of which end with a fault."""
     for case in sorted(CASES.iterdir()):
-        if (case / "args").exists() or (case / "stdout_to").exists():
+        if any((case / it).exists() for it in ("args", "stdin_from", "stdout_to")):
             continue
         script, output, error = ((case / it).read_bytes() for it in ("stdin", "stdout", "stderr"))
         ending = (int((case / "status").read_text()), error)
         name = case.name.replace("_", " ")
-        yield Row("program_chanrun", name, output, script=script, ending=ending)
+        program = "program_chantrace" if name.startswith("trace ") else "program_chanrun"
+        yield Row(program, name, output, script=script, ending=ending)
+
+
+def stored_runs():
+    """What the other programs are run on beside their sources."""
+    for program in ("program_chantrace", "chanexplore"):
+        script, output = ((CRATES / program / it).read_bytes() for it in ("stdin", "stdout"))
+        yield Row(program, "the stored run", output, script=script)
 
 
 def long_scripts():
@@ -264,7 +273,8 @@ def main():
     now, total, faults = {}, Counter(), []
     with tempfile.TemporaryDirectory() as folder, ThreadPoolExecutor(os.cpu_count()) as pool:
         sweep = Sweep(pathlib.Path(folder))
-        rows = [*other_rows(), *rows_of_handles(), *scripts(), *faulty_scripts(), *long_scripts()]
+        rows = [*other_rows(), *rows_of_handles(), *scripts(), *faulty_scripts(), *stored_runs()]
+        rows += long_scripts()
         for row in numbered(rows):
             made, outcomes = sweep.outcomes(row, pool)
             total.update(outcomes.values())
