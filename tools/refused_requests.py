@@ -7,7 +7,8 @@
 Built programs make the rows: chanrun and test_channel the scripts of test_channel/data that both
 make, test_channel also those of batches, and what no script says; chanrun and chantrace those of
 tools/chanrun_runs, chantrace and chanexplore their stored runs. An allocator laid in front of a
-program counts its requests, and refuses the one that it is told to. It stands in front of each call of the C library that gives memory.
+program counts its requests, and refuses the one that it is told to. It stands in front of each call
+of the C library that gives memory.
 
 Each row is made once with all memory, and must write and end with what it is to. Then it is made
 again for each request, and that one request is refused. Five things may come of that:
