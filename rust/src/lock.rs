@@ -15,8 +15,8 @@ const LOOKS: u32 = 12;
 
 /// How long it pauses before each look, unless it has its turn: so long that whoever has the lock can
 /// take it many times, and its cache lines stay where they are. With 1.5 microseconds, and no turns, a
-/// message took 131 ns from four threads to four over 128 places, in batches of 32 74, and now 100 and
-/// 38; from one thread to one as long as now, 79 and 68. Models don't pause.
+/// message took 145 ns from four threads to four over 128 places, in batches of 32 69, and now 117 and
+/// 41; from one thread to one 83 and 39, and now 90 and 35. Models don't pause.
 #[cfg(not(feature = "parking_lot"))]
 const LONG: Duration = Duration::from_nanos(if cfg!(vamorilesh_loom) { 0 } else { 4_500 });
 
