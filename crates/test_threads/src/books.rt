@@ -59,7 +59,8 @@ fn make(
 }
 
 /// Records the calls, by three clerks in turn, and hands these in, in this order or the other one,
-/// with one more that made none. A book has what the clerks wrote down, and no other outcomes than the channel's.
+/// with one more that made none. A book has what they wrote down, and no other outcomes than the
+/// channel's.
 fn records<R: Wait + Abort + AllocGlobal>(rt: &R, room: usize, is_reversed: bool, letters: &str) {
     let (recorder, mut clerks) = (new_recorder(rt, room), Vec::new(rt.alloc()));
     for (place, letter) in letters.bytes().enumerate() {
