@@ -11,7 +11,8 @@
 //! A row says what the channel holds after its line, and who waits; a mark stands behind who was
 //! told. Settling has a row for each of its polls, and then its own. So what a step told is seen
 //! from its row and the one above.
-ghost use Rattle.std.specs.Prelude.{◌≡◌, ℕ, ◌+◌, ◌-◌, ◌^◌, ◌<◌, if◌then◌else◌, ◌++◌, ◌≤◌, List, [], ◌∷◌, length, map, flat_map, string_bytes, Option, Some, None, IfOk, OnOk, IfSome};
+ghost use Rattle.std.specs.Prelude.{◌≡◌, ℕ, ◌+◌, ◌-◌, ◌^◌, ◌<◌, if◌then◌else◌, ◌++◌, ◌≤◌, List, [], ◌∷◌, length, map, flat_map, string_bytes, Option, Some, None, IfOk, OnOk, IfSome, IsErrOf};
+ghost use Rattle.std.specs.Io.KnownBytes.{Consumes};
 ghost use Rattle.std.specs.List.{list_any};
 ghost use Rattle.channel_model.specs.declared.step.Kind.{Kind};
 ghost use Rattle.channel_model.specs.Past.{Past};
@@ -20,6 +21,7 @@ ghost use Rattle.channel_model.specs.Polling.{settling_polls};
 ghost use Rattle.channel_model.specs.Replies.{is_pending};
 ghost use Rattle.channel_run.specs.StandsFor.{StandsFor};
 ghost use Rattle.chanrun.specs.declared.grammar.fault.Fault.{Fault};
+ghost use Rattle.chanrun.specs.Device.{one_more};
 ghost use Rattle.chanrun.specs.Outcome.{ending};
 ghost use Rattle.chanrun.specs.Script.{as_line, past_after_command, script_fault};
 ghost use Rattle.chanrun.specs.Trace.{IsTraced, command_polls, command_reply, line_rows, is_same, message_word, polled, polled_by, polls_rows, row, rows_after, settled_reply, trace_text, waiting_word, with_new};
@@ -328,8 +330,21 @@ pub fn run_trace<R: Source, W: Sink>(
     writer: &mut W,
 ) -> Result<(), ScriptError>
     // `Ok` and `Fault`: what was written is the trace of the bytes read.
-    ensures { IfSome (ending result) (λ fault. IsTraced (R.left reader.old) (R.left reader.new)
-        (R.ended reader.new) (W.written writer.old) (W.written writer.new) fault) }
+    ensures done { IfSome (ending result) (λ fault. IsTraced (R.left reader.old)
+        (R.left reader.new) (R.ended reader.new)
+        (W.written writer.old) (W.written writer.new) fault) }
+    // `Read`: a read failed, and nothing was written.
+    ensures read { IsErrOf result ScriptError.Read
+        → (R.failures reader.new ≡ one_more (R.failures reader.old)) × (writer.new ≡ writer.old) }
+    // `Write`: a write failed.
+    ensures write { IsErrOf result ScriptError.Write
+        → W.failures writer.new ≡ one_more (W.failures writer.old) }
+    // `OutOfMemory`: nothing was written.
+    ensures memory { IsErrOf result ScriptError.OutOfMemory → writer.new ≡ writer.old }
+    // `TooLong`: more bytes than a trace's script may have were read, and nothing was written.
+    ensures long { IsErrOf result ScriptError.TooLong → (writer.new ≡ writer.old)
+        × ((input : List ℕ) × Consumes (R.left reader.old) (R.left reader.new) input
+        × (TRACE_LIMIT < length input)) }
 {
     let input = read_script(alloc, reader)?;
     if input.len() > TRACE_LIMIT {
