@@ -86,8 +86,8 @@ impl<T> Channel<T> {
         }
     }
 
-    /// Makes a step of this group's under the lock, and then wakes those whom it told. What isn't a send
-    /// or a receive takes no turns, as those of the group `Closeds`.
+    /// Makes a step under the lock, and then wakes those whom it told. Sends and receives take turns at
+    /// a taken lock, by the group of the step. What is neither has the group `Closeds`, and takes none.
     #[inline]
     pub(crate) fn step<A>(
         &self,
