@@ -188,9 +188,10 @@ class Eraser:
             return f'{named}::{rest}' if named else f'crate::proved::{self.source.crate}::{others}'
         if first == 'super':
             return path
-        if path in LEFT_OUT or first in self.modules:
-            named = NAMED.get(self.path_of(first), first)
-            return named + path[len(first):] if first in self.modules else None
+        if first in self.modules:
+            return NAMED.get(self.path_of(first), first) + path[len(first):]
+        if path in LEFT_OUT or self.path_of(first) in LEFT_OUT:
+            return None
         if first in CRATES:
             return f'crate::proved::{path}'
         if path not in PATHS:

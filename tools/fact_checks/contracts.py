@@ -5,7 +5,7 @@ A citation is a call, as `Core::len` or `run_all`; a call with names of its clau
 clause stands at one or more; a law of a type or a trait, as `Core: invariant`; an implementation,
 as `Visitor for Outcomes`; or one that is not there, as `no Drop for Ticket`. It stands in the last
 column of a table, or in brackets at the end of a point, below a heading that names its crate, or
-begins with its crate, as `identity::Exact: same`. A text with other signs after a citation has to
+begins with its crate, as `channel_core::Exact: same`. A text with other signs after a citation has to
 stand in the contract of that call; `..` leaves something out of it. Who claims 'exactly if' cites a
 call of whose clauses one is an equivalence.
 """

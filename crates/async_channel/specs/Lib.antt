@@ -1,7 +1,7 @@
 pub use Rattle.channel_core.specs.Batches
 pub use Rattle.channel_core.specs.Errors
 pub use Rattle.channel_core.specs.Tables
-pub use Rattle.identity.specs.Stamps
+pub use Rattle.channel_core.specs.Stamps
 pub use Rattle.ruled_channel.specs.Passes
 pub mod Tags
 pub mod Operations

@@ -2,7 +2,7 @@
 ghost use Rattle.std.specs.Prelude.{◌≡◌, ◌<◌, ◌↔◌, ◌≢◌, IsTrue, IsSome, IfOk, IfErr, OnErr, Err, Some, None, codes};
 ghost use Rattle.std.specs.Arc.{arc_value};
 ghost use Rattle.channel_core.specs.Errors.{message_of};
-ghost use Rattle.identity.specs.Stamps.{next_stamp};
+ghost use Rattle.channel_core.specs.Stamps.{next_stamp};
 ghost use Rattle.ruled_channel.specs.Passes.{capacity_of, source_of};
 ghost use Rattle.async_channel.specs.Operations.{AreEndsOf, handle_of};
 
@@ -10,9 +10,9 @@ use crate::link::{Link, Shared};
 use crate::tag::Tag;
 use crate::weak::{WeakReceiver, WeakSender};
 use channel_core::{
-    CloneError, MakeError, NoMemory, OutOfMemory, SendError, Ticket, TryRecvError, TrySendError,
+    CloneError, MakeError, NoMemory, OutOfMemory, SendError, StampMaker, Ticket, TryRecvError,
+    TrySendError,
 };
-use identity::StampMaker;
 use ruled_channel::{Marker, RuledChannel, Unruled, bounded_with, unbounded_with};
 use std::alloc::Global;
 use std::fmt;

@@ -42,10 +42,9 @@ mod weak;
 pub use batches::{RecvMany, SendMany};
 pub use channel_core::{
     Bell, CloneError, Core, Group, MakeError, NoMemory, OutOfMemory, Queue, Quiet, RecvError,
-    SendError, Ticket, TryRecvError, TrySendError, Upgrade,
+    SendError, Stamp, StampMaker, Ticket, TryRecvError, TrySendError, Upgrade,
 };
 pub use handles::{Receiver, Sender, bounded, unbounded};
-pub use identity::{Stamp, StampMaker};
 pub use iter::TryIter;
 pub use many::ROUND_LIMIT;
 pub use ops::{Closed, Recv, Send};

@@ -1,7 +1,7 @@
 //! What a handle knows of its channel without its lock.
 ghost use Rattle.std.specs.Prelude.{◌≡◌, ◌↔◌, IsTrue};
 
-use identity::Stamp;
+use channel_core::Stamp;
 use std::marker::Model;
 
 /// What a handle knows of its channel without its lock: the stamp and the capacity.

@@ -1,6 +1,6 @@
 -- What comes back if a ticket's entry isn't in the list.
 use Rattle.std.proofs.Common.{◌≡◌, ℕ, Bool, true, false, cond, Option, Some, None, is_some, refl, sym, ◌∙◌}
-use Rattle.identity.specs.Keys.{is_among}
+use Rattle.event_list.specs.Keys.{is_among}
 use Rattle.event_list.specs.Waiting.{Waiting, untold_keys, told_flag}
 use Rattle.channel_core.specs.Tickets.{waits, payload_held}
 use Rattle.event_list.proofs.Splits.{absent_both, absent_right, payload_none}

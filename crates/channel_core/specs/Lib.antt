@@ -1,5 +1,6 @@
 pub use Rattle.event_list.specs.Waiting
-pub use Rattle.identity.specs.Keys
+pub use Rattle.event_list.specs.Keys
+pub mod Stamps
 pub mod Errors
 pub mod Tables
 pub mod Covered

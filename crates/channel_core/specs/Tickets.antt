@@ -1,7 +1,7 @@
 -- What a ticket that may be there does to a waiting list. A ticket whose key isn't in the list
 -- counts as none: its entry neither leaves nor waits.
 use Rattle.std.specs.Prelude.{◌≡◌, ℕ, Bool, true, false, List, [], take, Option, Some, None, IsSomeAnd, if◌then◌else◌}
-use Rattle.identity.specs.Keys.{is_among}
+use Rattle.event_list.specs.Keys.{is_among}
 use Rattle.event_list.specs.Waiting.{Waiting, IsWaiting, LosesOne, keys, payloads, payload_in, joined, without, renewed, cancelled}
 
 module _ {W : Type 0} where

@@ -5,7 +5,9 @@
 
 mod conversions;
 mod errors;
+mod exact;
 mod queue;
+mod stamps;
 mod state;
 mod waiting;
 
@@ -13,5 +15,7 @@ pub use errors::{
     CloneError, MakeError, NoMemory, OutOfMemory, RecvError, SendError, TryRecvError, TrySendError,
 };
 pub use event_list::{Bell, NoRoom, Quiet, Ticket};
+pub use exact::Exact;
 pub use queue::Queue;
+pub use stamps::{Stamp, StampMaker};
 pub use state::{Core, Group, HANDLE_LIMIT, Upgrade};

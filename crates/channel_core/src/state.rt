@@ -22,7 +22,7 @@
 ghost use Rattle.std.specs.Prelude.{◌≡◌, ◌<◌, ◌==◌, ◌&&◌, ◌++◌, not, length, Some, None, IfOk, true, slice_get, []};
 ghost use Rattle.std.specs.Bool.{OnTrue, OnFalse};
 ghost use Rattle.std.specs.Option.{option_copied};
-ghost use Rattle.identity.specs.Keys.{AreDifferent};
+ghost use Rattle.event_list.specs.Keys.{AreDifferent};
 ghost use Rattle.event_list.specs.Waiting.{RingsEach, keys, payloads, payload_in, told_count, told_all, told_flag};
 ghost use Rattle.channel_core.specs.Channel.{new_channel, is_channel_full, list_of};
 

@@ -6,7 +6,7 @@ use Rattle.channel_model.specs.declared.step.Refusal.TheVariants.{Unknown, Borro
 use Rattle.channel_model.specs.declared.step.Step.{Step}
 use Rattle.channel_model.specs.declared.step.Step.TheVariants.{Poll, PollNext}
 use Rattle.channel_model.specs.declared.step.Reply.{Reply}
-use Rattle.identity.specs.Keys.{is_among}
+use Rattle.event_list.specs.Keys.{is_among}
 use Rattle.channel_model.specs.Past.{Past}
 use Rattle.channel_model.specs.Handles.{live_names, Receivers}
 use Rattle.channel_model.specs.Operations.{Operation, is_awaiting, is_receive, is_unsent, operation_of}

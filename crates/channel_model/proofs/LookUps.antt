@@ -3,7 +3,7 @@ use Rattle.std.proofs.Common.{◌≡◌, ℕ, ◌⊎◌, inl, inr, List, [], ◌
 use Rattle.std.specs.Prelude.{find, option_map}
 use Rattle.std.proofs.lemmas.Bool.{eqb-true}
 use Rattle.std.proofs.lemmas.List.Folds.{list_any-append}
-use Rattle.identity.specs.Keys.{is_among}
+use Rattle.event_list.specs.Keys.{is_among}
 use Rattle.channel_model.specs.Handles.{without}
 use Rattle.channel_model.specs.Operations.{Operation, finished, with_finished, without_operation}
 use Rattle.channel_model.specs.Rosters.{Roster, arrive, hand_on, is_told, leave, tell_one, wait}

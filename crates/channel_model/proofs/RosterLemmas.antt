@@ -1,6 +1,6 @@
 -- What a roster keeps through each change.
 use Rattle.std.proofs.Common.{◌≡◌, ℕ, zero, suc, ◌<◌, ◌≤◌, List, Bool, true, false, cond, refl, length, take, arith, length-append}
-use Rattle.identity.specs.Keys.{is_among}
+use Rattle.event_list.specs.Keys.{is_among}
 use Rattle.channel_model.specs.Rosters.{IsSound, Roster, arrive, hand_on, is_told, leave, tell_all, tell_one, wait}
 use Rattle.channel_model.proofs.NameLists.{is_among-without_same, without-absent, AreDifferent-without, length-without, le-length-without, is_among-take, AreDifferent-arrive}
 

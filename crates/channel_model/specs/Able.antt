@@ -3,7 +3,7 @@ use Rattle.std.specs.Prelude.{◌≡◌, Bool, false, not, ◌&&◌, ◌||◌}
 use Rattle.channel_model.specs.declared.step.Kind.{Kind}
 use Rattle.channel_model.specs.declared.step.Who.{Who}
 use Rattle.channel_model.specs.declared.step.Who.TheVariants.{Op, Receiver}
-use Rattle.identity.specs.Keys.{is_among}
+use Rattle.event_list.specs.Keys.{is_among}
 use Rattle.channel_model.specs.Past.{Past}
 use Rattle.channel_model.specs.Messages.{held_messages}
 use Rattle.channel_model.specs.View.{view_of}

@@ -4,7 +4,7 @@ use Rattle.futures.specs.declared.task.Poll.{Poll}
 use Rattle.futures.specs.declared.task.Poll.TheVariants.{Ready, Pending}
 use Rattle.channel_model.specs.declared.step.Notice.{Notice}
 use Rattle.channel_model.specs.declared.step.Notice.TheVariants.{Absent, Untold, Told}
-use Rattle.identity.specs.Keys.{AreDifferent, is_among}
+use Rattle.event_list.specs.Keys.{AreDifferent, is_among}
 use Rattle.channel_model.specs.Handles.{without}
 
 -- Those who wait, in order of arrival, and how many of them were told: always the first ones.

@@ -2,7 +2,7 @@
 -- this alone.
 use Rattle.std.specs.Prelude.{◌≡◌, ℕ, List, Option, Bool, length}
 use Rattle.channel_model.specs.declared.step.Kind.{Kind}
-use Rattle.identity.specs.Keys.{is_among}
+use Rattle.event_list.specs.Keys.{is_among}
 use Rattle.channel_model.specs.Past.{Past}
 use Rattle.channel_model.specs.Handles.{live_names, Receivers, Senders, WeakReceivers, WeakSenders}
 use Rattle.channel_model.specs.Operations.{Operations, live_operations, operation_in}

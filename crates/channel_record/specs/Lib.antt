@@ -1,5 +1,5 @@
 pub use Rattle.channel_model.specs.Capacity
-pub use Rattle.identity.specs.Stamps
+pub use Rattle.channel_core.specs.Stamps
 pub mod Histories
 pub mod CallSteps
 pub mod Shares

@@ -2,8 +2,7 @@
 ghost use Rattle.std.specs.Prelude.{◌≡◌, ◌↔◌, [], IfOk, IsTrue, length, slice_get};
 
 use crate::calls::{Call, Outcome};
-use channel_core::OutOfMemory;
-use identity::Stamp;
+use channel_core::{OutOfMemory, Stamp};
 use std::alloc::Global;
 use std::marker::Model;
 

@@ -16,10 +16,11 @@ mod same;
 
 pub use book::Book;
 pub use calls::{Call, Outcome};
-pub use channel_core::{MakeError, OutOfMemory, SendError, TryRecvError, TrySendError};
+pub use channel_core::{
+    Exact, MakeError, OutOfMemory, SendError, Stamp, StampMaker, TryRecvError, TrySendError,
+};
 pub use channel_model::Kind;
 pub use clerk::Clerk;
 pub use finish::FinishError;
-pub use identity::{Exact, Stamp, StampMaker};
 pub use journal::Journal;
 pub use recorder::Recorder;

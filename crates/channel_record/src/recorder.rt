@@ -2,15 +2,14 @@
 ghost use Rattle.std.specs.Prelude.{◌≡◌, ◌≢◌, ◌<◌, ◌↔◌, ◌++◌, ◌∷◌, [], ℕ, IsTrue, IsSome, IfOk, OnErr, Err, None};
 ghost use Rattle.channel_model.specs.Capacity.{HasPositiveCapacity};
 ghost use Rattle.channel_model.specs.declared.step.Kind.TheVariants.{Bounded, Unbounded};
-ghost use Rattle.identity.specs.Stamps.{next_stamp};
+ghost use Rattle.channel_core.specs.Stamps.{next_stamp};
 ghost use Rattle.channel_record.specs.Shares.{IsRecorderOf};
 
 use crate::calls::{Call, Outcome};
 use crate::clerk::Clerk;
 use crate::journal::Journal;
-use channel_core::{MakeError, OutOfMemory};
+use channel_core::{Exact, MakeError, OutOfMemory, Stamp, StampMaker};
 use channel_model::Kind;
-use identity::{Exact, Stamp, StampMaker};
 use std::alloc::Global;
 use std::marker::Model;
 use std::sync::{Mutex, Wait};

@@ -2,8 +2,7 @@
 ghost use Rattle.std.specs.Prelude.{◌≡◌, ◌↔◌, IsTrue};
 
 use crate::calls::{Call, Outcome};
-use channel_core::{SendError, TryRecvError, TrySendError};
-use identity::Exact;
+use channel_core::{Exact, SendError, TryRecvError, TrySendError};
 
 /// Whether two calls are the same.
 pub(crate) fn same_call<T: Exact>(one: &Call<T>, other: &Call<T>) -> bool

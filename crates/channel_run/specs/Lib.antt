@@ -12,7 +12,7 @@ pub use Rattle.channel_model.specs.Replies
 pub use Rattle.channel_model.specs.Rosters
 pub use Rattle.channel_core.specs.Tables
 pub use Rattle.channel_model.specs.View
-pub use Rattle.identity.specs.Keys
+pub use Rattle.event_list.specs.Keys
 pub mod StandsFor
 pub mod RunSteps
 pub mod RunShown

@@ -4,7 +4,7 @@ use Rattle.std.specs.Prelude.{◌≡◌, ◌≢◌, ℕ, ◌==◌, List, MatchOp
 use Rattle.std.specs.Map.{lookup, keys_of}
 use Rattle.std.specs.BTreeMap.{is_at}
 use Rattle.std.specs.Ordering.{nat_cmp}
-use Rattle.identity.specs.Keys.{AreDifferent, is_among}
+use Rattle.event_list.specs.Keys.{AreDifferent, is_among}
 use Rattle.event_list.specs.Waiting.{Waiting, keys, told_flag, told_count}
 use Rattle.channel_run.specs.declared.operations.Operation.{Operation as Started}
 use Rattle.channel_run.specs.declared.operations.Operation.TheVariants.{Send, Recv, Closed}

@@ -1,7 +1,7 @@
 //! Names of one space that are live, and what stands under them.
 ghost use Rattle.std.specs.Prelude.{◌≡◌, ◌∷◌, [], length, false, true, suc, None, Some, is_some, ◌+◌, OnOk, OnErr, IfErr, IfNone};
 ghost use Rattle.std.specs.Map.{keys_of};
-ghost use Rattle.identity.specs.Keys.{AreDifferent, is_among};
+ghost use Rattle.event_list.specs.Keys.{AreDifferent, is_among};
 ghost use Rattle.channel_model.specs.Handles.{without};
 ghost use Rattle.channel_model.specs.View.{AreSameNames};
 ghost use Rattle.channel_run.specs.RunShown.{entry_at, Changed};
@@ -21,7 +21,7 @@ pub(crate) struct Names {
 impl Model for Names {
     ghost use Rattle.std.specs.Prelude.{ℕ, List};
     ghost use Rattle.std.specs.Map.{keys_of};
-    ghost use Rattle.identity.specs.Keys.{AreDifferent};
+    ghost use Rattle.event_list.specs.Keys.{AreDifferent};
 
     ghost Value = { List ℕ };
 

@@ -3,7 +3,7 @@ ghost use Rattle.std.specs.Prelude.{◌≡◌, ℕ, [], length, true, suc, None,
 ghost use Rattle.std.specs.List.{list_any};
 ghost use Rattle.std.specs.BTreeMap.{values};
 ghost use Rattle.std.specs.Map.{keys_of};
-ghost use Rattle.identity.specs.Keys.{AreDifferent};
+ghost use Rattle.event_list.specs.Keys.{AreDifferent};
 ghost use Rattle.channel_model.specs.Operations.{borrows_receiver, borrows_sender, unsent_message};
 ghost use Rattle.channel_run.specs.RunShown.{entry_at, has_key, number_at, dropped, one_if, operation_shown, own_ticket, ticket_in, AreCounted, Changed};
 

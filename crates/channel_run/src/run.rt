@@ -18,7 +18,7 @@
 //! settling that takes a second poll notes who holds which ticket, and looks for no further one.
 ghost use Rattle.std.specs.Prelude.{◌≡◌, [], length, IfOk, IfErr, slice_get};
 ghost use Rattle.std.specs.Option.{option_copied};
-ghost use Rattle.identity.specs.Keys.{is_among};
+ghost use Rattle.event_list.specs.Keys.{is_among};
 ghost use Rattle.channel_model.specs.declared.step.Kind.{Kind};
 ghost use Rattle.channel_model.specs.Past.{Past};
 ghost use Rattle.channel_model.specs.Capacity.{HasPositiveCapacity};

@@ -1,7 +1,7 @@
 //! Who holds a ticket, by its key.
 ghost use Rattle.std.specs.Prelude.{◌≡◌, ◌+◌, length, None, Some, OnErr, OnOk};
 ghost use Rattle.std.specs.Map.{keys_of};
-ghost use Rattle.identity.specs.Keys.{AreDifferent};
+ghost use Rattle.event_list.specs.Keys.{AreDifferent};
 ghost use Rattle.channel_run.specs.RunShown.{entry_at, Changed, has_key, IsHolder, stream_ticket, ticket_at, ticket_in};
 
 use crate::names::put;

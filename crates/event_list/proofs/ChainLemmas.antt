@@ -4,7 +4,7 @@ use Rattle.std.specs.Option.{option_map}
 use Rattle.std.proofs.lemmas.Bool.{eqb-false, eq-eqb, or_parts, or_right, or_left, both_ways, cases_eq}
 use Rattle.std.proofs.lemmas.List.{map-append, append-nil, length-map}
 use Rattle.slab.specs.Slab.{Slab, get, Updates}
-use Rattle.identity.specs.Keys.{is_among, AreDifferent}
+use Rattle.event_list.specs.Keys.{is_among, AreDifferent}
 use Rattle.event_list.specs.Waiting.{Waiting, keys}
 use Rattle.event_list.specs.Entries.{with_behind, with_before, with_notice, Rewrites, MayRewrite}
 use Rattle.event_list.specs.Chain.{first_key, last_key, IsChain, walk, untold_of, told_item, untold_item, items, shown, Keeps}

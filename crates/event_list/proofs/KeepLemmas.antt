@@ -3,7 +3,7 @@ use Rattle.std.proofs.Common.{◌≡◌, ℕ, ◌+◌, ◌-◌, ◌<◌, ◌==�
 use Rattle.std.specs.Option.{option_map, option_and_then}
 use Rattle.std.proofs.lemmas.List.{length-map, length-append}
 use Rattle.slab.specs.Slab.{Slab, get, slab_len}
-use Rattle.identity.specs.Keys.{is_among, AreDifferent}
+use Rattle.event_list.specs.Keys.{is_among, AreDifferent}
 use Rattle.event_list.specs.Waiting.{Waiting, LosesOne, IsWaiting, keys, untold_keys, is_told, payload_of, told_flag, payload_in, joined, without, renewed, told_one, payloads, RingsEach}
 use Rattle.event_list.specs.Calls.{IsEntryAt}
 use Rattle.event_list.specs.Entries.{notice_at, with_notice, payload_at, Rewrites}

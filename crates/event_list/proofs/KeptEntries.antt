@@ -3,7 +3,7 @@ use Rattle.std.proofs.Common.{◌≡◌, ℕ, Bool, true, false, cond, List, ◌
 use Rattle.std.proofs.lemmas.Bool.{cases_Bool}
 use Rattle.std.proofs.lemmas.List.{map-id, map-append, append_assoc}
 use Rattle.slab.specs.Slab.{Slab, get}
-use Rattle.identity.specs.Keys.{is_among}
+use Rattle.event_list.specs.Keys.{is_among}
 use Rattle.event_list.specs.Waiting.{Waiting, untold_keys, told_flag}
 use Rattle.event_list.specs.Calls.{IsEntryAt}
 use Rattle.event_list.specs.Entries.{notice_at}

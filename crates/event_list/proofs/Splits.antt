@@ -4,7 +4,7 @@ use Rattle.std.proofs.lemmas.Bool.{eqb-true, eqb-false, eq-eqb, ne_eqb, or_parts
 use Rattle.std.proofs.lemmas.List.{map-id, length-append, map-append, append_assoc, append-nil}
 use Rattle.std.proofs.lemmas.List.Folds.{list_any-append}
 use Rattle.std.proofs.lemmas.List.Elements.{filter-append}
-use Rattle.identity.specs.Keys.{is_among, AreDifferent}
+use Rattle.event_list.specs.Keys.{is_among, AreDifferent}
 use Rattle.event_list.specs.Waiting.{Waiting, LosesOne, IsWaiting, payload_in, keys, untold_keys, told_flag, joined, without, repaid, renewed}
 
 pub eqb_swap : (x y : ℕ) → (x == y) ≡ false → (y == x) ≡ false

@@ -4,7 +4,7 @@ use Rattle.std.specs.Option.{option_or}
 use Rattle.std.proofs.lemmas.Bool.{eqb-false, ne_eqb, or_parts, or_from, cases_Bool, cases_eq}
 use Rattle.std.proofs.lemmas.List.{map-append, append_assoc}
 use Rattle.slab.specs.Slab.{Slab, get, Updates}
-use Rattle.identity.specs.Keys.{is_among, AreDifferent}
+use Rattle.event_list.specs.Keys.{is_among, AreDifferent}
 use Rattle.event_list.specs.Waiting.{Waiting, keys, untold_keys, joined, without}
 use Rattle.event_list.specs.Entries.{with_behind, with_before, is_at, ends_without, ends_with, MayRewrite}
 use Rattle.event_list.specs.Chain.{first_key, last_key, IsChain, told_item, untold_item, items, IsLinked}

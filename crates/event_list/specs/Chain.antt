@@ -3,7 +3,7 @@
 use Rattle.std.specs.Prelude.{◌≡◌, ℕ, zero, suc, ◌+◌, ◌-◌, List, [], ◌∷◌, ◌++◌, map, length, Option, Some, None, false}
 use Rattle.std.specs.Global.{Box}
 use Rattle.slab.specs.Slab.{Slab, get, slab_len}
-use Rattle.identity.specs.Keys.{is_among, AreDifferent}
+use Rattle.event_list.specs.Keys.{is_among, AreDifferent}
 use Rattle.event_list.specs.Waiting.{Waiting, nobody, keys}
 use Rattle.event_list.specs.declared.entries.Entry.{Entry}
 use Rattle.event_list.specs.declared.ends.Ends.{Ends}

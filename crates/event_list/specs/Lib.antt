@@ -1,4 +1,4 @@
-pub use Rattle.identity.specs.Keys
+pub mod Keys
 pub mod Waiting
 pub mod Calls
 pub mod Opens

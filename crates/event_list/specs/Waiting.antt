@@ -1,6 +1,6 @@
 -- What a contract sees of a waiting list, and what each call makes of it.
 use Rattle.std.specs.Prelude.{◌≡◌, ℕ, ◌+◌, ◌==◌, Bool, true, false, not, if◌then◌else◌, List, [], ◌∷◌, ◌++◌, map, filter, length, take, Option, Some, None}
-use Rattle.identity.specs.Keys.{is_among}
+use Rattle.event_list.specs.Keys.{is_among}
 use Rattle.event_list.specs.declared.entries.EntryState.{EntryState}
 use Rattle.event_list.specs.declared.entries.EntryState.TheVariants.{Told, Untold}
 

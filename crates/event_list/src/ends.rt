@@ -1,7 +1,7 @@
 //! The ends of a waiting list, and how an entry comes and goes.
 ghost use Rattle.std.specs.Prelude.{◌≡◌, ◌+◌, ◌^◌, ◌<◌, ◌≤◌, false, OnSome, IfNone};
 ghost use Rattle.slab.specs.Slab.{slab_len, HasRoomFor};
-ghost use Rattle.identity.specs.Keys.{is_among};
+ghost use Rattle.event_list.specs.Keys.{is_among};
 ghost use Rattle.event_list.specs.Waiting.{Waiting, keys, joined, without};
 ghost use Rattle.event_list.specs.Calls.{IsEntryAt};
 ghost use Rattle.event_list.specs.Entries.{ends_with, ends_without};

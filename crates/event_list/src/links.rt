@@ -20,7 +20,7 @@
 ghost use Rattle.std.specs.Prelude.{◌≡◌, ◌+◌, ◌<◌, ◌≤◌, ◌↔◌, length, take, IsTrue, slice_get};
 ghost use Rattle.std.specs.Bool.{OnTrue};
 ghost use Rattle.std.specs.Option.{option_copied};
-ghost use Rattle.identity.specs.Keys.{AreDifferent};
+ghost use Rattle.event_list.specs.Keys.{AreDifferent};
 ghost use Rattle.event_list.specs.Waiting.{nobody, keys, told_count, payloads};
 ghost use Rattle.event_list.specs.Calls.{IsEntryAt, Listens, Renews, Unregisters, TellsOne, TellsAll};
 

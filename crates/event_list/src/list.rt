@@ -5,7 +5,7 @@
 //! entry counts one look-up and finds none.
 ghost use Rattle.std.specs.Prelude.{◌≡◌, ◌+◌, ◌<◌, ◌≤◌, ◌↔◌, length, take, None, Ok, is_some, IfErr, IfSome, IsSomeAnd, IsTrue, OnErr, OnOk, slice_get};
 ghost use Rattle.std.specs.Option.{option_copied};
-ghost use Rattle.identity.specs.Keys.{AreDifferent};
+ghost use Rattle.event_list.specs.Keys.{AreDifferent};
 ghost use Rattle.event_list.specs.Waiting.{nobody, keys, told_count, payloads, told_flag, payload_in};
 ghost use Rattle.event_list.specs.Calls.{IsEntryAt, Listens, WaitsAgain, Renews, Removes, Unregisters, TellsOne, TellsAll, Cancels, Withdraws};
 ghost use Rattle.event_list.specs.Opens.{Opens};

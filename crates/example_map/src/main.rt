@@ -7,8 +7,7 @@
 ghost use Rattle.std.specs.Prelude.{count_ones};
 
 use anyhow::Result;
-use identity::StampMaker;
-use parallel_map::{Job, Open, map_all};
+use parallel_map::{Job, Open, StampMaker, map_all};
 use std::thread;
 
 /// The numbers below this one are mapped.

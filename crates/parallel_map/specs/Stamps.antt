@@ -1,6 +1,6 @@
 -- Stamps that a map draws, one for each of its two channels.
 use Rattle.std.specs.Prelude.{◌≡◌, ◌⊎◌, ℕ, Option}
-use Rattle.identity.specs.Stamps.{next_stamp}
+use Rattle.channel_core.specs.Stamps.{next_stamp}
 
 -- what a maker gives next, once it has given two stamps
 abbrev pub behind_two : Option ℕ → Option ℕ

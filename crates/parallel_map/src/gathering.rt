@@ -11,7 +11,7 @@ ghost use Rattle.parallel_map.specs.Slots.{AreFilled, IsRefused};
 use crate::error::MapError;
 use crate::job::Job;
 use crate::piece::Piece;
-use identity::Exact;
+use channel_core::Exact;
 use std::alloc::{AllocError, Global};
 
 // Whether the input stands at the place.

@@ -44,6 +44,7 @@ mod map;
 mod piece;
 mod workers;
 
+pub use channel_core::StampMaker;
 pub use error::MapError;
 pub use gathering::gather;
 pub use job::{Gate, Job, Open};

@@ -1,11 +1,10 @@
 //! The channels of a map.
 ghost use Rattle.std.specs.Prelude.{◌≡◌, ◌↔◌, ◌<◌, None, Some, Err, IfOk, OnOk, OnErr};
-ghost use Rattle.identity.specs.Stamps.{next_stamp};
+ghost use Rattle.channel_core.specs.Stamps.{next_stamp};
 ghost use Rattle.ruled_channel_rules.specs.Handles.{IsHubOf, capacity_of, known};
 ghost use Rattle.ruled_channel_rules.specs.Whole.{hub_log};
 
-use channel_core::MakeError;
-use identity::StampMaker;
+use channel_core::{MakeError, StampMaker};
 use ruled_channel_rules::{Channel, Hub, bounded, unbounded};
 use std::alloc::Global;
 

@@ -1,6 +1,6 @@
 //! The map of a list, by many threads.
 ghost use Rattle.std.specs.Prelude.{◌≡◌, ◌≢◌, ◌<◌, ◌≤◌, ◌+◌, ◌-◌, ◌^◌, ◌/◌, ◌⊎◌, ℕ, min, max, [], map, IsOk, IfOk, IfErr, OnOk, Err, None, Some};
-ghost use Rattle.identity.specs.Stamps.{next_stamp};
+ghost use Rattle.channel_core.specs.Stamps.{next_stamp};
 ghost use Rattle.ruled_channel_rules.specs.Handles.{capacity_of, known};
 ghost use Rattle.ruled_channel_rules.specs.Whole.{hub_log};
 ghost use Rattle.parallel_map.specs.Stamps.{behind_two, DrewTwoAtMost};
@@ -10,7 +10,7 @@ use crate::error::MapError;
 use crate::job::{Gate, Job};
 use crate::lines::{bounded_line, unbounded_line};
 use crate::workers::{self, Hubs, Task};
-use identity::StampMaker;
+use channel_core::StampMaker;
 use std::alloc::Global;
 use std::sync::Wait;
 use std::thread;

@@ -4,7 +4,7 @@ use Rattle.std.specs.Prelude.{is_some}
 use Rattle.std.specs.Option.{option_map}
 use Rattle.std.proofs.lemmas.Bool.{eq-eqb}
 use Rattle.std.proofs.lemmas.List.Folds.{list_any-append}
-use Rattle.identity.specs.Keys.{AreDifferent, is_among}
+use Rattle.event_list.specs.Keys.{AreDifferent, is_among}
 use Rattle.channel_model.specs.Handles.{without}
 use Rattle.channel_model.specs.Operations.{Operation, finished, with_finished, without_operation}
 use Rattle.channel_model.specs.View.{AreSameNames, AreSameOperations}

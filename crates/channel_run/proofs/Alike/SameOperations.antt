@@ -4,7 +4,7 @@ use Rattle.std.specs.Prelude.{is_some}
 use Rattle.std.specs.Option.{option_map}
 use Rattle.std.specs.List.{list_any}
 use Rattle.std.proofs.lemmas.Bool.{eqb-true, eq-eqb}
-use Rattle.identity.specs.Keys.{AreDifferent, is_among}
+use Rattle.event_list.specs.Keys.{AreDifferent, is_among}
 use Rattle.channel_model.specs.Operations.{Operation, finished, with_finished, without_operation}
 use Rattle.channel_model.specs.View.{AreSameNames, AreSameOperations}
 use Rattle.channel_model.proofs.LookUps.{look_up, look_up-cons, look_up-other, look_up-without, look_up-with_finished}

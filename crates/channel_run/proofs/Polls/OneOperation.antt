@@ -1,7 +1,7 @@
 -- The poll of an operation of any kind: what stands under its name changes, and its ticket in the list of its kind.
 use Rattle.std.proofs.Common.{◌≡◌, ℕ, List, false, true, Some, None, Option, refl, sym, ◌∙◌, ap, subst, length}
 use Rattle.std.specs.Prelude.{option_and_then, option_map}
-use Rattle.identity.specs.Keys.{is_among}
+use Rattle.event_list.specs.Keys.{is_among}
 use Rattle.event_list.specs.Waiting.{Waiting}
 use Rattle.channel_core.specs.Channel.{Channel}
 use Rattle.channel_core.specs.Tickets.{Waits, left, waits}

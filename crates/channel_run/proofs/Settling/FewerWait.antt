@@ -3,7 +3,7 @@ use Rattle.std.proofs.Common.{◌≡◌, ℕ, ◌+◌, ◌≤◌, ◌⊎◌, inl
 use Rattle.std.specs.Prelude.{if◌then◌else◌, MatchOption, slice_get}
 use Rattle.futures.specs.declared.task.Poll.{Poll as Answer}
 use Rattle.futures.specs.declared.task.Poll.TheVariants.{Ready, Pending}
-use Rattle.identity.specs.Keys.{is_among}
+use Rattle.event_list.specs.Keys.{is_among}
 use Rattle.channel_core.specs.declared.errors.RecvError.{RecvError}
 use Rattle.channel_core.specs.declared.errors.SendError.{SendError}
 use Rattle.channel_model.specs.declared.step.Refusal.{Refusal}

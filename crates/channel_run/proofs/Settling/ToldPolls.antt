@@ -3,7 +3,7 @@ use Rattle.std.proofs.Common.{◌≡◌, ℕ, ◌<◌, ◌⊎◌, inl, inr, List
 use Rattle.std.specs.Prelude.{MatchOption, is_none, is_some, option_and_then}
 use Rattle.futures.specs.declared.task.Poll.{Poll as Answer}
 use Rattle.futures.specs.declared.task.Poll.TheVariants.{Ready, Pending}
-use Rattle.identity.specs.Keys.{is_among}
+use Rattle.event_list.specs.Keys.{is_among}
 use Rattle.channel_model.specs.declared.step.Kind.{Kind}
 use Rattle.channel_model.specs.declared.step.Kind.TheVariants.{Bounded, Unbounded}
 use Rattle.channel_model.specs.declared.step.Refusal.{Refusal}

@@ -7,7 +7,7 @@ use Rattle.channel_model.specs.declared.step.Step.{Step}
 use Rattle.channel_model.specs.declared.step.Step.TheVariants.{Close, CloneSender, CloneReceiver, CloneWeakSender, CloneWeakReceiver, DowngradeSender, DowngradeReceiver, UpgradeSender, UpgradeReceiver, DropSender, DropReceiver, DropWeakSender, DropWeakReceiver, StartSend, StartRecv, StartClosed, Poll, PollNext, DropOp}
 use Rattle.channel_model.specs.declared.step.Reply.{Reply}
 use Rattle.channel_model.specs.declared.step.Reply.TheVariants.{Upgraded, SendPolled}
-use Rattle.identity.specs.Keys.{is_among, AreDifferent}
+use Rattle.event_list.specs.Keys.{is_among, AreDifferent}
 use Rattle.channel_model.specs.Past.{Past}
 use Rattle.channel_model.specs.Handles.{live_names, Receivers, Senders, WeakReceivers, WeakSenders, names_after}
 use Rattle.channel_model.specs.Operations.{Operation, awaiting_close, is_finished_send, live_operations, receiving, sending, unsent_message, operations_after}

@@ -3,7 +3,7 @@ use Rattle.std.proofs.Common.{◌≡◌, ℕ, zero, suc, ◌+◌, ◌<◌, ◌�
 use Rattle.std.proofs.lemmas.List.{length-append, length-take}
 use Rattle.std.specs.Prelude.{IfOk, slice_get}
 use Rattle.std.specs.Map.{keys_of}
-use Rattle.identity.specs.Keys.{is_among}
+use Rattle.event_list.specs.Keys.{is_among}
 use Rattle.channel_core.specs.declared.errors.TryRecvError.{TryRecvError}
 use Rattle.channel_core.specs.declared.errors.TrySendError.{TrySendError}
 use Rattle.channel_model.specs.declared.step.Kind.{Kind}

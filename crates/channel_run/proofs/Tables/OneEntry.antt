@@ -5,7 +5,7 @@ use Rattle.std.specs.Option.{option_flatten}
 use Rattle.std.specs.Map.{keys_of}
 use Rattle.std.specs.Ordering.{is_eq, nat_cmp}
 use Rattle.std.proofs.lemmas.Bool.{eqb-true}
-use Rattle.identity.specs.Keys.{is_among}
+use Rattle.event_list.specs.Keys.{is_among}
 use Rattle.event_list.proofs.Splits.{eqb_swap}
 use Rattle.channel_run.specs.RunShown.{Changed, entry_at, stream_ticket, ticket_at}
 use Rattle.channel_run.proofs.Tables.Entries.{is_among-entry_at, is_eq-nat_cmp}

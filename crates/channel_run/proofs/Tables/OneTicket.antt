@@ -2,7 +2,7 @@
 use Rattle.std.proofs.Common.{◌≡◌, ℕ, List, ◌==◌, false, None, Option, sym, ◌∙◌, ap, subst}
 use Rattle.std.specs.Prelude.{option_and_then}
 use Rattle.std.specs.Map.{keys_of}
-use Rattle.identity.specs.Keys.{is_among}
+use Rattle.event_list.specs.Keys.{is_among}
 use Rattle.event_list.specs.Waiting.{Waiting}
 use Rattle.channel_core.specs.Tickets.{Waits, handed_on, left, waits}
 use Rattle.channel_model.specs.Rosters.{Roster, hand_on, leave, wait}

@@ -7,7 +7,7 @@ use Rattle.channel_core.specs.Counts.{may_add, upgrade_answer, count_upgraded}
 use Rattle.std.specs.Map.{keys_of}
 use Rattle.std.proofs.lemmas.Bool.{eqb-true}
 use Rattle.std.proofs.lemmas.List.{length-map}
-use Rattle.identity.specs.Keys.{AreDifferent, is_among}
+use Rattle.event_list.specs.Keys.{AreDifferent, is_among}
 use Rattle.channel_run.proofs.Alike.SameNames.{AreSameNames-pushed, AreSameNames-trans}
 use Rattle.channel_model.specs.Handles.{without}
 use Rattle.channel_model.specs.View.{AreSameNames}

@@ -8,7 +8,7 @@ use Rattle.channel_model.specs.declared.step.Who.TheVariants.{Op, Receiver}
 use Rattle.channel_model.specs.Operations.{Operation}
 use Rattle.channel_run.proofs.Alike.SameNotices.{notice_of_operation, notice_shown}
 use Rattle.channel_run.proofs.Tables.Entries.{operation_in-entry_at}
-use Rattle.identity.specs.Keys.{is_among}
+use Rattle.event_list.specs.Keys.{is_among}
 use Rattle.event_list.specs.Waiting.{Waiting, keys, untold_keys}
 use Rattle.event_list.proofs.Splits.{is_among-append}
 use Rattle.channel_model.specs.declared.step.Notice.TheVariants.{Absent, Told, Untold}

@@ -1,6 +1,6 @@
 -- What a change of a roster comes to for a name that isn't there.
 use Rattle.std.proofs.Common.{◌≡◌, ℕ, List, Bool, false, cond, refl, ◌∙◌, ap}
-use Rattle.identity.specs.Keys.{is_among}
+use Rattle.event_list.specs.Keys.{is_among}
 use Rattle.channel_model.specs.Rosters.{Roster, arrive, hand_on, is_told, leave, tell_one, wait}
 use Rattle.channel_model.proofs.NameLists.{is_among-take, without-absent}
 

@@ -2,7 +2,7 @@
 use Rattle.std.proofs.Common.{◌≡◌, ℕ, List, [], ◌∷◌, ◌++◌, Bool, true, false, ◌||◌, ◌==◌, cond, Some, None, Option, refl, sym, ◌∙◌, ap, subst, map}
 use Rattle.std.specs.Prelude.{IsSomeAnd}
 use Rattle.std.proofs.lemmas.Bool.{eqb-true, eq-eqb}
-use Rattle.identity.specs.Keys.{AreDifferent, is_among}
+use Rattle.event_list.specs.Keys.{AreDifferent, is_among}
 use Rattle.event_list.specs.Waiting.{Waiting, joined, keys, renewed, told_one}
 use Rattle.event_list.proofs.Splits.{is_among-append, different-push}
 use Rattle.channel_model.specs.Handles.{without}

@@ -2,7 +2,7 @@
 use Rattle.std.proofs.Common.{◌≡◌, ℕ, List, [], ◌∷◌, Bool, true, false, ◌||◌, ◌==◌, cond, Some, None, Option, refl, sym, ◌∙◌, ap, subst, map}
 use Rattle.std.specs.Prelude.{find, unwrap_or}
 use Rattle.std.proofs.lemmas.Bool.{eqb-true, eq-eqb}
-use Rattle.identity.specs.Keys.{AreDifferent, is_among}
+use Rattle.event_list.specs.Keys.{AreDifferent, is_among}
 use Rattle.event_list.specs.Waiting.{Waiting, keys, told_all, told_one}
 use Rattle.channel_model.specs.Rosters.{Roster, tell_all, tell_one}
 use Rattle.channel_core.specs.Tickets.{waits}

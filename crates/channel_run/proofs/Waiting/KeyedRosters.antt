@@ -4,7 +4,7 @@ use Rattle.std.proofs.lemmas.Bool.{eqb-true, eq-eqb}
 use Rattle.std.proofs.lemmas.List.{map-append}
 use Rattle.std.specs.Prelude.{slice_get}
 use Rattle.channel_model.specs.declared.step.Notice.TheVariants.{Absent, Untold, Told}
-use Rattle.identity.specs.Keys.{is_among}
+use Rattle.event_list.specs.Keys.{is_among}
 use Rattle.channel_model.specs.Handles.{without}
 use Rattle.channel_model.specs.Rosters.{Roster, arrive, is_told, leave, notice_in, tell_all, tell_one, told_names, wait}
 use Rattle.channel_model.proofs.NameLists.{left_false, right_false}

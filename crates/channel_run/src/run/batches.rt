@@ -1,7 +1,7 @@
 //! Many messages in one step.
 ghost use Rattle.std.specs.Prelude.{◌≡◌, ◌⊎◌, ◌++◌, ◌+◌, ◌<◌, [], true, false, None, drop, length, min, slice_get, take, IfErr, IfOk};
 ghost use Rattle.std.specs.Vec.{vec_capacity, vec_len};
-ghost use Rattle.identity.specs.Keys.{is_among};
+ghost use Rattle.event_list.specs.Keys.{is_among};
 ghost use Rattle.channel_model.specs.declared.step.Kind.{Kind};
 ghost use Rattle.channel_model.specs.declared.step.Refusal.{Refusal};
 ghost use Rattle.channel_model.specs.Past.{Past};

@@ -1,6 +1,6 @@
 //! Handles that are copied, downgraded, upgraded and given up, by name.
 ghost use Rattle.std.specs.Prelude.{◌≡◌, ℕ, true};
-ghost use Rattle.identity.specs.Keys.{is_among};
+ghost use Rattle.event_list.specs.Keys.{is_among};
 ghost use Rattle.channel_model.specs.declared.step.Step.{Step};
 ghost use Rattle.channel_run.specs.RunSteps.{StepsTo};
 

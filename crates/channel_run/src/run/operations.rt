@@ -1,6 +1,6 @@
 //! Operations that are started, polled and given up, and the polls of streams.
 ghost use Rattle.std.specs.Prelude.{◌≡◌, true};
-ghost use Rattle.identity.specs.Keys.{is_among};
+ghost use Rattle.event_list.specs.Keys.{is_among};
 ghost use Rattle.channel_model.specs.declared.step.Step.{Step};
 ghost use Rattle.channel_run.specs.RunSteps.{StepsAsAllowed, StepsTo};
 

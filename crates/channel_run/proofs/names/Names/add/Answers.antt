@@ -1,5 +1,5 @@
 use Rattle.std.proofs.Common.{rules, ◌∙◌, ap}
-use Rattle.identity.specs.Keys.{is_among}
+use Rattle.event_list.specs.Keys.{is_among}
 use Rattle.channel_run.proofs.Tables.Entries.{is_among-entry_at}
 use Rattle.channel_run.proofs.Tables.ShownNames.{names-added}
 use Rattle.channel_run.proofs.Tables.OneEntry.{nothing_at}

@@ -1,6 +1,6 @@
 use Rattle.std.proofs.Common.{◌∙◌, ap}
 use Rattle.std.specs.Map.{keys_of}
-use Rattle.identity.specs.Keys.{is_among}
+use Rattle.event_list.specs.Keys.{is_among}
 use Rattle.channel_model.proofs.NameLists.{length-without}
 use Rattle.channel_run.proofs.Tables.Entries.{AreDifferent-sorted, keys_of-removed}
 use Rattle.channel_run.proofs.names.Names.remove.Goals as goal

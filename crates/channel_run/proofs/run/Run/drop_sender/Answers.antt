@@ -1,5 +1,5 @@
 use Rattle.std.proofs.Common.{◌≡◌, ◌∙◌, true, false, refl, sym, length, suc}
-use Rattle.identity.specs.Keys.{is_among}
+use Rattle.event_list.specs.Keys.{is_among}
 use Rattle.channel_model.specs.Handles.{without}
 use Rattle.channel_model.specs.Operations.{borrows_sender}
 use Rattle.channel_model.specs.declared.step.Refusal.{Refusal}

@@ -1,6 +1,6 @@
 use Rattle.std.proofs.Common.{◌≡◌, ◌∙◌, Some, sym, ap}
 use Rattle.std.specs.Prelude.{is_some, Option}
-use Rattle.identity.specs.Keys.{is_among}
+use Rattle.event_list.specs.Keys.{is_among}
 use Rattle.channel_model.specs.declared.step.Reply.TheVariants.{NextPolled}
 use Rattle.channel_model.specs.View.{View}
 use Rattle.channel_run.specs.RunShown.{entry_at}

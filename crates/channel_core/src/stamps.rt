@@ -1,7 +1,7 @@
 //! Numbers that tell channels apart without a lock. Each channel draws one from a [`StampMaker`].
 
 ghost use Rattle.std.specs.Prelude.{◌≡◌, ◌↔◌, IsTrue, Some, None};
-ghost use Rattle.identity.specs.Stamps.{next_stamp};
+ghost use Rattle.channel_core.specs.Stamps.{next_stamp};
 
 use std::marker::Model;
 
@@ -64,9 +64,7 @@ impl StampMaker {
     ///
     /// ```
     /// let mut maker = StampMaker::new();
-    /// let (s, _r) = unbounded::<u64, _>(&rt, rt.alloc(), &mut maker)?;
-    /// let (other, _r) = unbounded::<u64, _>(&rt, rt.alloc(), &mut maker)?;
-    /// assert!(rt; !s.same_channel(&other));
+    /// assert!(rt; maker.draw() == StampMaker::starting_at(0).draw());
     /// ```
     pub fn new() -> StampMaker
         ensures { result ≡ Some 0 }
