@@ -1,7 +1,7 @@
 //! Sends that displace the oldest message of a full channel.
-ghost use Rattle.std.specs.Prelude.{◌≡◌, [], not, true, false, IfOk, IfErr};
+ghost use Rattle.std.specs.Prelude.{◌≡◌, [], not, true, false, IfOk, IfErr, OnErr};
 ghost use Rattle.channel_core.specs.Tables.{force_send_answer};
-ghost use Rattle.channel_core.specs.Channel.{is_channel_full, oldest};
+ghost use Rattle.channel_core.specs.Channel.{GrowsWithMessages, is_channel_full, oldest};
 ghost use Rattle.ruled_channel_rules.specs.Handles.{IsHubOf, IsForceSenderOf, displaced_by, force_closed, force_found, forced_by, known};
 ghost use Rattle.ruled_channel_rules.specs.Forcing.{HasForced, IsAsItWas};
 ghost use Rattle.ruled_channel_rules.specs.Whole.{force_sender_log, one_force_sender_more, together};
@@ -57,6 +57,7 @@ impl<T: Drop> ForceSender<T> {
         ensures reply { IfOk result (λ answer. answer
             ≡ force_send_answer (force_found self.new).closed
             (is_channel_full (force_found self.new)) (oldest (force_found self.new)) message) }
+        ensures wanted { OnErr result (GrowsWithMessages (force_found self.new)) }
     {
         let ruled = &channel.ruled;
         ruled.force_send_as::<Whole, Unruled, R>(rt, &mut self.pass, message)

@@ -3,7 +3,7 @@ ghost use Rattle.std.specs.Prelude.{◌≡◌, ◌<◌, ◌≤◌, [], ◌∷◌
 ghost use Rattle.std.specs.Prelude.{IsPermutation};
 ghost use Rattle.std.specs.List.{flat_map};
 ghost use Rattle.channel_core.specs.Tables.{try_recv_answer, try_send_answer};
-ghost use Rattle.channel_core.specs.Channel.{is_channel_full, oldest};
+ghost use Rattle.channel_core.specs.Channel.{GrowsWithMessages, is_channel_full, oldest};
 ghost use Rattle.ruled_channel.specs.Passes.{IfFull};
 ghost use Rattle.ruled_channel_rules.specs.Handles.{IsHubOf, known, capacity_of};
 ghost use Rattle.ruled_channel_rules.specs.Whole.{hub_log};
@@ -192,6 +192,7 @@ impl<T: Drop> Sender<T> {
         ensures full { IfOk result (λ answer. IfErr answer (λ error. IfFull error
             (answer ≡ try_send_answer (sender_found self.new).closed
             (is_channel_full (sender_found self.new)) message))) }
+        ensures wanted { OnErr result (GrowsWithMessages (sender_found self.new)) }
     {
         let ruled = &channel.ruled;
         let answer = ruled.try_send_as::<Whole, Unruled, R>(rt, &mut self.pass, message)?;
