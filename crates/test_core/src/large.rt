@@ -32,6 +32,12 @@ fn start(rt: &impl Abort, run: &mut Run<u64>) {
         assert!(rt; is_answered(run, Step::StartRecv { op, receiver: 0 }, Reply::Done));
         assert!(rt; is_answered(run, Step::Poll(op), Reply::RecvPolled(Poll::Pending)));
     }
+    for msg in 0..MANY / 20 {
+        let op = msg.wrapping_add(MANY);
+        assert!(rt; is_answered(run, Step::StartSend { op, sender: 0, msg }, Reply::Done));
+        let op = msg.wrapping_sub(MANY);
+        assert!(rt; is_answered(run, Step::StartClosed { op, sender: 0 }, Reply::Done));
+    }
 }
 
 fn send(rt: &impl Abort, run: &mut Run<u64>) {
