@@ -25,11 +25,11 @@ kit:
 	@command -v rt > /dev/null || { echo 'make: rt is missing: it is in the Rattle kit, see "Try it" in README.md' >&2; exit 1; }
 
 run: kit
-	tools/prove --once trysend
+	tools/prove async_channel
 	cd crates/trysend && rt run
 
 tour: kit
-	tools/prove --once program_chanrun
+	tools/prove chanrun
 	cd crates/program_chanrun && rt run < ../../examples/tour.chan
 
 # What a command says beside its output is shown if it fails.
