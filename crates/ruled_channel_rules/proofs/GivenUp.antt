@@ -1,5 +1,5 @@
--- What is left of a send that is given up, or is refused memory.
-use Rattle.std.proofs.Common.{◌≡◌, Option, Some, None, Result, Ok, Err, OnErr, rules, refl, inl}
+-- What is left of a send that is given up.
+use Rattle.std.proofs.Common.{◌≡◌, Option, Some, None, Err, rules, refl, inl}
 use Rattle.ruled_channel.specs.declared.channel.RuledChannel.{RuledChannel}
 use Rattle.ruled_channel.specs.declared.pass.Pass.{Pass}
 use Rattle.ruled_channel.specs.State.{new_state}
@@ -18,10 +18,4 @@ module _ {T P : Type 0} where
   send_back channel s m below None pass message may back = absurd (search rules)
   send_back channel s m below (Some h) pass message may back =
       let came = may.1 (pass, Err (record { 0 = message })) (back.0, back.1, tt, (back.3, back.2, inl (new_state None, (refl, refl), tt))) in
-      (came.0.0, (came.0.2.1, came.1), came.0.2.0)
-
--- what is so of who was refused is so of what comes back, if it is the same then
-pub same_refused : {S A E : Type 0} (Such : S → Type 0) (s s' : S) (sent result : Result A E)
-    → OnErr result ((s' ≡ s) × (sent ≡ result)) → OnErr sent (Such s) → OnErr result (Such s')
-same_refused Such s s' sent (Ok answer) same such = tt
-same_refused Such s s' sent (Err error) same such = rw same.0 (rw same.1 at such)
+      (came.0, (came.2.1, came.3), came.2.0)

@@ -36,14 +36,13 @@ module _ {T : Type 0} where
   abbrev pub displaced_by : ForceSender T → List T
   displaced_by s = first (view s.pass).got
 
-  -- whether it knows that the channel is closed
+  -- whether it has closed the channel
   abbrev pub sender_closed : Sender T → Bool
   sender_closed s = (view s.pass).closed
 
   abbrev pub receiver_closed : Receiver T → Bool
   receiver_closed r = (view r.pass).closed
 
-  -- whether a force sender has closed the channel
   abbrev pub force_closed : ForceSender T → Bool
   force_closed s = (view s.pass).closed
 

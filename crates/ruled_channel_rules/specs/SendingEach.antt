@@ -13,7 +13,7 @@ use Rattle.ruled_channel_rules.specs.declared.sending.Turn.{Turn}
 use Rattle.ruled_channel_rules.specs.declared.sending.Turn.TheVariants.{Next, Wait, Over}
 use Rattle.ruled_channel_rules.specs.Handles.{IsSenderOf, sent_by, sender_closed}
 use Rattle.ruled_channel_rules.specs.Send.{HasWaited as HasSendWaited, ticket_of as ticket_of_send}
-use Rattle.ruled_channel_rules.specs.Sending.{MaySend, was_refused}
+use Rattle.ruled_channel_rules.specs.Sending.{MaySend}
 
 module _ {T : Type 0} where
   -- these messages were sent but for the last ones, by a sender that is now so and closed nothing
@@ -30,13 +30,13 @@ module _ {T : Type 0} where
       × IfErr sent (λ error. sent_by now ++ error.0 ∷ rest ≡ sent_by s ++ messages))
       × IfErr answer (λ error. sent_by now ++ error.0 ∷ rest ≡ sent_by s ++ messages)
 
-  -- The sender comes back so, and has closed the channel if it was to, or was refused.
+  -- The sender comes back so, and has closed the channel if it was to.
   abbrev pub TellsSentEach : Channel T → Sender T → List T → Bool
       → Sender T × VecDeque T Global × Result (Result (Unit {0}) (SendError T)) (NoMemory T)
       → Type 0
   TellsSentEach channel s messages closes out =
       IsSenderOf channel out.0 × TellsSentAll s messages out.0 out.1.items out.2
-      × (sender_closed out.0 ≡ (closes || (was_refused out.2 || sender_closed s)))
+      × (sender_closed out.0 ≡ (closes || sender_closed s))
 
   module _ {R : Type 0} where
     -- The sender is at hand, or sends the next; the others are left.

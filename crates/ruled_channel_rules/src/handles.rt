@@ -1,10 +1,9 @@
 //! The channel, and who sends and receives.
-ghost use Rattle.std.specs.Prelude.{◌≡◌, ◌<◌, ◌≤◌, [], ◌∷◌, ◌++◌, length, ◌||◌, not, true, false, Some, None, IfOk, IfErr, OnOk, OnErr};
+ghost use Rattle.std.specs.Prelude.{◌≡◌, ◌<◌, ◌≤◌, [], ◌∷◌, ◌++◌, length, not, true, false, Some, None, IfOk, IfErr, OnOk, OnErr};
 ghost use Rattle.std.specs.Prelude.{IsPermutation};
 ghost use Rattle.std.specs.List.{flat_map};
 ghost use Rattle.channel_core.specs.Tables.{try_recv_answer, try_send_answer};
-ghost use Rattle.channel_core.specs.Channel.{GrowsWithMessages, is_channel_full, oldest};
-ghost use Rattle.ruled_channel.specs.Passes.{IfFull};
+ghost use Rattle.channel_core.specs.Channel.{GrowsWithMessages, closing, is_channel_full, oldest, received, sent, unchanged};
 ghost use Rattle.ruled_channel_rules.specs.Handles.{IsHubOf, known, capacity_of};
 ghost use Rattle.ruled_channel_rules.specs.Whole.{hub_log};
 
@@ -122,12 +121,12 @@ impl<T: Drop> Channel<T> {
 
 impl<T: Drop> Sender<T> {
     ghost use Rattle.ruled_channel_rules.specs.Handles.{IsSenderOf, sent_by, sender_closed, sender_found};
-    ghost use Rattle.ruled_channel_rules.specs.Sending.{found_closed, was_refused};
+    ghost use Rattle.ruled_channel_rules.specs.Sending.{HasGivenUp, HasMade, HasSent};
     ghost use Rattle.channel_core.specs.Errors.{message_of};
     ghost use Rattle.ruled_channel_rules.specs.SendingEach.{TellsSentAll};
 
-    /// Sends a message, and waits while the channel is full. A closed channel hands it back, and
-    /// the sender knows then that it is closed. The outer error says that memory was refused.
+    /// Sends a message, and waits while the channel is full. A closed channel hands it back. The
+    /// outer error says that memory was refused.
     ///
     /// ```
     /// let (channel, mut hub) = bounded(rt.alloc(), 4)?;
@@ -151,22 +150,16 @@ impl<T: Drop> Sender<T> {
             (λ error. (error.0 ≡ message) × (sent_by self.new ≡ sent_by self.old))) }
         ensures memory { IfErr result
             (λ error. (error.0 ≡ message) × (sent_by self.new ≡ sent_by self.old)) }
-        ensures closed { sender_closed self.new ≡ (was_refused result || sender_closed self.old) }
+        ensures closed { sender_closed self.new ≡ sender_closed self.old }
+        ensures step { IfOk result (λ answer. HasSent message answer self.new) }
+        ensures given_up { OnErr result (HasGivenUp self.new) }
     {
         let ruled = &channel.ruled;
-        match ruled.send_blocking_as::<Whole, Unruled, R>(rt, &mut self.pass, message) {
-            Ok(Ok(())) => Ok(Ok(())),
-            Ok(Err(refused)) => {
-                // It is closed already. So this changes nothing but what the sender knows.
-                self.close(rt, channel);
-                Ok(Err(refused))
-            }
-            Err(refused) => Err(refused),
-        }
+        ruled.send_blocking_as::<Whole, Unruled, R>(rt, &mut self.pass, message)
     }
 
-    /// Sends a message, if there is room at once. A full channel hands it back, and so does a closed
-    /// one, which the sender knows then. The outer error says that memory was refused.
+    /// Sends a message, if there is room at once. A full or closed channel hands it back. The outer
+    /// error says that memory was refused.
     ///
     /// ```
     /// let (channel, mut hub) = bounded(rt.alloc(), 1)?;
@@ -188,19 +181,16 @@ impl<T: Drop> Sender<T> {
             (λ error. (message_of error ≡ message) × (sent_by self.new ≡ sent_by self.old))) }
         ensures memory { IfErr result
             (λ error. (error.0 ≡ message) × (sent_by self.new ≡ sent_by self.old)) }
-        ensures closed { sender_closed self.new ≡ (found_closed result || sender_closed self.old) }
-        ensures full { IfOk result (λ answer. IfErr answer (λ error. IfFull error
-            (answer ≡ try_send_answer (sender_found self.new).closed
-            (is_channel_full (sender_found self.new)) message))) }
+        ensures closed { sender_closed self.new ≡ sender_closed self.old }
+        ensures reply { IfOk result (λ answer. answer
+            ≡ try_send_answer (sender_found self.new).closed
+            (is_channel_full (sender_found self.new)) message) }
+        ensures step { OnOk result (HasMade (sent message) self.new) }
         ensures wanted { OnErr result (GrowsWithMessages (sender_found self.new)) }
+        ensures unchanged { OnErr result (HasMade unchanged self.new) }
     {
         let ruled = &channel.ruled;
-        let answer = ruled.try_send_as::<Whole, Unruled, R>(rt, &mut self.pass, message)?;
-        if let Err(TrySendError::Closed(_)) = &answer {
-            // It is closed already. So this changes nothing but what the sender knows.
-            self.close(rt, channel);
-        }
-        Ok(answer)
+        ruled.try_send_as::<Whole, Unruled, R>(rt, &mut self.pass, message)
     }
 
     /// Sends messages from the front until all are sent, or one can't be: that one is in the answer,
@@ -224,7 +214,7 @@ impl<T: Drop> Sender<T> {
         requires own { IsSenderOf channel.now self.old }
         ensures own { IsSenderOf channel.now self.new }
         ensures sent { TellsSentAll self.old messages.old.items self.new messages.new.items result }
-        ensures closed { sender_closed self.new ≡ (was_refused result || sender_closed self.old) }
+        ensures closed { sender_closed self.new ≡ sender_closed self.old }
     {
         while let Some(message) = messages.pop_front() {
             match self.send_blocking(rt, channel, message) {
@@ -251,6 +241,7 @@ impl<T: Drop> Sender<T> {
         ensures closed { sender_closed self.new ≡ true }
         ensures again { sender_closed self.old ≡ true → result ≡ false }
         ensures reply { result ≡ not (sender_found self.new).closed }
+        ensures step { HasMade closing self.new }
     {
         channel.ruled.close_as::<Whole, R>(rt, &mut self.pass)
     }
@@ -258,7 +249,7 @@ impl<T: Drop> Sender<T> {
 
 impl<T: Drop> Receiver<T> {
     ghost use Rattle.ruled_channel_rules.specs.Handles.{IsReceiverOf, got_by, has_ended, receiver_closed, receiver_found};
-    ghost use Rattle.ruled_channel_rules.specs.Receiving.{IsAsItWas, FoundNone, HasAdded};
+    ghost use Rattle.ruled_channel_rules.specs.Receiving.{FoundNone, HasAdded, HasGivenUp, HasMade, HasReceived, IsAsItWas};
 
     /// Takes the oldest message, and waits while there is none. The inner error says that the
     /// channel is closed and empty, the outer that memory was refused.
@@ -285,6 +276,8 @@ impl<T: Drop> Receiver<T> {
             (λ _. (got_by self.new ≡ got_by self.old) × (has_ended self.new ≡ true))) }
         ensures memory { IfErr result (λ _. IsAsItWas self.old self.new) }
         ensures closed { receiver_closed self.new ≡ receiver_closed self.old }
+        ensures step { IfOk result (λ answer. HasReceived answer self.new) }
+        ensures given_up { OnErr result (HasGivenUp self.new) }
     {
         let ruled = &channel.ruled;
         ruled.recv_blocking_as::<Whole, Whole, R>(rt, &mut self.pass)
@@ -309,6 +302,7 @@ impl<T: Drop> Receiver<T> {
         ensures closed { receiver_closed self.new ≡ receiver_closed self.old }
         ensures reply { result
             ≡ try_recv_answer (oldest (receiver_found self.new)) (receiver_found self.new).closed }
+        ensures step { HasMade received self.new }
     {
         let ruled = &channel.ruled;
         ruled.try_recv_as::<Whole, Whole, Unruled, R>(rt, &mut self.pass)
@@ -374,6 +368,7 @@ impl<T: Drop> Receiver<T> {
         ensures again { receiver_closed self.old ≡ true → result ≡ false }
         ensures ended { has_ended self.old ≡ true → result ≡ false }
         ensures reply { result ≡ not (receiver_found self.new).closed }
+        ensures step { HasMade closing self.new }
     {
         channel.ruled.close_as::<Whole, R>(rt, &mut self.pass)
     }

@@ -2,9 +2,9 @@
 ghost use Rattle.std.specs.Prelude.{◌≡◌, IfSome, IfNone, OnErr};
 ghost use Rattle.futures.specs.Task.{Covers, Keeps};
 ghost use Rattle.futures.specs.Poll.{IfReady, OnPending};
-ghost use Rattle.ruled_channel.specs.Steps.{HasMade, receive_given_up};
+ghost use Rattle.ruled_channel.specs.Steps.{receive_given_up};
 ghost use Rattle.ruled_channel_rules.specs.Handles.{IsReceiverOf};
-ghost use Rattle.ruled_channel_rules.specs.Receiving.{TellsReceived, IsAsItWas};
+ghost use Rattle.ruled_channel_rules.specs.Receiving.{HasMade, IsAsItWas, TellsReceived};
 
 use crate::handles::{Channel, Receiver};
 use crate::log::{Log, Whole};
@@ -88,7 +88,7 @@ impl<T: Drop, R: Wait> Future for Recv<'_, '_, T, R> {
         ensures registered { OnPending result (Covers cx.new (waits_at self.new)) }
         ensures waits { OnPending result (HasWaited (ticket_of self.old) self.new) }
         ensures given_up { IfReady result (λ out. OnErr out.1
-            (HasMade (receive_given_up (ticket_of self.old)) out.0.pass)) }
+            (HasMade (receive_given_up (ticket_of self.old)) out.0)) }
         ensures stays { (channel_of self.new ≡ channel_of self.old)
             × (receiver_of self.new ≡ receiver_of self.old) }
         ensures kept { Keeps cx.old cx.new }

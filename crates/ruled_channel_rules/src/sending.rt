@@ -2,9 +2,9 @@
 ghost use Rattle.std.specs.Prelude.{◌≡◌, true, false, IfSome, IfNone, OnErr};
 ghost use Rattle.futures.specs.Task.{Covers, Keeps};
 ghost use Rattle.futures.specs.Poll.{IfReady, OnPending};
-ghost use Rattle.ruled_channel.specs.Steps.{HasMade, send_given_up};
+ghost use Rattle.ruled_channel.specs.Steps.{send_given_up};
 ghost use Rattle.ruled_channel_rules.specs.Handles.{IsSenderOf};
-ghost use Rattle.ruled_channel_rules.specs.Sending.{Comes, TellsSent, IsAsItWas};
+ghost use Rattle.ruled_channel_rules.specs.Sending.{HasMade, IsAsItWas, TellsSent};
 
 use crate::handles::{Channel, Sender};
 use crate::log::{Log, Whole};
@@ -34,7 +34,6 @@ pub(crate) const BUDGET: u32 = 128;
 /// ```
 #[derive(Drop)]
 pub struct Send<'r, 'c, T: Drop, R: Wait> {
-    rt: &'r R,
     channel: &'c Channel<T>,
     // None, once a poll was ready.
     inner: Option<ruled_channel::SendAs<'r, 'c, T, Log<T>, Whole, Whole, Unruled, R>>,
@@ -76,7 +75,6 @@ impl<T: Drop> Sender<T> {
         let Sender { pass } = self;
         let ruled = &channel.ruled;
         Send {
-            rt,
             channel,
             inner: Some(ruled.send_as::<Whole, Unruled, R>(rt, pass, message)),
             sender,
@@ -107,7 +105,7 @@ impl<T: Drop, R: Wait> Future for Send<'_, '_, T, R> {
         ensures registered { OnPending result (Covers cx.new (waits_at self.new)) }
         ensures waits { OnPending result (HasWaited (ticket_of self.old) self.new) }
         ensures given_up { IfReady result (λ out. OnErr out.1
-            (HasMade (send_given_up (ticket_of self.old)) out.0.pass)) }
+            (HasMade (send_given_up (ticket_of self.old)) out.0)) }
         ensures stays { (channel_of self.new ≡ channel_of self.old)
             × (sender_of self.new ≡ sender_of self.old)
             × (message_of self.new ≡ message_of self.old) }
@@ -117,7 +115,7 @@ impl<T: Drop, R: Wait> Future for Send<'_, '_, T, R> {
             unreachable!()
         };
         match inner.poll(cx) {
-            Poll::Ready((pass, sent)) => Poll::Ready(self.answer(Sender { pass }, sent)),
+            Poll::Ready((pass, sent)) => Poll::Ready((Sender { pass }, sent)),
             Poll::Pending => {
                 self.inner = Some(inner);
                 Poll::Pending
@@ -151,20 +149,6 @@ impl<T: Drop, R: Wait> Send<'_, '_, T, R> {
             unreachable!()
         };
         (Sender { pass }, message)
-    }
-
-    // The answer of the send below. One that was refused learns that the channel is closed.
-    fn answer(&self, mut sender: Sender<T>, sent: SendResult<T>) -> (Sender<T>, SendResult<T>)
-        requires { Comes (channel_of self.now) (sender_of self.now) (message_of self.now)
-            (sender, sent) }
-        ensures tells { TellsSent (channel_of self.now) (sender_of self.now) (message_of self.now)
-            result }
-        ensures same { OnErr result.1 ((result.0 ≡ sender) × (sent ≡ result.1)) }
-    {
-        if let Ok(Err(_)) = &sent {
-            sender.close(self.rt, self.channel);
-        }
-        (sender, sent)
     }
 }
 

@@ -4,7 +4,7 @@ ghost use Rattle.ruled_channel_rules.specs.Handles.{IsHubOf, IsSenderOf, IsRecei
 use crate::waiting::new_task;
 use futures::executor::block_on;
 use futures::task::Poll;
-use ruled_channel_rules::{Channel, Hub, OutOfMemory, SendError, TrySendError, bounded, unbounded};
+use ruled_channel_rules::{Channel, Hub, OutOfMemory, SendError, bounded, unbounded};
 use std::alloc::{AllocGlobal, Global};
 use std::collections::VecDeque;
 use std::process::Abort;
@@ -67,16 +67,11 @@ fn two_threads_relay_a_list(rt: HostRuntime) {
 }
 
 #[test]
-fn each_send_says_what_it_found(rt: HostRuntime) {
+fn a_blocked_send_says_that_it_found_the_channel_closed(rt: HostRuntime) {
     let (line, mut hub) = bounded(rt.alloc(), 1).expect(&rt, "a channel");
-    let (mut s, mut latest) = (hub.sender(&line), hub.force_sender(&line));
-    assert_eq!(rt; s.try_send(&rt, &line, 1), Ok(Ok(())));
-    assert_eq!(rt; s.try_send(&rt, &line, 2), Ok(Err(TrySendError::Full(2))));
-    assert_eq!(rt; latest.force_send(&rt, &line, 3), Ok(Ok(Some(1))));
-    assert!(rt; s.close(&rt, &line) && !latest.close(&rt, &line));
-    assert_eq!(rt; s.try_send(&rt, &line, 4), Ok(Err(TrySendError::Closed(4))));
-    assert_eq!(rt; latest.force_send(&rt, &line, 5), Ok(Err(SendError(5))));
-    assert_eq!(rt; s.send_blocking(&rt, &line, 6), Ok(Err(SendError(6))));
+    let mut sender = hub.sender(&line);
+    assert!(rt; sender.close(&rt, &line));
+    assert_eq!(rt; sender.send_blocking(&rt, &line, 6), Ok(Err(SendError(6))));
 }
 
 #[test]

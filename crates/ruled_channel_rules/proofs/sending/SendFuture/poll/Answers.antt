@@ -1,12 +1,9 @@
 use Rattle.std.proofs.Common.{rules}
-use Rattle.ruled_channel.specs.Steps.{HasMade, send_given_up}
 use Rattle.ruled_channel_rules.specs.Sending.{MaySend}
-use Rattle.ruled_channel_rules.specs.Send.{ticket_of}
-use Rattle.ruled_channel_rules.proofs.GivenUp.{same_refused}
 use Rattle.ruled_channel_rules.proofs.sending.SendFuture.poll.Goals as goal
 
-pub answer-requires : goal.answer-requires
-answer-requires g c =
+pub returns-in-Ready-clause-value : goal.returns-in-Ready-clause-value
+returns-in-Ready-clause-value g c =
     let may : MaySend c.args.self.now.channel.now c.args.self.now.sender.value c.args.self.now.message.value c.in-Some.inner.channel.now c.in-Some.inner.parts = search rules in
     may.1 (c.in-Ready.pass, c.in-Ready.sent) c.in-Ready.ensures.value
 
@@ -14,8 +11,3 @@ pub returns-in-Pending-clause-again : goal.returns-in-Pending-clause-again
 returns-in-Pending-clause-again g c =
     let may : MaySend c.args.self.now.channel.now c.args.self.now.sender.value c.args.self.now.message.value c.in-Some.inner.channel.now c.in-Some.inner.parts = search rules in
     (c.in-Pending.ensures.again, λ x gives. may.1 x (c.in-Pending.ensures.same x gives))
-
-pub returns-in-Ready-clause-given_up : goal.returns-in-Ready-clause-given_up
-returns-in-Ready-clause-given_up g c =
-    same_refused (λ s. HasMade (send_given_up (ticket_of c.args.self.now)) s.pass) _ _ _ _
-    c.answer.ensures.same (search rules)
