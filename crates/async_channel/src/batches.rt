@@ -14,7 +14,7 @@ use crate::many::ROUND_LIMIT;
 use channel_core::{Group, OutOfMemory, SendError, Ticket};
 use futures::Future;
 use futures::task::{Context, Poll};
-use ruled_channel::Marker;
+use ruled_channel::{Marker, Unruled};
 use std::alloc::Global;
 use std::collections::VecDeque;
 use std::marker::Model;
@@ -189,7 +189,16 @@ impl<T: Drop, R: Wait + Clone + Drop> Sender<T, R> {
     {
         while !from.is_empty() {
             let ((channel, mut pass), rt) = (self.link.channel(), &self.link.rt);
-            match channel.send_many_or_wait(rt, &mut pass, from, ROUND_LIMIT, ticket, marker, cx)? {
+            let sent = channel.send_many_or_wait_as::<Unruled, Unruled, _, _, _>(
+                rt,
+                &mut pass,
+                from,
+                ROUND_LIMIT,
+                ticket,
+                marker,
+                cx,
+            )?;
+            match sent {
                 Poll::Ready(Ok(_sent)) => {}
                 Poll::Ready(Err(error)) => return Ok(Poll::Ready(Err(error))),
                 Poll::Pending => return Ok(Poll::Pending),
@@ -265,7 +274,9 @@ impl<T: Drop, R: Wait + Clone + Drop> Receiver<T, R> {
     {
         let most = limit.min(ROUND_LIMIT);
         let ((channel, mut pass), rt) = (self.link.channel(), &self.link.rt);
-        let polled = channel.recv_many_or_wait(rt, &mut pass, into, most, ticket, marker, cx)?;
+        let polled = channel.recv_many_or_wait_as::<Unruled, Unruled, _, _, _>(
+            rt, &mut pass, into, most, ticket, marker, cx,
+        )?;
         let Poll::Ready(first) = polled else {
             return Ok(Poll::Pending);
         };

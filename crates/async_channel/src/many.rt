@@ -8,6 +8,7 @@ ghost use Rattle.channel_core.specs.Batches.{moved_count};
 
 use crate::handles::{Receiver, Sender};
 use channel_core::{OutOfMemory, TryRecvError, TrySendError};
+use ruled_channel::Unruled;
 use std::alloc::Global;
 use std::collections::VecDeque;
 use std::sync::Wait;
@@ -88,7 +89,7 @@ impl<T: Drop, R: Wait + Clone + Drop> Sender<T, R> {
         ensures none { result ≡ Ok (Ok 0) → from.old.items ≡ [] }
     {
         let (channel, mut pass) = self.link.channel();
-        channel.try_send_many(&self.link.rt, &mut pass, from, ROUND_LIMIT)
+        channel.try_send_many_as::<Unruled, Unruled, _>(&self.link.rt, &mut pass, from, ROUND_LIMIT)
     }
 }
 
@@ -154,6 +155,7 @@ impl<T: Drop, R: Wait + Clone + Drop> Receiver<T, R> {
         ensures none { result ≡ Ok (Ok 0) → limit ≡ 0 }
     {
         let (channel, mut pass) = self.link.channel();
-        channel.try_recv_many(&self.link.rt, &mut pass, into, limit.min(ROUND_LIMIT))
+        let (rt, most) = (&self.link.rt, limit.min(ROUND_LIMIT));
+        channel.try_recv_many_as::<Unruled, Unruled, Unruled, _>(rt, &mut pass, into, most)
     }
 }

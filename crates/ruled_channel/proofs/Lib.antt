@@ -1,10 +1,11 @@
+pub mod Views
+pub mod Many
 pub mod Answered
 pub mod Steps
+mod Told
 mod Taken
 pub mod Same
-pub mod Views
 pub mod Dropped
 pub mod Logging
-pub mod Capacity
 mod Made
 mod Waits

@@ -1,13 +1,20 @@
 -- What a call leaves under the lock, as a step of the mutex's rule.
-use Rattle.std.proofs.Common.{◌≡◌, ◌≢◌, ◌⊎◌, inl, inr, ℕ, Bool, true, false, true≢false, List, [], ◌∷◌, ◌++◌, drop, get_or, slice_get, is_some, Option, Some, None, sym, refl, ap, ◌∙◌, subst}
-use Rattle.std.proofs.lemmas.List.{append_cancel_left, append-nil}
+use Rattle.futures.specs.declared.task.Poll.{Poll}
+use Rattle.futures.specs.declared.task.Poll.TheVariants.{Ready, Pending}
+use Rattle.std.proofs.Common.{◌≡◌, ◌≢◌, ◌⊎◌, inl, inr, ℕ, ◌≤◌, Bool, true, false, List, [], ◌∷◌, ◌++◌, take, drop, get_or, slice_get, Option, Some, None, Result, Ok, Err, OnErr, sym, refl, ap, ◌∙◌, subst, arith}
+use Rattle.std.proofs.lemmas.List.{append_cancel_left, append_cancel_right, append-nil, drop_all, take-append-drop}
 use Rattle.std.specs.Prelude.{◌&&◌, not, slice_set}
 use Rattle.atomic_table.proofs.Lists.{set_again}
 use Rattle.crossbeam_utils.specs.Register.{TurnsAt}
-use Rattle.channel_core.specs.Channel.{Channel, is_channel_full}
+use Rattle.channel_core.specs.Tables.{OnReady, OnWait}
+use Rattle.channel_core.specs.Tickets.{left}
+use Rattle.channel_core.specs.Channel.{Channel, RecvWaits, SendWaits, is_channel_full}
+use Rattle.channel_core.specs.Batches.{taken_count}
+use Rattle.ruled_channel.specs.Batches.{polled_receives, polled_sends}
 use Rattle.ruled_channel.specs.State.{State, state_of, HasPlace, IsFull, IsOver, holding, joined}
-use Rattle.ruled_channel.specs.Rule.{Allows, Sends, Forces, Receives, Ends, Shuts, Learns}
-use Rattle.ruled_channel.specs.Guarded.{within, sent_or_kept, forced_or_kept, forced_of, received_or_kept, received_of, shut, kept}
+use Rattle.ruled_channel.specs.Rule.{Allows, Sends, SendsMany, Forces, Receives, ReceivesMany, Ends, Shuts, Learns, TellsEach}
+use Rattle.ruled_channel.specs.Guarded.{within, sent_or_kept, sent_many_or_kept, forced_or_kept, forced_of, received_or_kept, received_many_or_kept, received_of, taken_of, shut, kept}
+use Rattle.ruled_channel.proofs.Many.{Fits, fits, is_longer, left_by_receives, left_by_sends, sends_all, takes_all}
 
 -- a step of a pass is one of the same pass, at the same view and value
 pub moved : {X V : Type 0} (holds : X → List V → Type 0) (then : V → X → X → V → Type 0) (pass pass' : ℕ) (v v' : V) (x x' y : X)
@@ -16,9 +23,6 @@ moved {X} {V} holds then pass pass' v v' x x' y p q r t = subst (λ (z : ℕ × 
 
 last_same : {T : Type 0} (l : List T) (m m' : T) → l ++ m ∷ [] ≡ l ++ m' ∷ [] → m ≡ m'
 last_same l m m' e = ap (λ r. get_or r 0 m) (append_cancel_left l (m ∷ []) (m' ∷ []) e)
-
-is_longer : {T : Type 0} (l : List T) (m : T) → l ++ m ∷ [] ≢ l
-is_longer l m e = true≢false (ap (λ r. is_some (slice_get r 0)) (append_cancel_left l (m ∷ []) [] (e ∙ sym (append-nil l))))
 
 module _ {T W : Type 0} (core now : Channel T W) where
   -- what a forced send leaves of a channel that is closed, or full, or has room
@@ -67,15 +71,43 @@ module _ {T V W : Type 0} (core now found : Channel T W) (holds : State T → Li
   offers_as m then fact tells says (inl goes) sends learns = turns HasPlace (joined m) (λ _ w. then v m w) tells goes.0 goes.1 refl
       (λ w told. let joins = sym (ap (λ (s : State T). s.messages) goes.1) in says w (
         λ m' e. subst (λ x. then v x w) (last_same core.messages m m' (joins ∙ e)) told,
-        λ e. absurd (is_longer core.messages m (joins ∙ e)),
+        λ e. absurd (is_longer core.messages m [] (joins ∙ e)),
       )) sends
   offers_as m then fact tells says (inr is) sends learns = turns (λ _. Unit {0}) (λ s. s) (λ s w. (w ≡ v) × fact v s) tells tt is refl
-      (λ w told. says w (λ m' e. absurd (is_longer core.messages m' (sym e ∙ ap (λ (s : State T). s.messages) is)), λ e. told)) (stays fact learns)
+      (λ w told. says w (λ m' e. absurd (is_longer core.messages m' [] (sym e ∙ ap (λ (s : State T). s.messages) is)), λ e. told)) (stays fact learns)
 
   pub offers : (m : T) (then : V → T → V → Type 0) (fact : V → State T → Type 0)
       → (HasPlace (state_of core) × (state_of now ≡ joined m (state_of core))) ⊎ (state_of now ≡ state_of core)
       → Sends holds pass v m then → Learns holds pass v (fact v) → TurnsAt (within holds) pass' v' found now (sent_or_kept then fact)
   offers m then fact = offers_as m then fact (sent_or_kept then fact) (λ w told. told)
+
+  -- a batch of sends puts its messages last, in order
+  pub offers_many : (messages : List T) (then : V → T → V → Type 0) (fact : V → State T → Type 0)
+      → Fits core.closed core.capacity messages core.messages → state_of now ≡ holding (core.messages ++ messages) (state_of core)
+      → SendsMany holds pass v messages then → Learns holds pass v (fact v) → TurnsAt (within holds) pass' v' found now (sent_many_or_kept then fact)
+  offers_many messages then fact fit is sends learns = turns (λ s. Fits s.closed s.capacity messages s.messages) (λ s. holding (s.messages ++ messages) s)
+      (λ s w. TellsEach then v messages w × fact v s) (sent_many_or_kept then fact) fit is refl
+      (λ w told. let joins = ap (λ (s : State T). s.messages) is in (
+        λ others e. subst (λ l. TellsEach then v l w) (append_cancel_left core.messages messages others (sym joins ∙ e)) told.0,
+        λ e. (subst (λ l. TellsEach then v l w) (append_cancel_left core.messages messages [] (sym joins ∙ e ∙ sym (append-nil core.messages))) told.0, told.1),
+      ))
+      (λ state views may h at. let all = sends_all holds pass then state messages state.messages v views may sends h at in (all.0, all.1, (all.2, learns state views h at)))
+
+  -- a poll of one puts those last that it sent, or changes nothing
+  pub polls_sends : {A E : Type 0} (ticket ticket' : Option ℕ) (first : Option T) (messages : List T) (Fact : W → Type 0) (result : Result (Poll A) E)
+      (then : V → T → V → Type 0) (fact : V → State T → Type 0)
+      → OnReady result (now ≡ (polled_sends ticket messages core).channel) → OnReady result (now.messages ≡ core.messages ++ messages)
+      → OnWait result ((w : W) × Fact w × SendWaits first ticket core w ticket' now) → OnErr result (now ≡ core)
+      → SendsMany holds pass v messages then → Learns holds pass v (fact v) → TurnsAt (within holds) pass' v' found now (sent_many_or_kept then fact)
+  polls_sends ticket ticket' first messages Fact (Ok (Ready answer)) then fact after held waits unchanged sends learns =
+      let left_core : Channel T W = record core { sends = left ticket core.sends } in
+      offers_many messages then fact (fits messages left_core (ap (λ (c : Channel T W). c.messages) (sym after) ∙ held)) (left_by_sends messages left_core now after held) sends learns
+  polls_sends ticket ticket' (Some m) messages Fact (Ok Pending) then fact after held waits unchanged sends learns =
+      offers_many [] then fact tt (ap state_of waits.2.0 ∙ ap (λ l. holding l (state_of core)) (sym (append-nil core.messages))) tt learns
+  polls_sends ticket ticket' None messages Fact (Ok Pending) then fact after held waits unchanged sends learns =
+      offers_many [] then fact tt (ap state_of waits.2.0 ∙ ap (λ l. holding l (state_of core)) (sym (append-nil core.messages))) tt learns
+  polls_sends ticket ticket' first messages Fact (Err error) then fact after held waits unchanged sends learns =
+      offers_many [] then fact tt (ap state_of unchanged ∙ ap (λ l. holding l (state_of core)) (sym (append-nil core.messages))) tt learns
 
   -- a forced send
   pub forces : (m : T) (then : V → Option T → T → V → Type 0) (fact : V → State T → Type 0)
@@ -117,6 +149,47 @@ module _ {T V W : Type 0} (core now found : Channel T W) (holds : State T → Li
         (is ∙ ap (λ l. holding l (state_of core)) (ap (drop 1) held ∙ sym held)) refl
         (λ w told. subst (λ (z : List T × Bool). tells z.0 z.1 w) (λ i. (sym held i, sym was i)) told)
         (stays fact learns)
+
+  -- a batch of receives takes the oldest messages, in order, or finds none
+  pub takes_many : (count limit : ℕ) (then : V → T → V → Type 0) (at_end : V → V → Type 0) (fact : V → State T → Type 0)
+      → count ≤ limit → state_of now ≡ holding (drop count core.messages) (state_of core)
+      → ReceivesMany holds pass v limit then → Ends holds pass v at_end → Learns holds pass v (fact v)
+      → TurnsAt (within holds) pass' v' found now (received_many_or_kept then at_end fact)
+  takes_many count limit then at_end fact le is receives ends learns = go core.messages core.closed refl refl where
+    tells : List T → Bool → V → Type 0
+    tells messages closed w = taken_of then at_end fact v core now (slice_get messages 0) closed w
+
+    none : core.messages ≡ [] → state_of now ≡ state_of core
+    none held = is ∙ ap (λ l. holding l (state_of core)) (ap (drop count) held ∙ drop_all count [] (omega arith) ∙ sym held)
+
+    go : (messages : List T) (closed : Bool) → core.messages ≡ messages → core.closed ≡ closed
+        → TurnsAt (within holds) pass' v' found now (received_many_or_kept then at_end fact)
+    go (m ∷ rest) closed held was = turns (λ _. Unit {0}) (λ s. holding (drop count s.messages) s) (λ s w. TellsEach then v (take count s.messages) w)
+        (received_many_or_kept then at_end fact) tt is refl
+        (λ w told. subst (λ l. tells l core.closed w) (sym held) λ messages e. subst (λ l. TellsEach then v l w)
+        (sym (append_cancel_right messages (take count core.messages) now.messages
+        (sym e ∙ sym (take-append-drop count core.messages) ∙ ap (λ l. take count core.messages ++ l) (ap (λ (s : State T). s.messages) (sym is))))) told)
+        (λ state views may h at. takes_all holds pass then state count limit state.messages v views le receives h at)
+    go [] true held was = turns IsOver (λ s. s) (λ _ w. at_end v w) (received_many_or_kept then at_end fact) (was, held) (none held) refl
+        (λ w told. subst (λ (z : List T × Bool). tells z.0 z.1 w) (λ i. (sym held i, sym was i)) told) ends
+    go [] false held was = turns (λ _. Unit {0}) (λ s. s) (λ s w. (w ≡ v) × fact v s) (received_many_or_kept then at_end fact) tt (none held) refl
+        (λ w told. subst (λ (z : List T × Bool). tells z.0 z.1 w) (λ i. (sym held i, sym was i)) told)
+        (stays fact learns)
+
+  -- a poll of one takes as many as there are and may come, or none
+  pub polls_receives : {E : Type 0} (ticket ticket' : Option ℕ) (limit : ℕ) (Fact : W → Type 0) (result : Result (Poll ℕ) E)
+      (then : V → T → V → Type 0) (at_end : V → V → Type 0) (fact : V → State T → Type 0)
+      → OnReady result (now ≡ (polled_receives ticket (taken_count limit core) core).channel)
+      → OnWait result ((w : W) × Fact w × RecvWaits ticket core w ticket' now) → OnErr result (now ≡ core)
+      → ReceivesMany holds pass v limit then → Ends holds pass v at_end → Learns holds pass v (fact v)
+      → TurnsAt (within holds) pass' v' found now (received_many_or_kept then at_end fact)
+  polls_receives ticket ticket' limit Fact (Ok (Ready answer)) then at_end fact after waits unchanged receives ends learns =
+      takes_many (taken_count limit core) limit then at_end fact (omega arith)
+      (ap state_of after ∙ left_by_receives (taken_count limit core) (record core { receives = left ticket core.receives })) receives ends learns
+  polls_receives ticket ticket' limit Fact (Ok Pending) then at_end fact after waits unchanged receives ends learns =
+      takes_many 0 limit then at_end fact (omega arith) (ap state_of waits.2.0) receives ends learns
+  polls_receives ticket ticket' limit Fact (Err error) then at_end fact after waits unchanged receives ends learns =
+      takes_many 0 limit then at_end fact (omega arith) (ap state_of unchanged) receives ends learns
 
   -- one that may close the channel
   pub shuts : (step : State T → State T) (then : V → Bool → V → Type 0) → state_of now ≡ step (state_of core)

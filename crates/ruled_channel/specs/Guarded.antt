@@ -3,6 +3,7 @@
 use Rattle.std.specs.Prelude.{◌≡◌, ◌≢◌, Bool, true, false, not, ◌&&◌, List, [], ◌∷◌, ◌++◌, drop, Option, Some, None}
 use Rattle.channel_core.specs.Channel.{Channel, is_channel_full, oldest}
 use Rattle.ruled_channel.specs.State.{State, state_of}
+use Rattle.ruled_channel.specs.Rule.{TellsEach}
 
 module _ {T V : Type 0} where
   -- what a receive tells, by the oldest message and by whether the channel is closed
@@ -35,6 +36,14 @@ module _ {T V W : Type 0} where
       ((m : T) → now.messages ≡ found.messages ++ m ∷ [] → then v m w)
       × (now.messages ≡ found.messages → kept fact v found now w)
 
+  -- sends of many, of which some joined
+  abbrev pub sent_many_or_kept : (V → T → V → Type 0) → (V → State T → Type 0) → V → Channel T W
+      → Channel T W → V → Type 0
+  sent_many_or_kept then fact v found now w =
+      ((messages : List T) → now.messages ≡ found.messages ++ messages
+      → TellsEach then v messages w)
+      × (now.messages ≡ found.messages → kept fact v found now w)
+
   -- a send that is forced: a full and open channel gives its oldest message for the new one
   abbrev pub forced_of : (V → Option T → T → V → Type 0) → (V → State T → Type 0) → V → Channel T W
       → Channel T W → Bool → Bool → V → Type 0
@@ -53,3 +62,16 @@ module _ {T V W : Type 0} where
       → Channel T W → Channel T W → V → Type 0
   received_or_kept then at_end fact v found now w =
       received_of then at_end fact v (state_of found) (oldest found) found.closed w
+
+  -- receives of many, at a channel that held some, or that was empty
+  abbrev pub taken_of : (V → T → V → Type 0) → (V → V → Type 0) → (V → State T → Type 0) → V
+      → Channel T W → Channel T W → Option T → Bool → V → Type 0
+  taken_of then at_end fact v found now (Some m) closed w =
+      (messages : List T) → found.messages ≡ messages ++ now.messages → TellsEach then v messages w
+  taken_of then at_end fact v found now None closed w =
+      received_of then at_end fact v (state_of found) None closed w
+
+  abbrev pub received_many_or_kept : (V → T → V → Type 0) → (V → V → Type 0)
+      → (V → State T → Type 0) → V → Channel T W → Channel T W → V → Type 0
+  received_many_or_kept then at_end fact v found now w =
+      taken_of then at_end fact v found now (oldest found) found.closed w

@@ -45,7 +45,7 @@ LearnedOf {T} WasSuch fact = (state : State T) × WasSuch state × fact state
 
 -- Why a send was refused, and what was learned at that moment: the channel was full and open, or it
 -- was closed.
-abbrev pub Refuses : {T : Type 0} → (State T → Type 0) → TrySendError T → Type 0
+abbrev pub Refuses : {T A : Type 0} → (State T → Type 0) → TrySendError A → Type 0
 Refuses fact (Full m) = LearnedOf IsFull fact
 Refuses fact (Closed m) = LearnedOf IsClosed fact
 

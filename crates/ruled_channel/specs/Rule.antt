@@ -2,7 +2,7 @@
 -- `holds state views` is the caller's rule, at the channel's key: of what the channel is, and of
 -- what each pass knows.
 -- Each pass has a number, and `views` at that number is its view.
-use Rattle.std.specs.Prelude.{◌≡◌, ⊤, ℕ, Bool, true, not, ◌&&◌, List, [], ◌∷◌, ◌++◌, slice_set, Option, Some, None}
+use Rattle.std.specs.Prelude.{◌≡◌, ⊤, ℕ, zero, suc, Bool, true, not, ◌&&◌, List, [], ◌∷◌, ◌++◌, slice_set, Option, Some, None}
 use mathlib.Core.Option.{some}
 use lib.ListN.{get_elem?}
 use Rattle.channel_core.specs.declared.state.Upgrade.TheVariants.{Raised}
@@ -39,6 +39,18 @@ module _ {T V : Type 0} (holds : State T → List V → Type 0) where
   Receives pass v then =
       (m : T) (rest : List T)
       → Allows (λ state. state.messages ≡ m ∷ rest) (holding rest) pass v (λ _ w. then v m w)
+
+  -- each of these messages is sent after those before it, whatever view these left
+  abbrev pub SendsMany : ℕ → V → List T → (V → T → V → Type 0) → Type 0
+  SendsMany pass v [] then = ⊤
+  SendsMany pass v (m ∷ rest) then =
+      Sends pass v m then × ((w : V) → then v m w → SendsMany pass w rest then)
+
+  -- so many messages leave at the front, one after the other, likewise
+  abbrev pub ReceivesMany : ℕ → V → ℕ → (V → T → V → Type 0) → Type 0
+  ReceivesMany pass v zero then = ⊤
+  ReceivesMany pass v (suc count) then =
+      Receives pass v then × ((m : T) (w : V) → then v m w → ReceivesMany pass w count then)
 
   -- a receive finds the channel closed and empty
   abbrev pub Ends : ℕ → V → (V → V → Type 0) → Type 0
@@ -98,6 +110,11 @@ module _ {T V : Type 0} (holds : State T → List V → Type 0) where
   Learns pass v fact =
       (state : State T) (views : List V) → holds state views → get_elem? views pass ≡ some v
       → fact state
+
+-- v becomes w by what each of these messages tells, one after the other
+abbrev pub TellsEach : {T V : Type 0} → (V → T → V → Type 0) → V → List T → V → Type 0
+TellsEach then v [] w = w ≡ v
+TellsEach {T} {V} then v (m ∷ rest) w = (u : V) × then v m u × TellsEach then u rest w
 
 -- this view stood among those of all passes, and the rule held, at some key
 abbrev pub Fitted : {T V K : Type 0} → (K → State T → List V → Type 0) → V → State T → Type 0

@@ -1,5 +1,5 @@
-//! Many messages in one step under the lock, by the rule that asks nothing.
-ghost use Rattle.std.specs.Prelude.{◌≡◌, ◌⊎◌, ◌+◌, ◌++◌, ◌<◌, ◌≤◌, ◌∷◌, [], drop, length, take, slice_get, None, Ok, IfOk, IsSome, OnOk, OnErr};
+//! Many messages in one step under the lock: steps of the rule, one after the other.
+ghost use Rattle.std.specs.Prelude.{◌≡◌, ◌⊎◌, ◌+◌, ◌++◌, ◌<◌, ◌≤◌, ◌∷◌, [], drop, length, take, slice_get, None, Ok, IfErr, IfOk, IsSome, OnOk, OnErr};
 ghost use Rattle.std.specs.Vec.{vec_len, vec_capacity};
 ghost use Rattle.std.specs.VecDeque.{deque_len, deque_capacity};
 ghost use Rattle.futures.specs.declared.task.Poll.TheVariants.{Pending};
@@ -8,23 +8,26 @@ ghost use Rattle.channel_core.specs.Tables.{OnReady, OnWait, recv_poll, send_pol
 ghost use Rattle.channel_core.specs.Batches.{CanSendNoMore, counted, moved_count, received_many, sent_many, taken_count};
 ghost use Rattle.channel_core.specs.Channel.{GrowsWithMessages, RecvWaits, SendWaits, is_channel_full, oldest, unchanged};
 ghost use Rattle.ruled_channel.specs.declared.mark.Mark.{Mark};
-ghost use Rattle.ruled_channel.specs.Passes.{IsPassOf, IsSamePass, source_of};
+ghost use Rattle.ruled_channel.specs.State.{IsClosed, IsEmpty, IsFull, IsUnbounded};
+ghost use Rattle.ruled_channel.specs.Rule.{Ends, Fitted, Learns, ReceivesMany, SendsMany, TellsEach};
+ghost use Rattle.ruled_channel.specs.Passes.{FindsNone, IsPassOf, IsSamePass, LearnedOf, Refuses, WantsToSend, key_of, number, source_of, view};
 ghost use Rattle.ruled_channel.specs.Steps.{HasMade, found, made, woken};
 ghost use Rattle.ruled_channel.specs.Batches.{counted_poll, counted_send, polled_count, polled_receives, polled_sends};
 
 use crate::channel::RuledChannel;
 use crate::mark::{Mark, Waiter};
+use crate::outcomes::{AtEnd, Lesson, Received, ReceivedManyOrKept, Seen, Sent, SentManyOrKept};
 use crate::pass::Pass;
+use crate::protocol::Protocol;
 use crate::ringer::Ringer;
 use channel_core::{Core, OutOfMemory, RecvError, SendError, Ticket, TryRecvError, TrySendError};
 use futures::task::Poll;
-use ruled_mutex::Unruled;
 use std::alloc::Global;
 use std::collections::VecDeque;
 use std::sync::Wait;
 
 // ## Under the lock
-impl<T: Drop> RuledChannel<T, (), Unruled> {
+impl<T: Drop, V, P: Protocol<T, V>> RuledChannel<T, V, P> {
     // Polls a receive of up to `limit` messages. The room for those that are there is asked for
     // first.
     fn poll_recv_many<C, W: Waiter<C>>(
@@ -245,9 +248,9 @@ fn take_front<T: Drop>(from: &mut VecDeque<T, Global>) -> T
 }
 
 // ## With the lock
-impl<T: Drop> RuledChannel<T, (), Unruled> {
+impl<T: Drop, V, P: Protocol<T, V>> RuledChannel<T, V, P> {
     /// Sends messages from the front of `from` in one step, as many as fit, up to `limit`. The rest
-    /// stays there.
+    /// stays there. The rule has to allow a send of each in `from` after those before it.
     ///
     /// The answer is how many were sent. A full or closed channel is answered by an error. The
     /// outer error says that memory was refused for the first message.
@@ -257,17 +260,27 @@ impl<T: Drop> RuledChannel<T, (), Unruled> {
     /// let mut from = VecDeque::new(rt.alloc());
     /// from.push_back(5)?;
     /// from.push_back(6)?;
-    /// assert_eq!(rt; channel.try_send_many(&rt, &mut pass, &mut from, 2)?, Ok(1));
+    /// let sent =
+    ///     channel.try_send_many_as::<Unruled, Unruled, _>(&rt, &mut pass, &mut from, 2)?;
+    /// assert_eq!(rt; sent, Ok(1));
     /// ```
-    pub fn try_send_many<R: Wait>(
+    pub fn try_send_many_as<M: Sent<T, V>, L: Lesson<T, V>, R: Wait>(
         &self,
         rt: &R,
-        pass: &mut Pass<T, ()>,
+        pass: &mut Pass<T, V>,
         from: &mut VecDeque<T, Global>,
         limit: usize,
     ) -> Result<Result<usize, TrySendError<()>>, OutOfMemory>
-        requires { IsPassOf self.now pass.old }
+        requires own { IsPassOf self.now pass.old }
+        requires rule { SendsMany (P.holds (key_of self.now)) (number pass.old) (view pass.old)
+            from.old.items M.then }
+        requires lesson { Learns (P.holds (key_of self.now)) (number pass.old) (view pass.old)
+            (L.fact (view pass.old)) }
         ensures own { IsPassOf self.now pass.new × IsSamePass pass.old pass.new }
+        ensures sent { TellsEach M.then (view pass.old) (take (moved_count result) from.old.items)
+            (view pass.new) }
+        ensures refused { IfOk result (λ answer. IfErr answer (Refuses (L.fact (view pass.old)))) }
+        ensures memory { OnErr result (LearnedOf IsUnbounded (L.fact (view pass.old))) }
         ensures limit { moved_count result ≤ limit }
         ensures within { moved_count result ≤ length from.old.items }
         ensures rest { from.new.items ≡ drop (moved_count result) from.old.items }
@@ -282,12 +295,12 @@ impl<T: Drop> RuledChannel<T, (), Unruled> {
         let mut bell = Ringer::new();
         let core = pass.lock.value_mut(&self.mutex, &held);
         let sent = send_round(core, from, limit, &mut bell);
-        self.give_back::<Unruled>(pass, held, bell);
+        self.give_back::<SentManyOrKept<M, L>>(pass, held, bell);
         sent
     }
 
     /// Takes up to `limit` messages in one step, the oldest first, and puts them after those in
-    /// `into`.
+    /// `into`. The rule has to allow so many receives, one after the other.
     ///
     /// The answer is how many came. If no message is held the error says whether the channel is
     /// closed. The outer error says that there was no memory in `into`, which is asked for before
@@ -298,17 +311,29 @@ impl<T: Drop> RuledChannel<T, (), Unruled> {
     /// let sent = channel.try_send_as::<Unruled, Unruled, _>(&rt, &mut pass, 5)?;
     /// assert_eq!(rt; sent, Ok(()));
     /// let mut into = Vec::new(rt.alloc());
-    /// assert_eq!(rt; channel.try_recv_many(&rt, &mut pass, &mut into, 2)?, Ok(1));
+    /// let got = channel
+    ///     .try_recv_many_as::<Unruled, Unruled, Unruled, _>(&rt, &mut pass, &mut into, 2)?;
+    /// assert_eq!(rt; got, Ok(1));
     /// ```
-    pub fn try_recv_many<R: Wait>(
+    pub fn try_recv_many_as<M: Received<T, V>, E: AtEnd<V>, L: Lesson<T, V>, R: Wait>(
         &self,
         rt: &R,
-        pass: &mut Pass<T, ()>,
+        pass: &mut Pass<T, V>,
         into: &mut Vec<T>,
         limit: usize,
     ) -> Result<Result<usize, TryRecvError>, OutOfMemory>
-        requires { IsPassOf self.now pass.old }
+        requires own { IsPassOf self.now pass.old }
+        requires rule { ReceivesMany (P.holds (key_of self.now)) (number pass.old) (view pass.old)
+            limit M.then }
+        requires end { Ends (P.holds (key_of self.now)) (number pass.old) (view pass.old) E.then }
+        requires lesson { Learns (P.holds (key_of self.now)) (number pass.old) (view pass.old)
+            (L.fact (view pass.old)) }
         ensures own { IsPassOf self.now pass.new × IsSamePass pass.old pass.new }
+        ensures received { IfOk result (λ answer. IfOk answer (λ count. TellsEach M.then
+            (view pass.old) (take count (found pass.new).messages) (view pass.new))) }
+        ensures refused { IfOk result (λ answer. IfErr answer (FindsNone E.then
+            (L.fact (view pass.old)) (view pass.old) (view pass.new))) }
+        ensures memory { OnErr result (view pass.new ≡ view pass.old) }
         ensures limit { moved_count result ≤ limit }
         ensures kept { take (length into.old.items) into.new.items ≡ into.old.items }
         ensures count { length into.new.items ≡ length into.old.items + moved_count result }
@@ -325,7 +350,7 @@ impl<T: Drop> RuledChannel<T, (), Unruled> {
         let mut bell = Ringer::new();
         let core = pass.lock.value_mut(&self.mutex, &held);
         let taken = take_round(core, into, limit, &mut bell);
-        self.give_back::<Unruled>(pass, held, bell);
+        self.give_back::<ReceivedManyOrKept<M, E, L>>(pass, held, bell);
         taken
     }
 
@@ -340,24 +365,41 @@ impl<T: Drop> RuledChannel<T, (), Unruled> {
     /// from.push_back(5)?;
     /// let (mut ticket, mut sleeper) = (None, Sleeper::new());
     /// let polled = channel
-    ///     .send_many_or_wait(&rt, &mut pass, &mut from, 2, &mut ticket, &mut sleeper, &mut ());
+    ///     .send_many_or_wait_as::<Unruled, Unruled, _, _, _>(
+    ///         &rt, &mut pass, &mut from, 2, &mut ticket, &mut sleeper, &mut (),
+    ///     );
     /// assert_eq!(rt; polled, Ok(Poll::Ready(Ok(1))));
     /// Ticket::destroy_none(ticket);
     /// ```
-    pub fn send_many_or_wait<C, W: Waiter<C>, R: Wait>(
+    pub fn send_many_or_wait_as<M, L, R, C, W>(
         &self,
         rt: &R,
-        pass: &mut Pass<T, ()>,
+        pass: &mut Pass<T, V>,
         from: &mut VecDeque<T, Global>,
         limit: usize,
         ticket: &mut Option<Ticket>,
         waiter: &mut W,
         cx: &mut C,
     ) -> Result<Poll<Result<usize, SendError<()>>>, OutOfMemory>
+    where
+        M: Sent<T, V>,
+        L: Lesson<T, V>,
+        R: Wait,
+        W: Waiter<C>,
         requires own { IsPassOf self.now pass.old }
+        requires rule { SendsMany (P.holds (key_of self.now)) (number pass.old) (view pass.old)
+            from.old.items M.then }
+        requires lesson { Learns (P.holds (key_of self.now)) (number pass.old) (view pass.old)
+            (L.fact (view pass.old)) }
         requires some { 0 < length from.old.items }
         requires limited { 0 < limit }
         ensures own { IsPassOf self.now pass.new × IsSamePass pass.old pass.new }
+        ensures sent { TellsEach M.then (view pass.old) (take (polled_count result) from.old.items)
+            (view pass.new) }
+        ensures refused { IfOk result (λ poll. IfReady poll (λ sent. OnErr sent
+            (LearnedOf IsClosed (L.fact (view pass.old))))) }
+        ensures full { OnWait result (LearnedOf IsFull (L.fact (view pass.old))) }
+        ensures memory { OnErr result (WantsToSend (L.fact (view pass.old))) }
         ensures sends { IfOk result (λ poll. IfReady poll (λ sent. OnOk sent
             (0 < polled_count result))) }
         ensures limit { polled_count result ≤ limit }
@@ -384,7 +426,7 @@ impl<T: Drop> RuledChannel<T, (), Unruled> {
         let mut bell = Ringer::new();
         let core = pass.lock.value_mut(&self.mutex, &held);
         let polled = self.poll_send_many(core, from, limit, ticket, waiter, cx, &mut bell);
-        self.give_back::<Unruled>(pass, held, bell);
+        self.give_back::<SentManyOrKept<M, L>>(pass, held, bell);
         polled
     }
 
@@ -401,23 +443,40 @@ impl<T: Drop> RuledChannel<T, (), Unruled> {
     /// let mut into = Vec::new(rt.alloc());
     /// let (mut ticket, mut sleeper) = (None, Sleeper::new());
     /// let polled = channel
-    ///     .recv_many_or_wait(&rt, &mut pass, &mut into, 2, &mut ticket, &mut sleeper, &mut ());
+    ///     .recv_many_or_wait_as::<Unruled, Unruled, _, _, _>(
+    ///         &rt, &mut pass, &mut into, 2, &mut ticket, &mut sleeper, &mut (),
+    ///     );
     /// assert_eq!(rt; polled, Ok(Poll::Ready(1)));
     /// Ticket::destroy_none(ticket);
     /// ```
-    pub fn recv_many_or_wait<C, W: Waiter<C>, R: Wait>(
+    pub fn recv_many_or_wait_as<M, E, R, C, W>(
         &self,
         rt: &R,
-        pass: &mut Pass<T, ()>,
+        pass: &mut Pass<T, V>,
         into: &mut Vec<T>,
         limit: usize,
         ticket: &mut Option<Ticket>,
         waiter: &mut W,
         cx: &mut C,
     ) -> Result<Poll<usize>, OutOfMemory>
+    where
+        M: Received<T, V>,
+        E: AtEnd<V>,
+        R: Wait,
+        W: Waiter<C>,
         requires own { IsPassOf self.now pass.old }
+        requires rule { ReceivesMany (P.holds (key_of self.now)) (number pass.old) (view pass.old)
+            limit M.then }
+        requires end { Ends (P.holds (key_of self.now)) (number pass.old) (view pass.old) E.then }
         requires limited { 0 < limit }
         ensures own { IsPassOf self.now pass.new × IsSamePass pass.old pass.new }
+        ensures received { IfOk result (λ poll. IfReady poll (λ count. 0 < count → TellsEach M.then
+            (view pass.old) (take count (found pass.new).messages) (view pass.new))) }
+        ensures end { IfOk result (λ poll. IfReady poll (λ count. count ≡ 0
+            → E.then (view pass.old) (view pass.new))) }
+        ensures empty { OnWait result ((view pass.new ≡ view pass.old)
+            × LearnedOf IsEmpty (Fitted P.holds (view pass.old))) }
+        ensures memory { OnErr result (view pass.new ≡ view pass.old) }
         ensures limit { IfOk result (λ poll. IfReady poll (λ count. count ≤ limit)) }
         ensures kept { take (length into.old.items) into.new.items ≡ into.old.items }
         ensures count { IfOk result (λ poll. IfReady poll (λ count. length into.new.items
@@ -445,7 +504,7 @@ impl<T: Drop> RuledChannel<T, (), Unruled> {
         let mut bell = Ringer::new();
         let core = pass.lock.value_mut(&self.mutex, &held);
         let polled = self.poll_recv_many(core, into, limit, ticket, waiter, cx, &mut bell);
-        self.give_back::<Unruled>(pass, held, bell);
+        self.give_back::<ReceivedManyOrKept<M, E, Seen<P>>>(pass, held, bell);
         polled
     }
 }

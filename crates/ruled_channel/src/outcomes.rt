@@ -1,7 +1,7 @@
 //! What each answer tells.
 ghost use Rattle.std.specs.Prelude.{◌≡◌, Bool, Option};
 ghost use Rattle.ruled_channel.specs.State.{State};
-ghost use Rattle.ruled_channel.specs.Guarded.{forced_or_kept, received_or_kept, sent_or_kept, turned, shut, kept};
+ghost use Rattle.ruled_channel.specs.Guarded.{forced_or_kept, kept, received_many_or_kept, received_or_kept, sent_many_or_kept, sent_or_kept, shut, turned};
 
 use crate::mark::Mark;
 use crate::protocol::Protocol;
@@ -139,6 +139,14 @@ impl<T, V, M: Sent<T, V>, L: Lesson<T, V>> Outcome<Core<T, Mark>, V> for SentOrK
     ghost then = { sent_or_kept M.then L.fact };
 }
 
+pub(crate) struct SentManyOrKept<M, L> {
+    tells: PhantomData<(M, L)>,
+}
+
+impl<T, V, M: Sent<T, V>, L: Lesson<T, V>> Outcome<Core<T, Mark>, V> for SentManyOrKept<M, L> {
+    ghost then = { sent_many_or_kept M.then L.fact };
+}
+
 pub(crate) struct ForcedOrKept<M, L> {
     tells: PhantomData<(M, L)>,
 }
@@ -158,6 +166,19 @@ where
     L: Lesson<T, V>,
 {
     ghost then = { received_or_kept M.then E.then L.fact };
+}
+
+pub(crate) struct ReceivedManyOrKept<M, E, L> {
+    tells: PhantomData<(M, E, L)>,
+}
+
+impl<T, V, M, E, L> Outcome<Core<T, Mark>, V> for ReceivedManyOrKept<M, E, L>
+where
+    M: Received<T, V>,
+    E: AtEnd<V>,
+    L: Lesson<T, V>,
+{
+    ghost then = { received_many_or_kept M.then E.then L.fact };
 }
 
 pub(crate) struct Turned<M> {

@@ -1,13 +1,13 @@
 -- Each move keeps the rule.
 use Rattle.std.proofs.Common.{◌≡◌, ◌≢◌, ℕ, ◌+◌, zero, suc, Bool, not, ◌||◌, true, false, true≢false, Option, List, [], ◌∷◌, ◌++◌, length, set, sym, refl, ap, ◌∙◌, subst, ⊎_elim, append_assoc, arith}
 use Rattle.std.proofs.lemmas.Bool.{or_cases}
-use Rattle.std.proofs.lemmas.List.{append-nil, length-append}
+use Rattle.std.proofs.lemmas.List.{append-nil, length-append, set-set}
 use Rattle.std.proofs.lemmas.List.Folds.{list_any-append}
 use Rattle.std.specs.List.{flat_map, list_any}
 use mathlib.Core.Option.{some, some-ne-none, some-injective}
 use lib.ListN.{get_elem?}
 use Rattle.atomic_table.proofs.Lists.{at_set, at_snoc}
-use Rattle.ruled_channel.proofs.Views.{Each as All, each_set as all_set}
+use Rattle.ruled_channel.proofs.Views.{Each as All, at_same, each_set as all_set}
 use Rattle.ruled_channel.specs.State.{State, new_state, holding, joined}
 use Rattle.ruled_channel.specs.Rule.{Sends, Forces, Receives, Closes, Ends, Forks, Merges, Learns}
 use Rattle.ruled_channel_rules.specs.declared.log.Log.{Log}
@@ -58,16 +58,6 @@ module _ {T : Type 0} where
   set_other (x ∷ xs) zero (suc j) a b n = refl
   set_other (x ∷ xs) (suc i) zero a b n = refl
   set_other (x ∷ xs) (suc i) (suc j) a b n = ap (λ (l : List (Log T)). x ∷ l) (set_other xs i j a b (λ e. n (ap suc e)))
-
-  set_twice : (views : List (Log T)) (i : ℕ) (a b : Log T) → set (set views i a) i b ≡ set views i b
-  set_twice [] i a b = refl
-  set_twice (x ∷ xs) zero a b = refl
-  set_twice (x ∷ xs) (suc i) a b = ap (λ (l : List (Log T)). x ∷ l) (set_twice xs i a b)
-
-  at_same : (views : List (Log T)) (i : ℕ) (a b : Log T) → get_elem? views i ≡ some b → get_elem? (set views i a) i ≡ some a
-  at_same [] i a b e = absurd (some-ne-none b (sym e))
-  at_same (x ∷ xs) zero a b e = refl
-  at_same (x ∷ xs) (suc i) a b e = at_same xs i a b e
 
   at_other : (views : List (Log T)) (i j : ℕ) (a b : Log T) → j ≢ i → get_elem? views j ≡ some b → get_elem? (set views i a) j ≡ some b
   at_other [] i j a b n e = e
@@ -209,7 +199,7 @@ module _ {T : Type 0} where
     λ d rest state views full h at.
         let r = receives pass v ys gots got d rest state views full.1 h at in
         let s = sends_open pass r.0 m xs sents (ap (λ (x : Log T). x.sent) r.2 ∙ is) (holding rest state) (set views pass r.0) full.0.0 r.1 (at_same views pass r.0 v at) in
-        (s.0, subst (IsWhole (holding (rest ++ m ∷ []) state)) (set_twice views pass r.0 s.0) s.1, s.2 ∙ ap (λ (x : Log T). with_sent x m) r.2),
+        (s.0, subst (IsWhole (holding (rest ++ m ∷ []) state)) (set-set views pass r.0 s.0) s.1, s.2 ∙ ap (λ (x : Log T). with_sent x m) r.2),
   )
 
   -- a view that changes in what it has found alone
