@@ -65,6 +65,13 @@ module _ {T V W : Type 0} (core held now : Channel T W) (shows : core ≡ held) 
     sends_want messages (Ok answer) joins wanted = tt
     sends_want messages (Err error) joins wanted = (state_of core, wanted, none messages joins)
 
+    is_full_then : (messages : List T) → now.messages ≡ core.messages ++ take 0 messages → (all : List T) (closed full : Bool) → 0 < length all → core.closed ≡ closed → is_channel_full core ≡ full
+        → counted_send 0 (send_poll (slice_get all 0) closed full) ≡ Pending → LearnedOf IsFull (fact v)
+    is_full_then messages joins [] closed full some was filled e = absurd (omega arith)
+    is_full_then messages joins (m ∷ rest) true full some was filled e = absurd (true≢false (ap is_ready e))
+    is_full_then messages joins (m ∷ rest) false true some was filled e = (state_of core, (was, filled), none messages joins)
+    is_full_then messages joins (m ∷ rest) false false some was filled e = absurd (true≢false (ap is_ready e))
+
     -- of a poll of them
     module _ {E : Type 0} (messages : List T) (result : Result (Poll (Result ℕ (SendError (Unit {0})))) E) (some : 0 < length messages)
         (joins : now.messages ≡ core.messages ++ take (polled_count result) messages)
@@ -90,12 +97,7 @@ module _ {T V W : Type 0} (core held now : Channel T W) (shows : core ≡ held) 
             → IfOk result (λ poll. poll ≡ counted_send (polled_count result) (send_poll (slice_get messages 0) core.closed (is_channel_full core)))
             → OnWait result (LearnedOf IsFull (fact v))
         go (Ok (Ready answer)) joins reply = tt
-        go (Ok Pending) joins reply = is_full_then messages core.closed (is_channel_full core) some refl refl (sym reply) where
-          is_full_then : (all : List T) (closed full : Bool) → 0 < length all → core.closed ≡ closed → is_channel_full core ≡ full → counted_send 0 (send_poll (slice_get all 0) closed full) ≡ Pending → LearnedOf IsFull (fact v)
-          is_full_then [] closed full some was filled e = absurd (omega arith)
-          is_full_then (m ∷ rest) true full some was filled e = absurd (true≢false (ap is_ready e))
-          is_full_then (m ∷ rest) false true some was filled e = (state_of core, (was, filled), none messages joins)
-          is_full_then (m ∷ rest) false false some was filled e = absurd (true≢false (ap is_ready e))
+        go (Ok Pending) joins reply = is_full_then messages joins messages core.closed (is_channel_full core) some refl refl (sym reply)
         go (Err error) joins reply = tt
 
       pub poll_wants : OnErr result (GrowsWithMessages core ⊎ (send_poll (slice_get messages 0) core.closed (is_channel_full core) ≡ Pending)) → OnErr result (WantsToSend (fact v))
@@ -104,12 +106,7 @@ module _ {T V W : Type 0} (core held now : Channel T W) (shows : core ≡ held) 
             → OnErr result (GrowsWithMessages core ⊎ (send_poll (slice_get messages 0) core.closed (is_channel_full core) ≡ Pending)) → OnErr result (WantsToSend (fact v))
         go (Ok answer) joins wanted = tt
         go (Err error) joins (inl grows) = inl (state_of core, grows, none messages joins)
-        go (Err error) joins (inr waits) = inr (is_full_then messages core.closed (is_channel_full core) some refl refl waits) where
-          is_full_then : (all : List T) (closed full : Bool) → 0 < length all → core.closed ≡ closed → is_channel_full core ≡ full → send_poll (slice_get all 0) closed full ≡ Pending → LearnedOf IsFull (fact v)
-          is_full_then [] closed full some was filled e = absurd (omega arith)
-          is_full_then (m ∷ rest) true full some was filled e = absurd (true≢false (ap is_ready e))
-          is_full_then (m ∷ rest) false true some was filled e = (state_of core, (was, filled), none messages joins)
-          is_full_then (m ∷ rest) false false some was filled e = absurd (true≢false (ap is_ready e))
+        go (Err error) joins (inr waits) = inr (is_full_then messages joins messages core.closed (is_channel_full core) some refl refl (ap (counted_send 0) waits))
 
   module _ (at_end : V → V → Type 0) (told : received_many_or_kept then at_end fact v' held now w) where
     got : received_many_or_kept then at_end fact v core now w
