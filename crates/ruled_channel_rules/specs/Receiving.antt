@@ -8,7 +8,7 @@ use Rattle.channel_core.specs.declared.errors.TryRecvError.TheVariants.{Empty, C
 use Rattle.ruled_channel.specs.declared.channel.RuledChannel.{RuledChannel}
 use Rattle.ruled_channel.specs.declared.mark.Mark.{Mark}
 use Rattle.ruled_channel.specs.declared.pass.Pass.{Pass}
-use Rattle.ruled_channel.specs.Steps.{HasMade as HasPassMade}
+use Rattle.ruled_channel.specs.Steps.{HasMade as HasPassMade, HasMadeWith, HasReceived as HasPassReceived, receive_given_up}
 use Rattle.ruled_channel_rules.specs.declared.log.Log.{Log}
 use Rattle.ruled_channel_rules.specs.declared.log.Whole.{Whole}
 use Rattle.ruled_channel_rules.specs.declared.handles.Channel.{Channel}
@@ -31,6 +31,14 @@ module _ {T : Type 0} where
   abbrev pub HasMade : (CoreChannel T Mark → Change T Mark) → Receiver T → Type 0
   HasMade step r = HasPassMade step r.pass
 
+  -- that was a receive, and this its answer
+  abbrev pub HasReceived : Result T RecvError → Receiver T → Type 0
+  HasReceived answer r = HasPassReceived answer r.pass
+
+  -- by that it left the list in which it waited, if it did, and its notice went on
+  abbrev pub HasGivenUp : Receiver T → Type 0
+  HasGivenUp r = HasMadeWith receive_given_up r.pass
+
   -- what a receiver has got more is what a list has more at its end
   abbrev pub HasAdded : Receiver T → List T → Receiver T → List T → Type 0
   HasAdded old before new after =
@@ -42,7 +50,8 @@ module _ {T : Type 0} where
       → Receiver T × Result (Result T RecvError) OutOfMemory → Type 0
   TellsReceived channel r out =
       IsReceiverOf channel out.0
-      × IfOk out.1 (λ answer. IfOk answer (λ message. got_by out.0 ≡ got_by r ++ message ∷ [])
+      × IfOk out.1 (λ answer. HasReceived answer out.0
+      × IfOk answer (λ message. got_by out.0 ≡ got_by r ++ message ∷ [])
       × IfErr answer (λ _. (got_by out.0 ≡ got_by r) × (has_ended out.0 ≡ true)))
       × IfErr out.1 (λ _. IsAsItWas r out.0)
       × (receiver_closed out.0 ≡ receiver_closed r)

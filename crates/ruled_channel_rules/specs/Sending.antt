@@ -7,7 +7,7 @@ use Rattle.ruled_channel.specs.declared.channel.RuledChannel.{RuledChannel}
 use Rattle.ruled_channel.specs.declared.mark.Mark.{Mark}
 use Rattle.ruled_channel.specs.declared.pass.Pass.{Pass}
 use Rattle.ruled_channel.specs.Sending.{MaySend as MayPoll, GivesSent}
-use Rattle.ruled_channel.specs.Steps.{HasMade as HasPassMade}
+use Rattle.ruled_channel.specs.Steps.{HasMade as HasPassMade, HasMadeWith, HasSent as HasPassSent, send_given_up}
 use Rattle.ruled_channel_rules.specs.declared.log.Log.{Log}
 use Rattle.ruled_channel_rules.specs.declared.handles.Channel.{Channel}
 use Rattle.ruled_channel_rules.specs.declared.handles.Sender.{Sender}
@@ -23,13 +23,22 @@ module _ {T : Type 0} where
   abbrev pub HasMade : (CoreChannel T Mark → Change T Mark) → Sender T → Type 0
   HasMade step s = HasPassMade step s.pass
 
+  -- that was a send of the message, and this its answer
+  abbrev pub HasSent : T → Result (Unit {0}) (SendError T) → Sender T → Type 0
+  HasSent m answer s = HasPassSent m answer s.pass
+
+  -- by that it left the list in which it waited, if it did, and its notice went on
+  abbrev pub HasGivenUp : Sender T → Type 0
+  HasGivenUp s = HasMadeWith send_given_up s.pass
+
   -- The sender comes back, and has sent the message; or it has not, and the message comes back too.
   -- It has closed nothing.
   abbrev pub TellsSent : Channel T → Sender T → T
       → Sender T × Result (Result (Unit {0}) (SendError T)) (NoMemory T) → Type 0
   TellsSent channel s m out =
       IsSenderOf channel out.0
-      × IfOk out.1 (λ answer. IfOk answer (λ _. sent_by out.0 ≡ sent_by s ++ m ∷ [])
+      × IfOk out.1 (λ answer. HasSent m answer out.0
+      × IfOk answer (λ _. sent_by out.0 ≡ sent_by s ++ m ∷ [])
       × IfErr answer (λ error. (error.0 ≡ m) × (sent_by out.0 ≡ sent_by s)))
       × IfErr out.1 (λ error. (error.0 ≡ m) × (sent_by out.0 ≡ sent_by s))
       × (sender_closed out.0 ≡ sender_closed s)

@@ -1,9 +1,9 @@
 //! Sends that displace the oldest message of a full channel.
-ghost use Rattle.std.specs.Prelude.{◌≡◌, [], not, true, false, IfOk, IfErr, OnErr};
+ghost use Rattle.std.specs.Prelude.{◌≡◌, [], not, true, false, IfOk, IfErr, OnErr, OnOk};
 ghost use Rattle.channel_core.specs.Tables.{force_send_answer};
-ghost use Rattle.channel_core.specs.Channel.{GrowsWithMessages, is_channel_full, oldest};
+ghost use Rattle.channel_core.specs.Channel.{GrowsWithMessages, closing, force_sent, is_channel_full, oldest, unchanged};
 ghost use Rattle.ruled_channel_rules.specs.Handles.{IsHubOf, IsForceSenderOf, displaced_by, force_closed, force_found, forced_by, known};
-ghost use Rattle.ruled_channel_rules.specs.Forcing.{HasForced, IsAsItWas};
+ghost use Rattle.ruled_channel_rules.specs.Forcing.{HasForced, HasMade, IsAsItWas};
 ghost use Rattle.ruled_channel_rules.specs.Whole.{force_sender_log, one_force_sender_more, together};
 
 use crate::handles::{Channel, Hub};
@@ -57,7 +57,9 @@ impl<T: Drop> ForceSender<T> {
         ensures reply { IfOk result (λ answer. answer
             ≡ force_send_answer (force_found self.new).closed
             (is_channel_full (force_found self.new)) (oldest (force_found self.new)) message) }
+        ensures step { OnOk result (HasMade (force_sent message) self.new) }
         ensures wanted { OnErr result (GrowsWithMessages (force_found self.new)) }
+        ensures unchanged { OnErr result (HasMade unchanged self.new) }
     {
         let ruled = &channel.ruled;
         ruled.force_send_as::<Whole, Unruled, R>(rt, &mut self.pass, message)
@@ -79,6 +81,7 @@ impl<T: Drop> ForceSender<T> {
         ensures closed { force_closed self.new ≡ true }
         ensures again { force_closed self.old ≡ true → result ≡ false }
         ensures reply { result ≡ not (force_found self.new).closed }
+        ensures step { HasMade closing self.new }
     {
         channel.ruled.close_as::<Whole, R>(rt, &mut self.pass)
     }

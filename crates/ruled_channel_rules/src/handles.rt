@@ -3,7 +3,7 @@ ghost use Rattle.std.specs.Prelude.{◌≡◌, ◌<◌, ◌≤◌, [], ◌∷◌
 ghost use Rattle.std.specs.Prelude.{IsPermutation};
 ghost use Rattle.std.specs.List.{flat_map};
 ghost use Rattle.channel_core.specs.Tables.{try_recv_answer, try_send_answer};
-ghost use Rattle.channel_core.specs.Channel.{GrowsWithMessages, is_channel_full, oldest};
+ghost use Rattle.channel_core.specs.Channel.{GrowsWithMessages, closing, is_channel_full, oldest, received, sent, unchanged};
 ghost use Rattle.ruled_channel_rules.specs.Handles.{IsHubOf, known, capacity_of};
 ghost use Rattle.ruled_channel_rules.specs.Whole.{hub_log};
 
@@ -121,6 +121,7 @@ impl<T: Drop> Channel<T> {
 
 impl<T: Drop> Sender<T> {
     ghost use Rattle.ruled_channel_rules.specs.Handles.{IsSenderOf, sent_by, sender_closed, sender_found};
+    ghost use Rattle.ruled_channel_rules.specs.Sending.{HasGivenUp, HasMade, HasSent};
     ghost use Rattle.channel_core.specs.Errors.{message_of};
     ghost use Rattle.ruled_channel_rules.specs.SendingEach.{TellsSentAll};
 
@@ -150,6 +151,8 @@ impl<T: Drop> Sender<T> {
         ensures memory { IfErr result
             (λ error. (error.0 ≡ message) × (sent_by self.new ≡ sent_by self.old)) }
         ensures closed { sender_closed self.new ≡ sender_closed self.old }
+        ensures step { IfOk result (λ answer. HasSent message answer self.new) }
+        ensures given_up { OnErr result (HasGivenUp self.new) }
     {
         let ruled = &channel.ruled;
         ruled.send_blocking_as::<Whole, Unruled, R>(rt, &mut self.pass, message)
@@ -182,7 +185,9 @@ impl<T: Drop> Sender<T> {
         ensures reply { IfOk result (λ answer. answer
             ≡ try_send_answer (sender_found self.new).closed
             (is_channel_full (sender_found self.new)) message) }
+        ensures step { OnOk result (HasMade (sent message) self.new) }
         ensures wanted { OnErr result (GrowsWithMessages (sender_found self.new)) }
+        ensures unchanged { OnErr result (HasMade unchanged self.new) }
     {
         let ruled = &channel.ruled;
         ruled.try_send_as::<Whole, Unruled, R>(rt, &mut self.pass, message)
@@ -236,6 +241,7 @@ impl<T: Drop> Sender<T> {
         ensures closed { sender_closed self.new ≡ true }
         ensures again { sender_closed self.old ≡ true → result ≡ false }
         ensures reply { result ≡ not (sender_found self.new).closed }
+        ensures step { HasMade closing self.new }
     {
         channel.ruled.close_as::<Whole, R>(rt, &mut self.pass)
     }
@@ -243,7 +249,7 @@ impl<T: Drop> Sender<T> {
 
 impl<T: Drop> Receiver<T> {
     ghost use Rattle.ruled_channel_rules.specs.Handles.{IsReceiverOf, got_by, has_ended, receiver_closed, receiver_found};
-    ghost use Rattle.ruled_channel_rules.specs.Receiving.{IsAsItWas, FoundNone, HasAdded};
+    ghost use Rattle.ruled_channel_rules.specs.Receiving.{FoundNone, HasAdded, HasGivenUp, HasMade, HasReceived, IsAsItWas};
 
     /// Takes the oldest message, and waits while there is none. The inner error says that the
     /// channel is closed and empty, the outer that memory was refused.
@@ -270,6 +276,8 @@ impl<T: Drop> Receiver<T> {
             (λ _. (got_by self.new ≡ got_by self.old) × (has_ended self.new ≡ true))) }
         ensures memory { IfErr result (λ _. IsAsItWas self.old self.new) }
         ensures closed { receiver_closed self.new ≡ receiver_closed self.old }
+        ensures step { IfOk result (λ answer. HasReceived answer self.new) }
+        ensures given_up { OnErr result (HasGivenUp self.new) }
     {
         let ruled = &channel.ruled;
         ruled.recv_blocking_as::<Whole, Whole, R>(rt, &mut self.pass)
@@ -294,6 +302,7 @@ impl<T: Drop> Receiver<T> {
         ensures closed { receiver_closed self.new ≡ receiver_closed self.old }
         ensures reply { result
             ≡ try_recv_answer (oldest (receiver_found self.new)) (receiver_found self.new).closed }
+        ensures step { HasMade received self.new }
     {
         let ruled = &channel.ruled;
         ruled.try_recv_as::<Whole, Whole, Unruled, R>(rt, &mut self.pass)
@@ -359,6 +368,7 @@ impl<T: Drop> Receiver<T> {
         ensures again { receiver_closed self.old ≡ true → result ≡ false }
         ensures ended { has_ended self.old ≡ true → result ≡ false }
         ensures reply { result ≡ not (receiver_found self.new).closed }
+        ensures step { HasMade closing self.new }
     {
         channel.ruled.close_as::<Whole, R>(rt, &mut self.pass)
     }
