@@ -3,6 +3,7 @@ pub mod Many
 pub mod Answered
 pub mod Steps
 mod Told
+mod InMutex
 mod Taken
 pub mod Same
 pub mod Dropped

@@ -1,9 +1,20 @@
 -- The rule over what the lock guards, and what each step tells of that. No public clause cites this
 -- module.
-use Rattle.std.specs.Prelude.{◌≡◌, ◌≢◌, Bool, true, false, not, ◌&&◌, List, [], ◌∷◌, ◌++◌, drop, Option, Some, None}
+use Rattle.std.specs.Prelude.{◌≡◌, ◌≢◌, ℕ, Bool, true, false, not, ◌&&◌, List, [], ◌∷◌, ◌++◌, drop, map, Option, Some, None, IfSome}
+use mathlib.Core.Option.{some}
+use lib.ListN.{get_elem?}
 use Rattle.channel_core.specs.Channel.{Channel, is_channel_full, oldest}
 use Rattle.ruled_channel.specs.State.{State, state_of}
 use Rattle.ruled_channel.specs.Rule.{TellsEach}
+use Rattle.ruled_channel.specs.declared.protocol.Known.{Known}
+
+-- what the mutex knows of a pass
+abbrev pub knowing : {V : Type 0} → V → Option (Option ℕ) → Known V
+knowing v capacity = record { view = v; capacity = capacity }
+
+-- the caller's part of that
+abbrev pub caller_view : {V : Type 0} → Known V → V
+caller_view known = known.view
 
 module _ {T V : Type 0} where
   -- what a receive tells, by the oldest message and by whether the channel is closed
@@ -14,11 +25,25 @@ module _ {T V : Type 0} where
   received_of then at_end fact v state None false w = (w ≡ v) × fact v state
 
 module _ {T V W : Type 0} where
-  -- the caller's rule holds of what the channel is, and there is a place for one message
-  abbrev pub within : (State T → List V → Type 0) → Channel T W → List V → Type 0
-  within holds channel views = (channel.capacity ≢ Some 0) × holds (state_of channel) views
+  -- the caller's rule holds of what the channel is, which has this capacity, of one message at least
+  abbrev pub within : Option ℕ → (State T → List V → Type 0) → Channel T W → List V → Type 0
+  within capacity holds channel views =
+      (channel.capacity ≡ capacity) × (capacity ≢ Some 0) × holds (state_of channel) views
+
+  -- so it does of the callers' views, and whichever pass knows a capacity knows this one
+  abbrev pub guarded : Option ℕ → (State T → List V → Type 0) → Channel T W → List (Known V) → Type 0
+  guarded capacity holds channel views =
+      within capacity holds channel (map caller_view views)
+      × ((pass : ℕ) (v : Known V) → get_elem? views pass ≡ some v
+      → IfSome v.capacity (λ known. known ≡ capacity))
 
   -- of the view, of the channel that was found, of what was made of it, and of the view after
+
+  abbrev pub at_capacity : (V → Channel T W → Channel T W → V → Type 0) → Known V → Channel T W
+      → Channel T W → Known V → Type 0
+  at_capacity then v found now w =
+      then v.view found now w.view × (w.capacity ≡ v.capacity)
+      × IfSome v.capacity (λ known. found.capacity ≡ known)
 
   abbrev pub turned : (V → V → Type 0) → V → Channel T W → Channel T W → V → Type 0
   turned then v found now w = then v w

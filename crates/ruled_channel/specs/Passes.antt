@@ -1,18 +1,22 @@
 -- What a clause says of a channel's passes and of its answers.
-use Rattle.std.specs.Prelude.{◌≡◌, ◌⊎◌, ⊤, ℕ, Option, Result, Ok, Err}
+use Rattle.std.specs.Prelude.{◌≡◌, ◌⊎◌, ⊤, ℕ, Option, Some, Result, Ok, Err}
+use Rattle.channel_core.specs.Channel.{Channel}
 use Rattle.channel_core.specs.declared.errors.TrySendError.{TrySendError}
 use Rattle.channel_core.specs.declared.errors.TrySendError.TheVariants.{Full, Closed}
 use Rattle.channel_core.specs.declared.errors.TryRecvError.{TryRecvError}
 use Rattle.channel_core.specs.declared.errors.TryRecvError.TheVariants.{Empty, Closed}
-use Rattle.ruled_mutex.specs.Passes.{IsPassOf as IsMutexPass, IsSamePass as IsSameMutexPass, key_of as key_of_mutex, number as number_in_mutex, view as view_in_mutex}
+use Rattle.ruled_mutex.specs.declared.pass.Held.{Held}
+use Rattle.ruled_mutex.specs.Passes.{Holds as HoldsMutex, IsPassOf as IsMutexPass, IsSamePass as IsSameMutexPass, key_of as key_of_mutex, number as number_in_mutex, view as view_in_mutex}
 use Rattle.ruled_channel.specs.declared.channel.RuledChannel.{RuledChannel}
+use Rattle.ruled_channel.specs.declared.mark.Mark.{Mark}
 use Rattle.ruled_channel.specs.declared.pass.Pass.{Pass}
 use Rattle.ruled_channel.specs.State.{State, IsClosed, IsEmpty, IsFull, IsUnbounded}
+use Rattle.ruled_channel.specs.Steps.{found}
 
 module _ {T V P K : Type 0} where
   -- what it was made with
   abbrev pub key_of : RuledChannel T V P K → K
-  key_of channel = key_of_mutex channel.mutex
+  key_of channel = (key_of_mutex channel.mutex).caller.value
 
   -- how many messages it can hold, if there is a bound
   abbrev pub capacity_of : RuledChannel T V P K → Option ℕ
@@ -22,14 +26,28 @@ module _ {T V P K : Type 0} where
   abbrev pub source_of : RuledChannel T V P K → ℕ
   source_of channel = channel.source.id
 
-  -- it is a pass of this channel
+  -- it is a pass of this channel, and does not hold its lock
+  abbrev pub IsFree : RuledChannel T V P K → Pass T V → Type 0
+  IsFree channel pass = IsMutexPass channel.mutex pass.lock
+
+  -- it knows the channel's capacity
+  abbrev pub KnowsCapacity : RuledChannel T V P K → Pass T V → Type 0
+  KnowsCapacity channel pass = (view_in_mutex pass.lock).capacity ≡ Some channel.capacity
+
+  -- it is one that knows the capacity, which is that of the channel that its last step found
   abbrev pub IsPassOf : RuledChannel T V P K → Pass T V → Type 0
-  IsPassOf channel pass = IsMutexPass channel.mutex pass.lock
+  IsPassOf channel pass =
+      IsFree channel pass × KnowsCapacity channel pass
+      × ((found pass).capacity ≡ channel.capacity)
+
+  -- it is a pass of this channel that holds its lock
+  abbrev pub Holds : RuledChannel T V P K → Held (Channel T Mark) → Pass T V → Type 0
+  Holds channel held pass = HoldsMutex channel.mutex held pass.lock × KnowsCapacity channel pass
 
 module _ {T V : Type 0} where
   -- what the pass knows
   abbrev pub view : Pass T V → V
-  view pass = view_in_mutex pass.lock
+  view pass = (view_in_mutex pass.lock).view
 
   -- the place of its view among the views of all passes
   abbrev pub number : Pass T V → ℕ

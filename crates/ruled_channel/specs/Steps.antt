@@ -6,18 +6,23 @@ use Rattle.channel_core.specs.declared.errors.SendError.{SendError}
 use Rattle.channel_core.specs.Tables.{recv_poll, send_poll}
 use Rattle.channel_core.specs.declared.state.Group.TheVariants.{Closeds, Receives, Sends}
 use Rattle.channel_core.specs.Channel.{Channel, Change, given_up, is_channel_full, new_channel, oldest, polled_receive, polled_send}
-use Rattle.ruled_mutex.specs.Passes.{found as found_when_held}
+use Rattle.ruled_mutex.specs.Passes.{found as found_when_held, view as view_in_mutex}
 use Rattle.ruled_channel.specs.declared.look.Status.{Status}
 use Rattle.ruled_channel.specs.declared.mark.Mark.{Mark}
 use Rattle.ruled_channel.specs.declared.pass.Pass.{Pass}
 use Rattle.ruled_channel.specs.declared.pass.Step.{Step}
 use Rattle.ruled_channel.specs.Rung.{in_turn_of_waking}
 
--- the same of a step; a pass that has made none tells nothing by these
+-- the capacity that a pass knows, if it knows one
+abbrev capacity_by : Option (Option ℕ) → Option ℕ
+capacity_by None = None
+capacity_by (Some capacity) = capacity
+
+-- the same of a step; of a pass that has made none, a new channel of that capacity
 module _ {T : Type 0} where
-  abbrev found_by : Option (Step T) → Channel T Mark
-  found_by None = new_channel None
-  found_by (Some step) = found_when_held step.held.value
+  abbrev found_by : Option (Option ℕ) → Option (Step T) → Channel T Mark
+  found_by capacity None = new_channel (capacity_by capacity)
+  found_by capacity (Some step) = found_when_held step.held.value
 
   abbrev made_by : Option (Step T) → Channel T Mark
   made_by None = new_channel None
@@ -30,7 +35,7 @@ module _ {T : Type 0} where
 module _ {T V : Type 0} where
   -- the channel that it found
   abbrev pub found : Pass T V → Channel T Mark
-  found pass = found_by pass.last.value
+  found pass = found_by (view_in_mutex pass.lock).capacity pass.last.value
 
   -- what it made of that
   abbrev pub made : Pass T V → Channel T Mark

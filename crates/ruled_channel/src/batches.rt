@@ -291,7 +291,7 @@ impl<T: Drop, V, P: Protocol<T, V>> RuledChannel<T, V, P> {
         ensures wanted { OnErr result (GrowsWithMessages (found pass.new)) }
         ensures none { result ≡ Ok (Ok 0) → (limit ≡ 0) ⊎ (from.old.items ≡ []) }
     {
-        let held = self.mutex.lock(rt, &mut pass.lock);
+        let held = self.lock(rt, pass);
         let mut bell = Ringer::new();
         let core = pass.lock.value_mut(&self.mutex, &held);
         let sent = send_round(core, from, limit, &mut bell);
@@ -346,7 +346,7 @@ impl<T: Drop, V, P: Protocol<T, V>> RuledChannel<T, V, P> {
         ensures wanted { OnErr result (vec_capacity into.old
             < vec_len into.old + taken_count limit (found pass.new)) }
     {
-        let held = self.mutex.lock(rt, &mut pass.lock);
+        let held = self.lock(rt, pass);
         let mut bell = Ringer::new();
         let core = pass.lock.value_mut(&self.mutex, &held);
         let taken = take_round(core, into, limit, &mut bell);
@@ -422,7 +422,7 @@ impl<T: Drop, V, P: Protocol<T, V>> RuledChannel<T, V, P> {
             ⊎ (send_poll (slice_get from.old.items 0) (found pass.new).closed
             (is_channel_full (found pass.new)) ≡ Pending)) }
     {
-        let held = self.mutex.lock(rt, &mut pass.lock);
+        let held = self.lock(rt, pass);
         let mut bell = Ringer::new();
         let core = pass.lock.value_mut(&self.mutex, &held);
         let polled = self.poll_send_many(core, from, limit, ticket, waiter, cx, &mut bell);
@@ -500,7 +500,7 @@ impl<T: Drop, V, P: Protocol<T, V>> RuledChannel<T, V, P> {
             ((recv_poll (oldest (found pass.new)) (found pass.new).closed ≡ Pending)
             ⊎ (vec_capacity into.old < vec_len into.old + taken_count limit (found pass.new))) }
     {
-        let held = self.mutex.lock(rt, &mut pass.lock);
+        let held = self.lock(rt, pass);
         let mut bell = Ringer::new();
         let core = pass.lock.value_mut(&self.mutex, &held);
         let polled = self.poll_recv_many(core, into, limit, ticket, waiter, cx, &mut bell);

@@ -1,6 +1,7 @@
 //! The channel and its calls that don't wait for others' messages.
 ghost use Rattle.std.specs.Prelude.{◌≡◌, [], ◌∷◌, not, Some, IfOk, IfErr, OnOk, OnErr};
 ghost use Rattle.channel_core.specs.Errors.{message_of};
+ghost use Rattle.ruled_mutex.specs.Passes.{key_of as key_of_mutex};
 ghost use Rattle.ruled_channel.specs.State.{IsClosed, IsUnbounded, new_state};
 ghost use Rattle.ruled_channel.specs.Rule.{Sends, Forces, Receives, Ends, Closes, Forks, Merges, Learns};
 
@@ -10,12 +11,13 @@ use crate::outcomes::{
     SentOrKept, Shut,
 };
 use crate::pass::Pass;
-use crate::protocol::{Protocol, Ruled};
+use crate::protocol::{ChannelKey, Cut, Glue, Known, Protocol, Ruled};
 use crate::ringer::Ringer;
 use channel_core::{Core, NoMemory, OutOfMemory, SendError, TryRecvError, TrySendError};
 use futures::task::Source;
 use ruled_mutex::{Join, RuledMutex, Split, Unruled};
 use std::alloc::Global;
+use std::snapshot::Snapshot;
 use std::sync::Wait;
 
 /// A channel under the rule `P`, over messages `T` and over the view `V` of each pass. Threads share
@@ -26,12 +28,13 @@ use std::sync::Wait;
 /// drop(channel);
 /// ```
 pub struct RuledChannel<T, V, P: Protocol<T, V>> {
-    pub(crate) mutex: RuledMutex<Core<T, Mark>, V, Ruled<P>>,
+    pub(crate) mutex: RuledMutex<Core<T, Mark>, Known<V>, Ruled<P>>,
     // That of the core.
     pub(crate) capacity: Option<usize>,
     pub(crate) alloc: Global,
     // What tasks wait for.
     pub(crate) source: Source,
+    ghost shape: { capacity ≡ (key_of_mutex mutex).capacity },
 }
 
 impl<T: Drop, V, P: Protocol<T, V>> Drop for RuledChannel<T, V, P> {
@@ -60,7 +63,7 @@ impl<T: Drop> RuledChannel<T, (), Unruled> {
     pub fn pass(&self) -> Pass<T, ()>
         ensures { IsPassOf self.now result }
     {
-        Pass::new(self.mutex.pass())
+        self.admit(self.mutex.pass())
     }
 }
 
@@ -85,7 +88,11 @@ impl<T: Drop, V, P: Protocol<T, V>> RuledChannel<T, V, P> {
         ensures capacity { IfOk result (λ r. capacity_of r.0 ≡ core.capacity) }
     {
         let capacity = core.capacity();
-        let Ok((mutex, pass)) = RuledMutex::new_with_key(alloc, core, key) else {
+        let key = ChannelKey {
+            caller: Snapshot::of(key),
+            capacity,
+        };
+        let Ok((mutex, pass)) = RuledMutex::new_with_key(alloc, core, &key) else {
             return Err(OutOfMemory);
         };
         let channel = RuledChannel {
@@ -94,7 +101,8 @@ impl<T: Drop, V, P: Protocol<T, V>> RuledChannel<T, V, P> {
             alloc,
             source: Source::new(),
         };
-        Ok((channel, Pass::new(pass)))
+        let pass = channel.admit(pass);
+        Ok((channel, pass))
     }
 
     /// How many messages it can hold, and none if there is no bound.
@@ -162,7 +170,8 @@ impl<T: Drop, V, P: Protocol<T, V>> RuledChannel<T, V, P> {
         ensures left { view pass.new ≡ M.left (view pass.old) }
         ensures right { IsPassOf self.now result × (view result ≡ M.right (view pass.old)) }
     {
-        Pass::new(self.mutex.another::<M>(&mut pass.lock))
+        let lock = self.mutex.another::<Cut<M>>(&mut pass.lock);
+        self.admit(lock)
     }
 
     /// Takes in the view of another pass, which is used up.
@@ -180,7 +189,8 @@ impl<T: Drop, V, P: Protocol<T, V>> RuledChannel<T, V, P> {
         ensures own { IsPassOf self.now pass.new × IsSamePass pass.old pass.new }
         ensures both { view pass.new ≡ M.both (view pass.old) (view other) }
     {
-        self.mutex.absorb::<M>(&mut pass.lock, other.into_lock());
+        let other = other.into_lock();
+        self.mutex.absorb::<Glue<M>>(&mut pass.lock, other);
     }
 
     /// Puts a message last. A full or closed channel hands it back. The outer error, with the
@@ -218,7 +228,7 @@ impl<T: Drop, V, P: Protocol<T, V>> RuledChannel<T, V, P> {
         ensures wanted { OnErr result (GrowsWithMessages (found pass.new)) }
         ensures unchanged { OnErr result (HasMade unchanged pass.new) }
     {
-        let held = self.mutex.lock(rt, &mut pass.lock);
+        let held = self.lock(rt, pass);
         let mut bell = Ringer::new();
         let core = pass.lock.value_mut(&self.mutex, &held);
         let answer = core.try_send(message, &mut bell);
@@ -264,7 +274,7 @@ impl<T: Drop, V, P: Protocol<T, V>> RuledChannel<T, V, P> {
         ensures wanted { OnErr result (GrowsWithMessages (found pass.new)) }
         ensures unchanged { OnErr result (HasMade unchanged pass.new) }
     {
-        let held = self.mutex.lock(rt, &mut pass.lock);
+        let held = self.lock(rt, pass);
         let mut bell = Ringer::new();
         let core = pass.lock.value_mut(&self.mutex, &held);
         let answer = core.force_send(message, &mut bell);
@@ -300,7 +310,7 @@ impl<T: Drop, V, P: Protocol<T, V>> RuledChannel<T, V, P> {
             ≡ try_recv_answer (oldest (found pass.new)) (found pass.new).closed }
         ensures step { HasMade received pass.new }
     {
-        let held = self.mutex.lock(rt, &mut pass.lock);
+        let held = self.lock(rt, pass);
         let mut bell = Ringer::new();
         let core = pass.lock.value_mut(&self.mutex, &held);
         let answer = core.try_recv(&mut bell);
@@ -324,7 +334,7 @@ impl<T: Drop, V, P: Protocol<T, V>> RuledChannel<T, V, P> {
         ensures reply { result ≡ not (found pass.new).closed }
         ensures step { HasMade closing pass.new }
     {
-        let held = self.mutex.lock(rt, &mut pass.lock);
+        let held = self.lock(rt, pass);
         let mut bell = Ringer::new();
         let core = pass.lock.value_mut(&self.mutex, &held);
         let was_open = core.close(&mut bell);

@@ -43,7 +43,7 @@ impl<T: Drop, V, P: Protocol<T, V>> RuledChannel<T, V, P> {
           senders = count_added result channel.senders;
         })) pass.new }
     {
-        let held = self.mutex.lock(rt, &mut pass.lock);
+        let held = self.lock(rt, pass);
         let core = pass.lock.value_mut(&self.mutex, &held);
         let is_counted = core.add_sender();
         if is_counted {
@@ -75,7 +75,7 @@ impl<T: Drop, V, P: Protocol<T, V>> RuledChannel<T, V, P> {
           receivers = count_added result channel.receivers;
         })) pass.new }
     {
-        let held = self.mutex.lock(rt, &mut pass.lock);
+        let held = self.lock(rt, pass);
         let core = pass.lock.value_mut(&self.mutex, &held);
         let is_counted = core.add_receiver();
         if is_counted {
@@ -110,7 +110,7 @@ impl<T: Drop, V, P: Protocol<T, V>> RuledChannel<T, V, P> {
           senders = count_upgraded result channel.senders;
         })) pass.new }
     {
-        let held = self.mutex.lock(rt, &mut pass.lock);
+        let held = self.lock(rt, pass);
         let core = pass.lock.value_mut(&self.mutex, &held);
         let upgrade = core.upgrade_sender();
         match upgrade {
@@ -147,7 +147,7 @@ impl<T: Drop, V, P: Protocol<T, V>> RuledChannel<T, V, P> {
           receivers = count_upgraded result channel.receivers;
         })) pass.new }
     {
-        let held = self.mutex.lock(rt, &mut pass.lock);
+        let held = self.lock(rt, pass);
         let core = pass.lock.value_mut(&self.mutex, &held);
         let upgrade = core.upgrade_receiver();
         match upgrade {
@@ -175,7 +175,7 @@ impl<T: Drop, V, P: Protocol<T, V>> RuledChannel<T, V, P> {
         ensures reply { result ≡ (((found pass.new).senders == 1) && not (found pass.new).closed) }
         ensures step { HasMade sender_dropped pass.new }
     {
-        let held = self.mutex.lock(rt, &mut pass.lock);
+        let held = self.lock(rt, pass);
         let mut bell = Ringer::new();
         let core = pass.lock.value_mut(&self.mutex, &held);
         let has_closed = core.drop_sender(&mut bell);
@@ -229,7 +229,7 @@ impl<T: Drop, V, P: Protocol<T, V>> RuledChannel<T, V, P> {
         ensures reply { result ≡ (((found pass.new).receivers == 1) && not (found pass.new).closed) }
         ensures step { HasMade (receiver_dropped_by stream.old) pass.new }
     {
-        let held = self.mutex.lock(rt, &mut pass.lock);
+        let held = self.lock(rt, pass);
         let mut bell = Ringer::new();
         let core = pass.lock.value_mut(&self.mutex, &held);
         let has_closed = core.drop_receiver(stream, &mut bell);

@@ -73,7 +73,7 @@ impl<T: Drop, V, P: Protocol<T, V>> RuledChannel<T, V, P> {
         ensures reply { result ≡ status_of (found pass.new) }
         ensures step { HasMade unchanged pass.new }
     {
-        let held = self.mutex.lock(rt, &mut pass.lock);
+        let held = self.lock(rt, pass);
         let core = pass.lock.value_mut(&self.mutex, &held);
         let status = Status {
             is_closed: core.is_closed(),
@@ -101,7 +101,7 @@ impl<T: Drop, V, P: Protocol<T, V>> RuledChannel<T, V, P> {
             × (result.told ≡ told_count (list_of group (found pass.new))) }
         ensures step { HasMade unchanged pass.new }
     {
-        let held = self.mutex.lock(rt, &mut pass.lock);
+        let held = self.lock(rt, pass);
         let core = pass.lock.value_mut(&self.mutex, &held);
         let waiters = Waiters {
             waiting: core.waiting(group),

@@ -1,10 +1,10 @@
 //! What each answer tells.
 ghost use Rattle.std.specs.Prelude.{◌≡◌, Bool, Option};
 ghost use Rattle.ruled_channel.specs.State.{State};
-ghost use Rattle.ruled_channel.specs.Guarded.{forced_or_kept, kept, received_many_or_kept, received_or_kept, sent_many_or_kept, sent_or_kept, shut, turned};
+ghost use Rattle.ruled_channel.specs.Guarded.{at_capacity, forced_or_kept, kept, received_many_or_kept, received_or_kept, sent_many_or_kept, sent_or_kept, shut, turned};
 
 use crate::mark::Mark;
-use crate::protocol::Protocol;
+use crate::protocol::{Known, Protocol};
 use channel_core::Core;
 use ruled_mutex::{Outcome, Unruled};
 use std::marker::PhantomData;
@@ -127,6 +127,15 @@ impl<T, V, P: Protocol<T, V>> Lesson<T, V> for Seen<P> {
     ghost use Rattle.ruled_channel.specs.Rule.{Fitted};
 
     ghost fact = { Fitted P.holds };
+}
+
+// An outcome of what the lock guards, and that the capacity there is the one that the pass knows.
+pub(crate) struct AtCapacity<O> {
+    outcome: PhantomData<O>,
+}
+
+impl<T, V, O: Outcome<Core<T, Mark>, V>> Outcome<Core<T, Mark>, Known<V>> for AtCapacity<O> {
+    ghost then = { at_capacity O.then };
 }
 
 // The same, of what the lock guards.

@@ -1,19 +1,21 @@
 //! What a thread has of a channel, and how it gives the lock back.
-ghost use Rattle.std.specs.Prelude.{◌≡◌};
+ghost use Rattle.std.specs.Prelude.{◌≡◌, Some};
 ghost use Rattle.crossbeam_utils.specs.Register.{TurnsAt};
-ghost use Rattle.ruled_mutex.specs.Passes.{found as found_by, made as made_of, Holds};
+ghost use Rattle.ruled_mutex.specs.Passes.{IsPassOf as IsMutexPass, found as found_by, made as made_of, view as view_in_mutex};
 ghost use Rattle.ruled_channel.specs.Guarded.{within};
-ghost use Rattle.ruled_channel.specs.Passes.{IsPassOf, IsSamePass, key_of, number, view};
+ghost use Rattle.ruled_channel.specs.Passes.{Holds, IsPassOf, IsSamePass, key_of, number, view};
 ghost use Rattle.ruled_channel.specs.Steps.{found, made, woken};
 ghost use Rattle.ruled_channel.specs.Rung.{in_turn_of_waking};
 
 use crate::channel::RuledChannel;
 use crate::mark::{Mark, Woken};
-use crate::protocol::Protocol;
+use crate::outcomes::AtCapacity;
+use crate::protocol::{Known, Protocol};
 use crate::ringer::Ringer;
 use channel_core::Core;
 use ruled_mutex::{Held, Outcome};
 use std::snapshot::Snapshot;
+use std::sync::Wait;
 
 /// What one thread knows of a channel: its view, and the last step that it made there. It has no
 /// bytes.
@@ -24,7 +26,7 @@ use std::snapshot::Snapshot;
 /// drop(channel);
 /// ```
 pub struct Pass<T, V> {
-    pub(crate) lock: ruled_mutex::Pass<Core<T, Mark>, V>,
+    pub(crate) lock: ruled_mutex::Pass<Core<T, Mark>, Known<V>>,
     // Only `give_back` writes it.
     last: Snapshot<Option<Step<T>>>,
 }
@@ -39,19 +41,8 @@ pub struct Step<T> {
 }
 
 impl<T, V> Pass<T, V> {
-    /// One that has made no step yet.
     #[inline(always)]
-    pub(crate) fn new(lock: ruled_mutex::Pass<Core<T, Mark>, V>) -> Pass<T, V>
-        ensures { result.lock ≡ lock }
-    {
-        Pass {
-            lock,
-            last: Snapshot::of(&None),
-        }
-    }
-
-    #[inline(always)]
-    pub(crate) fn into_lock(self) -> ruled_mutex::Pass<Core<T, Mark>, V>
+    pub(crate) fn into_lock(self) -> ruled_mutex::Pass<Core<T, Mark>, Known<V>>
         ensures { result ≡ self.lock }
     {
         let Pass { lock, last } = self;
@@ -67,6 +58,30 @@ impl<T, V> Drop for Pass<T, V> {
 }
 
 impl<T: Drop, V, P: Protocol<T, V>> RuledChannel<T, V, P> {
+    // A pass that has made no step yet.
+    #[inline(always)]
+    pub(crate) fn admit(&self, lock: ruled_mutex::Pass<Core<T, Mark>, Known<V>>) -> Pass<T, V>
+        requires own { IsMutexPass self.now.mutex lock }
+        requires knows { (view_in_mutex lock).capacity ≡ Some self.now.capacity }
+        ensures own { IsPassOf self.now result }
+        ensures view { view result ≡ (view_in_mutex lock).view }
+    {
+        Pass {
+            lock,
+            last: Snapshot::of(&None),
+        }
+    }
+
+    #[inline(always)]
+    pub(crate) fn lock<R: Wait>(&self, rt: &R, pass: &mut Pass<T, V>) -> Held<Core<T, Mark>>
+        requires { IsPassOf self.now pass.old }
+        ensures same { IsSamePass pass.old pass.new × (view pass.new ≡ view pass.old) }
+        ensures held { Holds self.now result pass.new
+            × (made_of result pass.new.lock ≡ found_by result) }
+    {
+        self.mutex.lock(rt, &mut pass.lock)
+    }
+
     // Gives the lock back by a step of the rule, and wakes whom the step told: each mark that the
     // bell was rung with.
     #[inline(always)]
@@ -76,9 +91,9 @@ impl<T: Drop, V, P: Protocol<T, V>> RuledChannel<T, V, P> {
         held: Held<Core<T, Mark>>,
         bell: Ringer,
     )
-        requires own { Holds self.now.mutex held pass.old.lock }
-        requires rule { TurnsAt (within (P.holds (key_of self.now))) (number pass.old)
-            (view pass.old)
+        requires own { Holds self.now held pass.old }
+        requires rule { TurnsAt (within (found_by held).capacity (P.holds (key_of self.now)))
+            (number pass.old) (view pass.old)
             (found_by held) (made_of held pass.old.lock) O.then }
         ensures own { IsPassOf self.now pass.new × IsSamePass pass.old pass.new }
         ensures rule { O.then (view pass.old) (found_by held) (made_of held pass.old.lock)
@@ -89,7 +104,7 @@ impl<T: Drop, V, P: Protocol<T, V>> RuledChannel<T, V, P> {
     {
         let made = Snapshot::of(pass.lock.value_mut(&self.mutex, &held));
         let found = Snapshot::of(&held);
-        self.mutex.unlock_as::<O>(&mut pass.lock, held);
+        self.mutex.unlock_as::<AtCapacity<O>>(&mut pass.lock, held);
         let woken = bell.wake_after(self, pass);
         let step = Step {
             held: found,

@@ -1,11 +1,12 @@
 //! The caller's rule.
-ghost use Rattle.std.specs.Prelude.{List};
+ghost use Rattle.std.specs.Prelude.{List, Some, None};
 ghost use Rattle.ruled_channel.specs.State.{State};
 
 use crate::mark::Mark;
 use channel_core::Core;
-use ruled_mutex::Unruled;
+use ruled_mutex::{Join, Split, Unruled};
 use std::marker::PhantomData;
+use std::snapshot::Snapshot;
 
 /// The caller's rule: over what the channel is, and what each pass knows. It names what it needs of
 /// the messages, the closed flag, the counts of senders and receivers, and the capacity. It may
@@ -48,19 +49,57 @@ pub trait Protocol<T, V> {
     ghost first: { Self.Key → V };
 }
 
-// The same, as a rule over what the lock guards.
+// What the mutex is made with: the caller's key, and the capacity.
+#[derive(Drop)]
+pub struct ChannelKey<K> {
+    pub(crate) caller: Snapshot<K>,
+    pub(crate) capacity: Option<usize>,
+}
+
+// What the mutex knows of a pass: the caller's view, and the capacity, which a pass that is used up
+// knows no more. No value of it is made.
+pub struct Known<V> {
+    pub view: V,
+    pub capacity: Option<Option<usize>>,
+}
+
+// The caller's rule, as one over what the lock guards.
 pub struct Ruled<P> {
     protocol: PhantomData<P>,
 }
 
-impl<T, V, P: Protocol<T, V>> ruled_mutex::Protocol<Core<T, Mark>, V> for Ruled<P> {
-    ghost use Rattle.ruled_channel.specs.Guarded.{within};
+impl<T, V, P: Protocol<T, V>> ruled_mutex::Protocol<Core<T, Mark>, Known<V>> for Ruled<P> {
+    ghost use Rattle.ruled_channel.specs.Guarded.{guarded, knowing};
 
-    type Key = P::Key;
+    type Key = ChannelKey<P::Key>;
 
-    ghost holds = { λ key. within (P.holds key) };
+    ghost holds = { λ key. guarded key.capacity (P.holds key.caller.value) };
 
-    ghost first = { P.first };
+    ghost first = { λ key. knowing (P.first key.caller.value) (Some key.capacity) };
+}
+
+pub(crate) struct Cut<M> {
+    split: PhantomData<M>,
+}
+
+impl<V, M: Split<V>> Split<Known<V>> for Cut<M> {
+    ghost use Rattle.ruled_channel.specs.Guarded.{knowing};
+
+    ghost left = { λ v. knowing (M.left v.view) v.capacity };
+
+    ghost right = { λ v. knowing (M.right v.view) v.capacity };
+}
+
+pub(crate) struct Glue<M> {
+    join: PhantomData<M>,
+}
+
+impl<V, M: Join<V>> Join<Known<V>> for Glue<M> {
+    ghost use Rattle.ruled_channel.specs.Guarded.{knowing};
+
+    ghost both = { λ v w. knowing (M.both v.view w.view) v.capacity };
+
+    ghost spent = { knowing M.spent None };
 }
 
 impl<T> Protocol<T, ()> for Unruled {

@@ -4,7 +4,7 @@
 //! without an allocation, until the lock is free, so that who is woken doesn't run into it; further
 //! marks are woken under the lock.
 ghost use Rattle.std.specs.Prelude.{◌≡◌, []};
-ghost use Rattle.ruled_channel.specs.Passes.{IsPassOf};
+ghost use Rattle.ruled_channel.specs.Passes.{IsFree};
 ghost use Rattle.ruled_channel.specs.Rung.{in_turn_of_waking};
 
 use crate::channel::RuledChannel;
@@ -57,7 +57,7 @@ impl Ringer {
         _channel: &RuledChannel<T, V, P>,
         _pass: &Pass<T, V>,
     ) -> Woken
-        requires free { IsPassOf _channel.now _pass.now }
+        requires free { IsFree _channel.now _pass.now }
         ensures { result ≡ in_turn_of_waking self }
     {
         let Self { first, mut woken } = self;

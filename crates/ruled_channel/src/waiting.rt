@@ -310,7 +310,7 @@ impl<T: Drop, V, P: Protocol<T, V>> RuledChannel<T, V, P> {
             (is_channel_full (found pass.new)) ≡ Pending)) }
         ensures unpolled { OnErr result ((ticket.new ≡ ticket.old) × HasMade unchanged pass.new) }
     {
-        let held = self.mutex.lock(rt, &mut pass.lock);
+        let held = self.lock(rt, pass);
         let mut bell = Ringer::new();
         let mut waiting = Some(message);
         let core = pass.lock.value_mut(&self.mutex, &held);
@@ -384,7 +384,7 @@ impl<T: Drop, V, P: Protocol<T, V>> RuledChannel<T, V, P> {
             (recv_poll (oldest (found pass.new)) (found pass.new).closed ≡ Pending) }
         ensures unpolled { OnErr result ((ticket.new ≡ ticket.old) × HasMade unchanged pass.new) }
     {
-        let held = self.mutex.lock(rt, &mut pass.lock);
+        let held = self.lock(rt, pass);
         let mut bell = Ringer::new();
         let core = pass.lock.value_mut(&self.mutex, &held);
         let polled = self.poll_recv(core, ticket, waiter, cx, &mut bell);
@@ -450,7 +450,7 @@ impl<T: Drop, V, P: Protocol<T, V>> RuledChannel<T, V, P> {
             (next_poll (oldest (found pass.new)) (found pass.new).closed ≡ Pending) }
         ensures unpolled { OnErr result ((ticket.new ≡ ticket.old) × HasMade unchanged pass.new) }
     {
-        let held = self.mutex.lock(rt, &mut pass.lock);
+        let held = self.lock(rt, pass);
         let mut bell = Ringer::new();
         let core = pass.lock.value_mut(&self.mutex, &held);
         let polled = self.poll_next(core, ticket, waiter, cx, &mut bell);
@@ -501,7 +501,7 @@ impl<T: Drop, V, P: Protocol<T, V>> RuledChannel<T, V, P> {
         ensures wanted { OnErr result (0 < (found pass.new).receivers) }
         ensures unpolled { OnErr result ((ticket.new ≡ ticket.old) × HasMade unchanged pass.new) }
     {
-        let held = self.mutex.lock(rt, &mut pass.lock);
+        let held = self.lock(rt, pass);
         let core = pass.lock.value_mut(&self.mutex, &held);
         let polled = self.poll_closed(core, ticket, waiter, cx);
         self.give_back::<Kept<Seen<P>>>(pass, held, Ringer::new());
@@ -530,7 +530,7 @@ impl<T: Drop, V, P: Protocol<T, V>> RuledChannel<T, V, P> {
         ensures ticket { ticket.new ≡ None }
         ensures step { HasMade (given_up group ticket.old) pass.new }
     {
-        let held = self.mutex.lock(rt, &mut pass.lock);
+        let held = self.lock(rt, pass);
         let mut bell = Ringer::new();
         let core = pass.lock.value_mut(&self.mutex, &held);
         let _left = core.withdraw(group, ticket, &mut bell);
