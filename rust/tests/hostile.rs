@@ -325,18 +325,21 @@ thread_local! {
     static LATE: RefCell<Option<Late>> = const { RefCell::new(None) };
 }
 
+#[cfg(target_os = "linux")]
 #[test]
 fn a_thread_that_ends_may_block() {
     let ((s, r), (back_s, back_r)) = (unbounded(), unbounded());
+    let (tell, told) = std::sync::mpsc::channel();
     let ends = thread::spawn(move || {
+        tell.send(support::own_folder()).unwrap();
         // What a thread asks for first it gives up last: after whatever blocking needs.
         LATE.with(|late| late.replace(None));
         assert_eq!(back_s.send_blocking(r.recv_blocking().unwrap()), Ok(()));
         LATE.with(|late| late.replace(Some(Late(r, back_s))));
     });
+    let folder = told.recv().unwrap();
     for message in 0..2 {
-        // So that the thread waits most likely; what it answers doesn't depend on it.
-        thread::sleep(Duration::from_millis(20));
+        support::await_sleep(&folder, 1);
         assert_eq!(s.send_blocking(message), Ok(()));
         assert_eq!(back_r.recv_blocking(), Ok(message));
     }

@@ -335,43 +335,23 @@ fn force_send_keeps_the_newest() {
     assert!((0..4).all(|_| r.try_recv().is_ok()));
 }
 
+#[cfg(target_os = "linux")]
 #[test]
 fn an_unpark_that_comes_during_a_blocking_call_is_its_callers() {
     let (s, r) = unbounded();
+    let (tell, told) = std::sync::mpsc::channel();
     let waiting = thread::spawn(move || {
+        tell.send(support::own_folder()).unwrap();
         assert_eq!(r.recv_blocking(), Ok(1));
         let start = std::time::Instant::now();
         thread::park_timeout(Duration::from_secs(20));
         start.elapsed()
     });
-    let_others_run();
+    support::await_sleep(&told.recv().unwrap(), 1);
     waiting.thread().unpark();
     let_others_run();
     s.try_send(1).unwrap();
     assert!(waiting.join().unwrap() < Duration::from_secs(10));
-}
-
-/// Returns once the thread of this name has slept for half a second: if anything wakes it, a busy
-/// system runs it sooner. It fails if that doesn't come in ten seconds.
-#[cfg(target_os = "linux")]
-fn await_sleep(thread: &std::path::Path) {
-    let look = || {
-        let status = std::fs::read_to_string(thread.join("status")).unwrap();
-        // Its state, and how often it gave its processor up.
-        let is_wanted = |line: &&str| line.starts_with("State") || line.starts_with("voluntary");
-        status.lines().filter(is_wanted).collect::<String>()
-    };
-    let mut asleep = 0;
-    for _ in 0..500 {
-        let before = look();
-        let_others_run();
-        let is_asleep = before.contains("sleeping") && before == look();
-        asleep = if is_asleep { asleep + 1 } else { 0 };
-        if asleep == 25 {
-            return;
-        }
-    }
-    panic!("it doesn't sleep");
 }
 
 #[cfg(target_os = "linux")]
@@ -393,10 +373,11 @@ fn threads_that_wait_sleep() {
         let (tell, told) = std::sync::mpsc::channel();
         let (other, other_r) = (s.clone(), r.clone());
         let waiting = thread::spawn(move || {
-            tell.send(std::fs::read_link("/proc/thread-self").unwrap()).unwrap();
+            tell.send(support::own_folder()).unwrap();
             wait(other, other_r);
         });
-        await_sleep(&std::path::Path::new("/proc").join(told.recv().unwrap()));
+        // Half a second: if anything wakes it, a busy system runs it sooner.
+        support::await_sleep(&told.recv().unwrap(), 25);
         s.close();
         waiting.join().unwrap();
     }

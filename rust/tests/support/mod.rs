@@ -1,4 +1,5 @@
-//! What the tests share: wakers that write down whom they woke, polls by hand, and random numbers.
+//! What the tests share: wakers that write down whom they woke, polls by hand, threads that sleep, and
+//! random numbers.
 // Each test file uses a part.
 #![allow(dead_code)]
 
@@ -87,6 +88,35 @@ pub fn poll_with<F: Future + ?Sized>(future: &mut Pin<Box<F>>, waker: &Waker) ->
 /// One poll of a pinned `future` with `waker`.
 pub fn poll_pinned<F: Future>(future: &mut Pin<&mut F>, waker: &Waker) -> Poll<F::Output> {
     future.as_mut().poll(&mut Context::from_waker(waker))
+}
+
+/// Where Linux tells of the thread that asks.
+#[cfg(target_os = "linux")]
+pub fn own_folder() -> std::path::PathBuf {
+    std::path::Path::new("/proc").join(std::fs::read_link("/proc/thread-self").unwrap())
+}
+
+/// Returns once a thread has slept for so many times 20 milliseconds, in a row. It fails if that
+/// doesn't come in ten seconds.
+#[cfg(target_os = "linux")]
+pub fn await_sleep(folder: &std::path::Path, times: usize) {
+    let look = || {
+        let status = std::fs::read_to_string(folder.join("status")).unwrap();
+        // Its state, and how often it gave its processor up.
+        let is_wanted = |line: &&str| line.starts_with("State") || line.starts_with("voluntary");
+        status.lines().filter(is_wanted).collect::<String>()
+    };
+    let mut asleep = 0;
+    for _ in 0..500 {
+        let before = look();
+        std::thread::sleep(std::time::Duration::from_millis(20));
+        let is_asleep = before.contains("sleeping") && before == look();
+        asleep = if is_asleep { asleep + 1 } else { 0 };
+        if asleep == times {
+            return;
+        }
+    }
+    panic!("it doesn't sleep");
 }
 
 /// Drawn numbers: the same for the same seed (SplitMix64).
