@@ -78,6 +78,7 @@ impl<T, V, P: Protocol<T, V>> ruled_mutex::Protocol<Core<T, Mark>, Known<V>> for
     ghost first = { λ key. knowing (P.first key.caller.value) (Some key.capacity) };
 }
 
+// The caller's split of a view, as one of what the mutex knows: both parts know the capacity.
 pub(crate) struct Cut<M> {
     split: PhantomData<M>,
 }
@@ -90,6 +91,7 @@ impl<V, M: Split<V>> Split<Known<V>> for Cut<M> {
     ghost right = { λ v. knowing (M.right v.view) v.capacity };
 }
 
+// The caller's join of two views, likewise. What is left of the pass that is used up knows none.
 pub(crate) struct Glue<M> {
     join: PhantomData<M>,
 }
