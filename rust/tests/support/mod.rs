@@ -90,14 +90,14 @@ pub fn poll_pinned<F: Future>(future: &mut Pin<&mut F>, waker: &Waker) -> Poll<F
     future.as_mut().poll(&mut Context::from_waker(waker))
 }
 
-/// Where Linux tells of the thread that asks.
+/// The folder below /proc of the thread that calls.
 #[cfg(target_os = "linux")]
 pub fn own_folder() -> std::path::PathBuf {
     std::path::Path::new("/proc").join(std::fs::read_link("/proc/thread-self").unwrap())
 }
 
-/// Returns once a thread has slept for so many times 20 milliseconds, in a row. It fails if that
-/// doesn't come in ten seconds.
+/// Returns once a thread has slept for so many times 20 milliseconds, in a row. It fails if that takes
+/// more than ten seconds.
 #[cfg(target_os = "linux")]
 pub fn await_sleep(folder: &std::path::Path, times: usize) {
     let look = || {
