@@ -19,6 +19,7 @@ those that had one, `breaks_a_proof` is set: the prover may find none for a chan
 contract, either.
 
 A change of a definition names a law, which is proved by hand. It is refused if that isn't proved.
+If the definitions themselves have an error then, it wasn't tried.
 
 A change may have a `clause`. Then its copy ensures that clause alone, and it is refused if a goal
 of that clause isn't proved. So no time goes into the other clauses.
@@ -26,13 +27,10 @@ of that clause isn't proved. So no time goes into the other clauses.
 The prover looks a second time for a proof that it could offer of each goal that it did not prove,
 unless an answer of the function has a hole. So a hole is put beside the answers.
 """
-import importlib.machinery
-import importlib.util
 import os
 import re
 import shutil
 import subprocess
-import sys
 import tempfile
 import threading
 from collections import Counter
@@ -48,6 +46,8 @@ VERDICT = re.compile(
 GOAL = re.compile(
     r'^note: (\S+):(\d+):\d+: (?:it is not proved|`search` found no proof).*?\(`([\w-]+)`\)', re.M
 )
+# A definition that the prover doesn't take.
+UNREAD = re.compile(r'^(?:\./)?specs/\S+:\d+:\d+: error.*', re.M)
 # How many run side by side, whatever crates they are of.
 TURNS = threading.BoundedSemaphore(len(os.sched_getaffinity(0)))
 # How many changes a copy of a crate has at most, so that no run takes much longer than others.
@@ -177,16 +177,6 @@ class Tried:
             if not self.is_local or (Path(file) == Path(self.file) and int(line) in self.lines)
             if of_clause.fullmatch(goal)
         }
-
-
-def toolchain():
-    """The command `rt` as a module, which knows with which words the prover is called."""
-    path = os.path.realpath(shutil.which('rt') or sys.exit('there is no rt on the path'))
-    loader = importlib.machinery.SourceFileLoader('rt', path)
-    module = importlib.util.module_from_spec(importlib.util.spec_from_loader('rt', loader))
-    loader.exec_module(module)
-    module.rtlib.guarded()  # its first call sets a signal's handler, which only the main thread may
-    return module.rtlib
 
 
 def stored_for(function, proofs):
@@ -358,6 +348,8 @@ class Trial:
         if len(mine) != 1:
             raise Refused(f'{change.function} is no name of one function')
         name, verdict, why = mine[0].groups()
+        if change.is_definition and (unread := UNREAD.search(said)):
+            raise Refused(unread[0])
         if change.is_definition and verdict != 'could not tell':
             return verdict == 'proved'
         stored = f'proofs/{name.replace("::", "/")}'
