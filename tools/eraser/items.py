@@ -4,7 +4,7 @@ import re
 from eraser.known import (
     BEFORE_NOT, BOUNDS, CLAUSES, CRATES, DERIVES, EVERYWHERE, FIRST, FORMATTER,
     GHOST_WORDS, ITEM_WORDS, LEFT_OUT, MACROS, NAMED, OWNERS, PATHS, REQUIRES, TAKEN, TEXT_TRAITS,
-    TRAITS, WRITER,
+    TRAITS, UNREACHED, WRITER,
 )
 from eraser.source import CLOSING
 
@@ -20,6 +20,8 @@ class Eraser:
         self.modules = []  # that the file names
         self.imported = set()  # paths that it imports
         self.everywhere = set()  # of EVERYWHERE, that the file uses
+        self.owner = []  # the type or trait whose block is read
+        self.met = set()  # of UNREACHED and REQUIRES, that the file has
 
     def file(self):
         source = self.source
@@ -164,7 +166,7 @@ class Eraser:
                 self.new_name(path.rpartition('::')[2], start)
             self.imported.add(path)
             target = self.target(path, start)
-            if target:
+            if target and self.whole(path) not in UNREACHED:
                 prefix, _, name = target.rpartition('::')
                 targets.setdefault(prefix, []).append(name)
         lines = [use_line(prefix, names) for prefix, names in targets.items()]
@@ -178,6 +180,15 @@ class Eraser:
             if not self.source.sees('}'):
                 self.source.take(',')
         return names
+
+    def whole(self, path):
+        """A path from its crate on."""
+        first, _, others = path.partition('::')
+        if first == 'crate':
+            return f'{self.source.crate}::{others}'
+        if first == 'super':
+            return '::'.join([self.source.crate, *self.source.module[:-1], others])
+        return self.path_of(path) if first in self.modules else path
 
     def target(self, path, at):
         """What a path is called in Rust, or None where only the prover reads it."""
@@ -224,18 +235,27 @@ class Eraser:
         self.source.take(';')
         return f'const{text};'
 
+    def if_reached(self, path, text):
+        """A text, or None if nothing reaches what has this path."""
+        if path not in UNREACHED:
+            return text
+        self.met.add(path)
+
     def data(self, word):
         """A struct or an enum."""
-        head = f'{word} {self.own_name()}{self.generics()}'
+        name = self.own_name()
+        head = f'{word} {name}{self.generics()}'
         if self.source.sees('{'):
-            return f'{head} {self.group()}'
-        fields = self.group() if self.source.sees('(') else ''
-        self.source.take(';')
-        return f'{head}{fields};'
+            text = f'{head} {self.group()}'
+        else:
+            fields = self.group() if self.source.sees('(') else ''
+            self.source.take(';')
+            text = f'{head}{fields};'
+        return self.if_reached(self.path_of(name), text)
 
     def trait(self):
         name = self.own_name()
-        return f'trait {name}{self.generics()} {self.block_of_items(name)}'
+        return f'trait {name}{self.generics()} {self.block_of_items(name, name)}'
 
     def implementation(self):
         start, generics = self.source.at, self.generics()
@@ -250,7 +270,10 @@ class Eraser:
             return self.source.skip_block()
         if trait and trait.partition('<')[0] not in TRAITS:
             self.source.refuse(f'an impl of the unknown trait `{trait}`', start)
-        return f'impl{generics} {subject} {self.block_of_items(trait)}'
+        block = self.block_of_items(trait, owner)
+        if not trait and not block.strip('{} \n'):
+            return None
+        return self.if_reached(self.path_of(owner), f'impl{generics} {subject} {block}')
 
     def model(self, start):
         """What a contract sees of a type. In it are ghost items alone."""
@@ -261,15 +284,18 @@ class Eraser:
             self.source.take('ghost')
             self.ghost()
 
-    def block_of_items(self, trait):
+    def block_of_items(self, trait, owner):
         self.source.take('{')
+        self.owner = [owner]
         items = self.items('}', trait)
+        self.owner = []
         self.source.take('}')
         return '{' + items + '}'
 
     def function(self, trait, is_reached):
         """A function, without its clauses. It may be reached by code that isn't proved."""
         name = self.source.take_word()
+        path = self.path_of(*self.owner, name)
         is_text = trait in TEXT_TRAITS and name == 'fmt'
         head = f'fn {name}{self.generics(is_text)}{self.parameters(is_text)}'
         if self.source.take_if('->'):
@@ -277,12 +303,11 @@ class Eraser:
         if self.source.take_if('where'):
             self.conditions()
         while self.source.sees(*CLAUSES):
-            self.clause(name, is_reached)
-        if self.source.take_if(';'):
-            return f'{head};'
-        return f'{head} {self.group()}'
+            self.clause(name, path, is_reached and path not in UNREACHED)
+        text = f'{head};' if self.source.take_if(';') else f'{head} {self.group()}'
+        return self.if_reached(path, text)
 
-    def clause(self, name, is_reached):
+    def clause(self, name, path, is_reached):
         """A clause of a function. What code by hand would have to keep must be known."""
         word = self.source.take()
         if not self.source.sees('{'):
@@ -291,8 +316,11 @@ class Eraser:
         start = self.source.at
         self.source.skip_block()
         text = ' '.join(self.source.text[start:self.source.at].split())
-        if word.text == 'requires' and is_reached and REQUIRES.get(self.path_of(name)) != text:
+        if word.text != 'requires' or not is_reached:
+            return
+        if REQUIRES.get(path) != text:
             self.source.refuse(f'`{name}` can be called by hand and requires {text}', word.start)
+        self.met.add(path)
 
     def parameters(self, is_text):
         start, text = self.source.at, self.group()

@@ -35,22 +35,36 @@ EVERYWHERE = {'Box': 'crate::shim::Box', 'Vec': 'crate::shim::Vec'}
 # Names that the eraser goes by: no item, parameter or import may have one, but for those of PATHS.
 TAKEN = {'Drop', 'Model', 'fmt', *EVERYWHERE}
 
-# The calls with a `requires` that code by hand could make, and the clause that the prover doesn't
-# check there. Those of private modules it can't name, and it has no waiting list of its own. What
+# The calls with a `requires` that code by hand could make, each by its type and name, and the clause
+# that the prover doesn't check there. Those of private modules it can't name, and it has no waiting list of its own. What
 # opens a ledger counts nothing in Rust.
 # A kind or a capacity of 0 makes no channel by hand: that panics, or is refused as a script. An
 # operation waits by hand if it was just found pending under the same lock.
 REQUIRES = {
-    'event_list::ends::put_last': '{ HasRoomFor entries.old 1 }',
-    'event_list::entries::insert': '{ HasRoomFor self.old 1 }',
-    'event_list::list::listen_anew': '{ IfSome ticket.old (λ key. told_flag self.old key ≡ None) }',
-    'event_list::list::steps::of': '{ Opens blank.name blank.parts L.name L.parts }',
-    'event_list::ticket::destroy_none': '{ place ≡ None }',
-    'channel_core::queue::bounded': '{ 0 < cap }',
-    'channel_core::state::bounded': '{ 0 < cap }',
-    'channel_core::state::polls::wait': '{ must_wait g self.old ≡ true }',
-    'channel_run::run::new': '{ HasPositiveCapacity kind }',
-    'channel_run::run::run_all': '{ HasPositiveCapacity kind }',
+    'event_list::ends::Ends::put_last': '{ HasRoomFor entries.old 1 }',
+    'event_list::entries::Entries::insert': '{ HasRoomFor self.old 1 }',
+    'event_list::list::WaitList::listen_anew':
+        '{ IfSome ticket.old (λ key. told_flag self.old key ≡ None) }',
+    'event_list::list::steps::Steps::of': '{ Opens blank.name blank.parts L.name L.parts }',
+    'event_list::ticket::Ticket::destroy_none': '{ place ≡ None }',
+    'channel_core::queue::Queue::bounded': '{ 0 < cap }',
+    'channel_core::state::Core::bounded': '{ 0 < cap }',
+    'channel_core::state::polls::Core::wait': '{ must_wait g self.old ≡ true }',
+    'channel_run::run::Run::new': '{ HasPositiveCapacity kind }',
+}
+
+# What neither the Rust crate nor its run reaches. Dead code that isn't here fails the run's build.
+UNREACHED = {
+    'channel_core::errors::CloneError', 'channel_core::errors::MakeError',
+    'channel_core::state::Core::told', 'channel_core::state::polls::Core::cancel_stream',
+    'channel_core::state::polls::Core::must_wait', 'channel_run::names::Names::len',
+    'channel_run::operations::Operation::borrows_receiver',
+    'channel_run::operations::Operation::borrows_sender', 'channel_run::run::End',
+    'channel_run::run::RunError', 'channel_run::run::run_all', 'event_list::list::WaitList::again',
+    'event_list::list::WaitList::again_counted', 'event_list::list::WaitList::cancel',
+    'event_list::list::WaitList::cancel_counted', 'event_list::list::WaitList::contains',
+    'event_list::list::WaitList::remove', 'event_list::list::WaitList::remove_counted',
+    'event_list::list::WaitList::told',
 }
 
 # Types that own all that their `drop` changes. So in Rust it is enough that their parts go.

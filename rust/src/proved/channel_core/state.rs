@@ -180,12 +180,6 @@ impl<T, W> Core<T, W> {
         self.lists.of(g).len()
     }
 
-    /// How many in the group are told.
-    #[inline]
-    pub fn told(&self, g: Group) -> usize {
-        self.lists.of(g).told()
-    }
-
     /// The key of the first one in the group, if somebody there is told.
     #[inline]
     pub fn first_told(&self, g: Group) -> Option<usize> {

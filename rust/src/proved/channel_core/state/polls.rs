@@ -179,17 +179,6 @@ impl<T, W> Core<T, W> {
         Poll::Ready(())
     }
 
-    /// Whether one of the group has to wait: a send on an open and full channel, a receive or a
-    /// stream on an open and empty one, a closed operation as long as there is a receiver.
-    #[inline(always)]
-    pub fn must_wait(&self, g: Group) -> bool {
-        match g {
-            Group::Sends => self.is_full() && !self.closed,
-            Group::Receives | Group::Streams => self.is_empty() && !self.closed,
-            Group::Closeds => self.receivers != 0,
-        }
-    }
-
     /// One that can't go on waits: its entry in the group's list waits again, or a new one goes
     /// last. It is untold then, and holds `w`.
     ///
@@ -224,12 +213,6 @@ impl<T, W> Core<T, W> {
     #[inline]
     pub fn cancel_recv<B: Bell<W>>(&mut self, t: &mut Option<Ticket>, bell: &mut B) {
         self.withdraw(Group::Receives, t, bell);
-    }
-
-    /// Gives a stream's wait up. Streams are told together, so that no notice is handed on.
-    #[inline]
-    pub fn cancel_stream(&mut self, t: &mut Option<Ticket>) {
-        self.withdraw(Group::Streams, t, &mut Quiet);
     }
 
     /// Gives a closed operation's wait up. Closed operations are told together, so that no notice
