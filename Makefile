@@ -48,6 +48,7 @@ pages:
 	tools/facts_tests
 	tools/examples_tests
 	tools/believed
+	tools/believed_tests
 	tools/edits --places
 	tools/edits_tests
 	tools/wrong_bodies --places
