@@ -95,6 +95,8 @@ class Tried:
     misfits = ()
     # Whether nothing isn't proved but goals that had one of these.
     breaks_a_proof = False
+    # Why its function isn't proved if that is no goal of its own.
+    other_reason = ''
 
     @property
     def tried(self):
@@ -364,6 +366,8 @@ class Trial:
             raise Refused('the prover could not tell')
         if is_alone and not unproved and why and why.startswith('it calls'):
             raise Refused(why)
+        if is_alone and not unproved:
+            change.other_reason = f'{verdict}: {why}'
         if change.misfits:
             right, *_ = stored_for(change.function, self.folder / 'proofs')
             change.breaks_a_proof = unproved <= change.answered(right / ANSWERS)

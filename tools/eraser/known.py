@@ -36,8 +36,8 @@ EVERYWHERE = {'Box': 'crate::shim::Box', 'Vec': 'crate::shim::Vec'}
 TAKEN = {'Drop', 'Model', 'fmt', *EVERYWHERE}
 
 # The calls with a `requires` that code by hand could make, each by its type and name, and the clause
-# that the prover doesn't check there. Those of private modules it can't name, and it has no waiting list of its own. What
-# opens a ledger counts nothing in Rust.
+# that the prover doesn't check there. Those of private modules it can't name, and it has no waiting
+# list of its own. What opens a ledger counts nothing in Rust.
 # A kind or a capacity of 0 makes no channel by hand: that panics, or is refused as a script. An
 # operation waits by hand if it was just found pending under the same lock.
 REQUIRES = {

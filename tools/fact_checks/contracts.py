@@ -52,7 +52,7 @@ def is_there(crate, place, clauses):
 
 
 def is_quoted(text, calls):
-    """Whether the contract of one of these calls has the parts of the text, one behind the other."""
+    """Whether the contract of one of these calls has the text's parts, one behind the other."""
     parts = (re.escape(' '.join(part.split())) for part in text.split('..'))
     return any(re.search('.*'.join(parts), call.text) for call in calls)
 
