@@ -2,8 +2,8 @@
 import re
 
 from eraser.known import (
-    BEFORE_NOT, BOUNDS, CLAUSES, CRATES, DERIVES, EVERYWHERE, FIRST, FORMATTER,
-    GHOST_WORDS, ITEM_WORDS, LEFT_OUT, MACROS, NAMED, OWNERS, PATHS, REQUIRES, TAKEN, TEXT_TRAITS,
+    BEFORE_NOT, BOUNDS, BY_RUN, CLAUSES, CRATES, DERIVES, EVERYWHERE, FIRST, FORMATTER,
+    GHOST_WORDS, ITEM_WORDS, LEFT_OUT, MACROS, NAMED, OWNERS, PATHS, REQUIRES, RUN, TAKEN, TEXT_TRAITS,
     TRAITS, UNREACHED, WRITER,
 )
 from eraser.source import CLOSING
@@ -21,7 +21,8 @@ class Eraser:
         self.imported = set()  # paths that it imports
         self.everywhere = set()  # of EVERYWHERE, that the file uses
         self.owner = []  # the type or trait whose block is read
-        self.met = set()  # of UNREACHED and REQUIRES, that the file has
+        self.is_by_run = False  # whether the run alone reaches the item that was read
+        self.met = set()  # of UNREACHED, BY_RUN and REQUIRES, that the file has
 
     def file(self):
         source = self.source
@@ -55,7 +56,7 @@ class Eraser:
         word = self.source.take()
         take = {
             'ghost': self.ghost,
-            'use': self.use,
+            'use': lambda: self.use(visibility),
             'mod': lambda: self.module(is_test),
             'const': self.constant,
             'enum': lambda: self.data('enum'),
@@ -69,8 +70,11 @@ class Eraser:
         if is_test and word.text != 'mod':
             self.source.refuse('only a module may be for tests', word.start)
         text = take()
+        is_by_run, self.is_by_run = self.is_by_run, False
         if text is None:
             return None
+        if is_by_run:
+            attributes = f'#[cfg({RUN})]\n{self.indent(word.start)}{attributes}'
         if word.text == 'fn' and text.endswith('}') and '#[inline' not in attributes:
             attributes += f'#[inline]\n{self.indent(word.start)}'
         return f'{attributes}{visibility}{text}'
@@ -150,7 +154,7 @@ class Eraser:
         self.source.skip_block()
         self.source.take(';')
 
-    def use(self):
+    def use(self, visibility):
         """A use, with the names that its paths have in Rust. What only the prover reads goes."""
         start, path = self.source.at, [self.source.take_word()]
         names = []
@@ -160,17 +164,29 @@ class Eraser:
             else:
                 path.append(self.source.take_word())
         self.source.take(';')
-        targets = {}
+        targets, of_run = {}, {}
         for path in ['::'.join([*path, name]) for name in names] or ['::'.join(path)]:
             if path not in PATHS:
                 self.new_name(path.rpartition('::')[2], start)
             self.imported.add(path)
             target = self.target(path, start)
-            if target and self.whole(path) not in UNREACHED:
+            if target and not self.is_of(UNREACHED, path):
                 prefix, _, name = target.rpartition('::')
-                targets.setdefault(prefix, []).append(name)
-        lines = [use_line(prefix, names) for prefix, names in targets.items()]
+                some = of_run if self.is_of(BY_RUN, path) else targets
+                some.setdefault(prefix, []).append(name)
+        self.is_by_run = not targets
+        lines = [use_line(prefix, names) for prefix, names in (targets or of_run).items()]
+        if targets:
+            lines += [f'#[cfg({RUN})]\n{visibility}{use_line(prefix, names)}'
+                      for prefix, names in of_run.items()]
         return '\n'.join(lines) or None
+
+    def is_of(self, table, path):
+        """Whether a table has what this path names, by whatever module hands it on."""
+        crate, *_, name = self.whole(path).split('::')
+        if CRATES.get(self.source.crate) and table is BY_RUN:
+            return False
+        return any((it.split('::')[0], it.split('::')[-1]) == (crate, name) for it in table)
 
     def names(self):
         self.source.take('{')
@@ -237,9 +253,9 @@ class Eraser:
 
     def if_reached(self, path, text):
         """A text, or None if nothing reaches what has this path."""
-        if path not in UNREACHED:
-            return text
-        self.met.add(path)
+        self.met |= {path} & (UNREACHED | BY_RUN)
+        self.is_by_run = path in BY_RUN
+        return None if path in UNREACHED else text
 
     def data(self, word):
         """A struct or an enum."""

@@ -67,6 +67,29 @@ UNREACHED = {
     'event_list::list::WaitList::told',
 }
 
+# What the run alone reaches. Other dead code is warned of.
+BY_RUN = {
+    'channel_core::queue::Queue::get', 'channel_core::state::Core::capacity',
+    'channel_core::state::Core::first_told', 'channel_core::state::Core::is_terminated',
+    'channel_core::state::Core::is_told', 'channel_core::state::Core::message',
+    'channel_core::state::Core::receiver_count', 'channel_core::state::Core::sender_count',
+    'channel_core::state::Core::waiting', 'channel_core::state::Upgrade',
+    'channel_core::state::handles::Core::add_receiver',
+    'channel_core::state::handles::Core::add_sender',
+    'channel_core::state::handles::Core::upgrade_receiver',
+    'channel_core::state::handles::Core::upgrade_sender',
+    'channel_core::state::handles::add_handle', 'channel_core::state::handles::upgrade_handle',
+    'channel_core::state::polls::Core::cancel_closed',
+    'channel_core::state::polls::Core::cancel_recv',
+    'channel_core::state::polls::Core::cancel_send', 'channel_core::state::polls::Core::poll_closed',
+    'channel_core::state::polls::Core::poll_next', 'channel_core::state::polls::Core::poll_recv',
+    'channel_core::state::polls::Core::poll_send', 'channel_core::state::polls::Core::wait_or_fail',
+    'event_list::bell::Quiet', 'event_list::links::Links::first_told',
+    'event_list::list::WaitList::first_told', 'event_list::list::WaitList::is_told',
+    'event_list::list::WaitList::len', 'event_list::ticket::Ticket::destroy_none',
+    'event_list::ticket::Ticket::key',
+}
+
 # Types that own all that their `drop` changes. So in Rust it is enough that their parts go.
 OWNERS = {'channel_run::run::Run'}
 

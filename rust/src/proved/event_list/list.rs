@@ -147,6 +147,7 @@ impl<W> WaitList<W> {
     }
 
     /// How many wait. All have different keys.
+    #[cfg(vamorilesh_run)]
     #[inline]
     pub fn len(&self) -> usize {
         match &self.links {
@@ -156,6 +157,7 @@ impl<W> WaitList<W> {
     }
 
     /// Whether the ticket's entry is told, or nothing if it isn't in the list.
+    #[cfg(vamorilesh_run)]
     #[inline]
     pub fn is_told(&self, ticket: &Ticket) -> Option<bool> {
         Some(self.entry_from::<Brand>(ticket, Blank::new(1))?.is_told())
@@ -168,6 +170,7 @@ impl<W> WaitList<W> {
     }
 
     /// The key of the first entry, if somebody is told.
+    #[cfg(vamorilesh_run)]
     #[inline]
     pub fn first_told(&self) -> Option<usize> {
         self.links.as_ref()?.first_told()
