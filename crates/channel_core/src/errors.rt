@@ -1,7 +1,8 @@
 //! What a call answers if it doesn't do what was asked.
 //!
 //! Nothing has changed after any of these, and a message that was handed in comes back. No text and
-//! no `Debug` asks anything of the message's type.
+//! no `Debug` asks anything of the message's type. Two of a type are equal if they are the same case
+//! with equal messages, as their derived `PartialEq` says.
 ghost use Rattle.std.specs.Prelude.{◌≡◌, Some, codes};
 ghost use Rattle.channel_core.specs.Errors.{message_of, was_full, was_closed, try_send_text, try_send_debug, was_empty, was_ended, try_recv_text, try_recv_debug, make_text, make_debug, clone_text, clone_debug};
 

@@ -1,5 +1,5 @@
 //! The queue of a channel's messages.
-ghost use Rattle.std.specs.Prelude.{◌≡◌, ◌⊎◌, ◌<◌, ◌≤◌, ◌*◌, [], drop, min, length, slice_get, false, IsTrue, Some, None, IfOk, IfErr, OnOk, OnErr};
+ghost use Rattle.std.specs.Prelude.{◌≡◌, ◌⊎◌, ◌<◌, ◌≤◌, ◌*◌, ◌/◌, [], drop, min, length, slice_get, false, IsTrue, Some, None, IfOk, IfErr, OnOk, OnErr};
 ghost use Rattle.std.specs.Option.{option_copied};
 ghost use Rattle.std.specs.VecDeque.{deque_capacity};
 ghost use prog.Memory.{size, capped};
@@ -66,7 +66,7 @@ fn give_room_back<T>(deque: &mut VecDeque<T, Global>)
     ensures twice { min (2 * length deque.old.items) (deque_capacity deque.old)
         ≤ deque_capacity deque.new }
     ensures at_a_quarter { (deque_capacity deque.new ≡ deque_capacity deque.old)
-        ⊎ (4 * length deque.old.items ≤ deque_capacity deque.old) }
+        ⊎ (length deque.old.items ≡ deque_capacity deque.old / 4) ⊎ (deque.old.items ≡ []) }
     ensures if_large { (deque_capacity deque.new ≡ deque_capacity deque.old)
         ⊎ ((4 < deque_capacity deque.old)
         × (4096 < deque_capacity deque.old * capped (size (layout T.row)))) }

@@ -1,6 +1,6 @@
 //! How many operations borrow each handle.
-ghost use Rattle.std.specs.Prelude.{◌≡◌, ◌+◌, ◌-◌, ◌<◌, ◌^◌, [], OnOk, OnErr};
-ghost use Rattle.channel_run.specs.RunShown.{number_at, IsSetAt};
+ghost use Rattle.std.specs.Prelude.{◌≡◌, ◌≤◌, ◌+◌, ◌-◌, ◌<◌, ◌^◌, [], None, OnOk, OnErr};
+ghost use Rattle.channel_run.specs.RunShown.{entry_at, number_at, IsSetAt};
 
 use channel_model::OutOfMemory;
 use std::alloc::Global;
@@ -55,9 +55,10 @@ impl Tally {
         }
     }
 
-    /// Lowers the number of a name by 1, if it isn't 0. It takes no memory.
+    /// Lowers the number of a name by 1, if it isn't 0. It takes no memory, and keeps none for a 0.
     pub(crate) fn lower(&mut self, name: u64)
-        ensures { IsSetAt name (number_at self.old name - 1) self.old self.new }
+        ensures lowered { IsSetAt name (number_at self.old name - 1) self.old self.new }
+        ensures forgotten { number_at self.old name ≤ 1 → entry_at self.new name ≡ None }
     {
         let number = self.get(name);
         if number < 2 {

@@ -2,7 +2,8 @@
 //! What a call answers if it doesn't do what was asked.
 //!
 //! Nothing has changed after any of these, and a message that was handed in comes back. No text and
-//! no `Debug` asks anything of the message's type.
+//! no `Debug` asks anything of the message's type. Two of a type are equal if they are the same case
+//! with equal messages, as their derived `PartialEq` says.
 
 use std::error::Error;
 use std::fmt;

@@ -38,7 +38,7 @@ impl Tally {
         }
     }
 
-    /// Lowers the number of a name by 1, if it isn't 0. It takes no memory.
+    /// Lowers the number of a name by 1, if it isn't 0. It takes no memory, and keeps none for a 0.
     #[inline]
     pub(super) fn lower(&mut self, name: u64) {
         let number = self.get(name);
