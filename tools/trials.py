@@ -20,6 +20,7 @@ contract, either.
 
 A change of a definition names a law, which is proved by hand. It is refused if that isn't proved.
 If the definitions themselves have an error then, it wasn't tried.
+If a worked row finds it, it names the row, too, and the law's proof begins with that row.
 
 A change may have a `clause`. Then its copy ensures that clause alone, and it is refused if a goal
 of that clause isn't proved. So no time goes into the other clauses.
@@ -83,8 +84,8 @@ class Tried:
     call = None
     # The clause that must refuse it, if it is known.
     clause = None
-    # Whether it changes a definition.
-    is_definition = False
+    # Whether it changes a definition, and the row that finds it, as FILE.THEOREM in proofs/.
+    is_definition, row = False, ''
     # What the name of its copy ends in, if it has one.
     ending = ''
     # Its lines in the file that it was put into.
@@ -147,6 +148,8 @@ class Tried:
                     text = re.sub(OTHER % self.clause, '', text, flags=re.M | re.S)
                     text = re.sub(OWN % self.clause, r'\1', text)
                 file.write_text(text, 'utf-8')
+            if self.row:
+                begin_with(changed / ANSWERS, self.row)
             if not self.is_definition and not (changed / WHOLE).exists():
                 self.holes.append(changed / ANSWERS)
                 with (changed / ANSWERS).open('a', encoding='utf-8') as answers:
@@ -199,6 +202,20 @@ def with_one_clause(lines, clause):
         if not is_other:
             kept.append(line)
     return kept + lines[end:]
+
+
+def begin_with(answers, row):
+    """Lets a function's proof rest on a worked row, which stands in the proofs of its crate."""
+    text = answers.read_text('utf-8')
+    proofs, (module, name) = re.search(r'Rattle\.\w+\.proofs', text)[0], row.split('.')
+    text = text.replace('\nreturns g c = ', f'\nreturns g c = let row = {name} in ')
+    answers.write_text(f'use {proofs}.{module}.{{{name}}}\n{text}', 'utf-8')
+
+
+def is_wrong(row, said):
+    """Whether the prover says that a worked row isn't so."""
+    file, name = row.split('.')
+    return bool(re.search(rf'^\./proofs/{file}\.antt:\d+:\d+: error: `{name}`:', said, re.M))
 
 
 def can_be_copied(call):
@@ -353,6 +370,8 @@ class Trial:
         if change.is_definition and (unread := UNREAD.search(said)):
             raise Refused(unread[0])
         if change.is_definition and verdict != 'could not tell':
+            if change.row and verdict != 'proved' and not is_wrong(change.row, said):
+                raise Refused('it is not its row that fails')
             return verdict == 'proved'
         stored = f'proofs/{name.replace("::", "/")}'
         misfits = re.findall(rf'^\./{re.escape(stored)}/{ANSWERS}:(\d+):.*: error', said, re.M)

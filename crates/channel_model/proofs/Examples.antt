@@ -1,23 +1,29 @@
--- Worked examples that are no scripts: want of memory, messages without size, the limit of handles, the bound of
--- settling.
-use Rattle.std.proofs.Common.{◌≡◌, ℕ, refl, inr, [], ◌∷◌, Ok, None, true, false, arith}
-use Rattle.std.specs.Prelude.{◌^◌, ◌-◌, nat_lt}
+-- Worked examples that are no scripts: a refused wait, messages without size, the limit of handles, what no past has,
+-- what errors give back, the numbers of a channel, the bound of settling.
+use Rattle.std.proofs.Common.{◌≡◌, ◌<◌, ℕ, ap, refl, inl, inr, List, [], ◌∷◌, Ok, Err, Some, None, true, false, arith}
+use Rattle.std.specs.Prelude.{◌^◌, ◌-◌, length, nat_lt, if◌then◌else◌}
 use Rattle.futures.specs.declared.task.Poll.TheVariants.{Ready, Pending}
+use Rattle.channel_core.specs.declared.errors.TrySendError.TheVariants.{Full, Closed}
 use Rattle.channel_model.specs.declared.step.Kind.TheVariants.{Bounded, Unbounded}
 use Rattle.channel_model.specs.declared.step.Side.TheVariants.{Sender}
 use Rattle.channel_model.specs.declared.step.Who.TheVariants.{Op}
-use Rattle.channel_model.specs.declared.step.Notice.TheVariants.{Absent, Told}
-use Rattle.channel_model.specs.declared.step.Refusal.TheVariants.{OutOfMemory}
-use Rattle.channel_model.specs.declared.step.Step.TheVariants.{TrySend, ForceSend, TryRecv, Close, CloneSender, DowngradeSender, UpgradeSender, DropSender, StartSend, StartRecv, Poll, PollNext, Len, IsEmpty, IsFull}
-use Rattle.channel_model.specs.declared.step.Reply.TheVariants.{Done, TrySent, Received, SendPolled, RecvPolled, Refused, Count, Flag}
+use Rattle.channel_model.specs.declared.step.Notice.TheVariants.{Absent}
+use Rattle.channel_model.specs.declared.step.Refusal.{Refusal}
+use Rattle.channel_model.specs.declared.step.Refusal.TheVariants.{Unknown, Taken, TooMany, OutOfMemory}
+use Rattle.channel_model.specs.declared.step.Step.TheVariants.{TrySend, TryRecv, CloneSender, CloneReceiver, UpgradeSender, UpgradeReceiver, StartSend, StartRecv, StartClosed, Poll, PollNext, Len, IsEmpty, IsFull}
+use Rattle.channel_model.specs.declared.step.Reply.TheVariants.{Done, TrySent, Forced, Received, SendPolled, RecvPolled, ClosedPolled, NextPolled, Refused, Count, Flag}
+use Rattle.event_list.specs.Keys.{is_among}
 use Rattle.channel_model.specs.Past.{Past}
-use Rattle.channel_core.specs.Tables.{handle_limit}
+use Rattle.channel_core.specs.Tables.{handle_limit, send_error}
 use Rattle.channel_model.specs.Notices.{notice_of, rosters}
-use Rattle.channel_model.specs.Memory.{may_want_memory}
+use Rattle.channel_model.specs.View.{View}
+use Rattle.channel_model.specs.Refusals.{is_one_too_many, refusal_in}
 use Rattle.channel_model.specs.Answers.{IsAnswer, past_after}
-use Rattle.channel_model.specs.Legal.{IsLegal}
-use Rattle.channel_model.specs.Polling.{Settles, most_polls, waiting_in}
-use Rattle.channel_model.proofs.Script.{does, notes, answered}
+use Rattle.channel_model.specs.Legal.{IsAllowed, IsLegal}
+use Rattle.channel_model.specs.Standing.{standing_of}
+use Rattle.channel_model.specs.Polling.{IsFreePolling, IsSettling, Settles, most_polls, waiting_in}
+use Rattle.channel_model.specs.Laws.{IsDone, given_back}
+use Rattle.channel_model.proofs.Script.{does, Row, past_after_lines}
 use Rattle.channel_model.proofs.Settling.{Settles-IsLegal}
 
 -- ---- a refused wait
@@ -33,79 +39,10 @@ refused_wait_is_absent : notice_of (past_after receive_started (Poll 0) (Refused
 unfolding receive_started
 refused_wait_is_absent = refl
 
-first_wait_with_memory :
-    answered Unbounded receive_started (does (Poll 0) (RecvPolled Pending) ∷ does (TrySend 0 5) (TrySent (Ok tt))
-    ∷ notes (Op 0) Told ∷ does (Poll 0) (RecvPolled (Ready (Ok 5))) ∷ [])
-    ≡ does (Poll 0) (RecvPolled Pending) ∷ does (TrySend 0 5) (TrySent (Ok tt)) ∷ notes (Op 0) Told
-    ∷ does (Poll 0) (RecvPolled (Ready (Ok 5))) ∷ []
-unfolding receive_started
-first_wait_with_memory = refl
-
--- a second poll in vain takes no memory, and a told one that goes last takes none either
-second_wait_wants_none : may_want_memory Unbounded ((Poll 0, RecvPolled Pending) ∷ receive_started) (Poll 0) ≡ false
-unfolding receive_started
-second_wait_wants_none = refl
-
-told_in_vain_wants_none : may_want_memory Unbounded
-    ((TryRecv 0, Received (Ok 5)) ∷ (TrySend 0 5, TrySent (Ok tt)) ∷ (Poll 0, RecvPolled Pending) ∷ receive_started)
-    (Poll 0) ≡ false
-unfolding receive_started
-told_in_vain_wants_none = refl
-
--- ---- sends and memory
-
--- a send that doesn't wait takes memory on an open unbounded channel alone
-bounded_send_wants_none : (message : ℕ) → may_want_memory (Bounded 1) [] (TrySend 0 message) ≡ false
-bounded_send_wants_none message = refl
-
-bounded_forced_send_wants_none : (message : ℕ) → may_want_memory (Bounded 1) [] (ForceSend 0 message) ≡ false
-bounded_forced_send_wants_none message = refl
-
-unbounded_send_may_want : (message : ℕ) → may_want_memory Unbounded [] (TrySend 0 message) ≡ true
-unbounded_send_may_want message = refl
-
-refused_send_wants_none : (message : ℕ) → may_want_memory Unbounded [] (TrySend 1 message) ≡ false
-refused_send_wants_none message = refl
-
--- a send that begins to wait on a full channel may want it
-full_and_started : Past ℕ
-full_and_started = (StartSend 0 0 5, Done) ∷ (TrySend 0 1, TrySent (Ok tt)) ∷ []
-
-waiting_send_may_want : may_want_memory (Bounded 1) full_and_started (Poll 0) ≡ true
-unfolding full_and_started
-waiting_send_may_want = refl
-
-ready_send_wants_none : may_want_memory (Bounded 2) full_and_started (Poll 0) ≡ false
-unfolding full_and_started
-ready_send_wants_none = refl
-
--- a finished send waits nowhere and takes none
-finished_send_wants_none : may_want_memory (Bounded 2) ((Poll 0, SendPolled (Ready (Ok tt))) ∷ full_and_started)
-    (Poll 0) ≡ false
-unfolding full_and_started
-finished_send_wants_none = refl
-
-stream_may_want : may_want_memory {T = ℕ} (Bounded 1) [] (PollNext 0) ≡ true
-stream_may_want = refl
-
--- ---- names and memory
-
-copy_may_want : may_want_memory {T = ℕ} (Bounded 1) [] (CloneSender 0 1) ≡ true
-copy_may_want = refl
-
-start_may_want : (message : ℕ) → may_want_memory (Bounded 1) [] (StartSend 0 0 message) ≡ true
-start_may_want message = refl
-
-upgrade_may_want : may_want_memory {T = ℕ} (Bounded 1) ((DowngradeSender 0 0, Done) ∷ []) (UpgradeSender 0 1) ≡ true
-upgrade_may_want = refl
-
--- an upgrade on a closed channel makes no name
-closed_upgrade_wants_none : may_want_memory {T = ℕ} (Bounded 1)
-    ((Close (Sender 0), Flag true) ∷ (DowngradeSender 0 0, Done) ∷ []) (UpgradeSender 0 1) ≡ false
-closed_upgrade_wants_none = refl
-
-giving_up_wants_none : may_want_memory {T = ℕ} (Bounded 1) [] (DropSender 0) ≡ false
-giving_up_wants_none = refl
+-- a bounded channel wants no memory for a message, so no answer to a send may say that it does
+bounded_send_is_never_refused : IsAnswer {T = ℕ} (Bounded 1) [] (TrySend 0 5) (Refused OutOfMemory (Some 5)) → ⊥
+bounded_send_is_never_refused (inl answered) = cc
+bounded_send_is_never_refused (inr wanted) = let never : false ≡ true = wanted.0 in cc
 
 -- ---- messages without size
 
@@ -128,6 +65,82 @@ at_the_limit = refl
 
 above_the_limit : nat_lt handle_limit (2 ^ 63) ≡ true
 above_the_limit = refl
+
+-- a copy counts the handles of its own kind, and so does an upgrade, on an open channel alone
+sender_too_many : (view : View ℕ) → nat_lt handle_limit (length view.senders) ≡ true → view.closed ≡ false
+    → (is_one_too_many view (CloneSender 0 1) ≡ true) × (is_one_too_many view (UpgradeSender 0 1) ≡ true)
+sender_too_many view many now = (many, rw now many)
+
+receiver_too_many : (view : View ℕ) → nat_lt handle_limit (length view.receivers) ≡ true → view.closed ≡ false
+    → (is_one_too_many view (CloneReceiver 0 1) ≡ true) × (is_one_too_many view (UpgradeReceiver 0 1) ≡ true)
+receiver_too_many view many now = (many, rw now many)
+
+closed_upgrade_is_never_too_many : (view : View ℕ) → view.closed ≡ true
+    → (is_one_too_many view (UpgradeSender 0 1) ≡ false) × (is_one_too_many view (UpgradeReceiver 0 1) ≡ false)
+closed_upgrade_is_never_too_many view closed = (rw closed refl, rw closed refl)
+
+-- one too many is the last of the refusals
+too_many_comes_last : (view : View ℕ) → is_among 0 view.senders ≡ true
+    → nat_lt handle_limit (length view.senders) ≡ true
+    → refusal_in view (CloneSender 0 1) ≡ (if is_among 1 view.senders then Some Taken else Some TooMany)
+too_many_comes_last view known many = rw (known, many) refl
+
+-- ---- which steps may stand in a past
+
+refused_is_not_allowed : (refusal : Refusal) → IsAllowed {T = ℕ} (TrySend 0 5) (Some refusal) → ⊥
+refused_is_not_allowed refusal none = cc
+
+unknown_stream_is_not_allowed : IsAllowed {T = ℕ} (PollNext 0) (Some Unknown) → ⊥
+unknown_stream_is_not_allowed (inl none) = cc
+unknown_stream_is_not_allowed (inr borrowed) = cc
+
+-- ---- what an error gives back
+
+every_error_gives_back : (message : ℕ) → (given_back (TrySent (Err (Full message))) ≡ Some message)
+    × (given_back (TrySent (Err (Closed message))) ≡ Some message)
+    × (given_back (Forced (Err (send_error message))) ≡ Some message)
+    × (given_back (SendPolled (Ready (Err (send_error message)))) ≡ Some message)
+every_error_gives_back message = (refl, refl, refl, refl)
+
+-- ---- the numbers of a crowded channel
+
+crowd : Row
+crowd = record {
+  kind = Bounded 1;
+  lines =
+      does (CloneSender 0 1) Done
+      ∷ does (CloneSender 0 2) Done
+      ∷ does (CloneReceiver 0 1) Done
+      ∷ does (StartRecv 0 0) Done
+      ∷ does (StartRecv 1 0) Done
+      ∷ does (StartRecv 2 0) Done
+      ∷ does (Poll 0) (RecvPolled Pending)
+      ∷ does (Poll 1) (RecvPolled Pending)
+      ∷ does (Poll 2) (RecvPolled Pending)
+      ∷ does (PollNext 1) (NextPolled Pending)
+      ∷ does (StartClosed 3 0) Done
+      ∷ does (StartClosed 4 0) Done
+      ∷ does (Poll 3) (ClosedPolled Pending)
+      ∷ does (Poll 4) (ClosedPolled Pending)
+      ∷ does (TrySend 0 5) (TrySent (Ok tt))
+      ∷ does (StartSend 5 0 6) Done
+      ∷ does (Poll 5) (SendPolled Pending)
+      ∷ [];
+}
+
+crowd_stands : standing_of crowd.kind (past_after_lines crowd.kind [] crowd.lines) ≡ record {
+  capacity = Some 1;
+  held = 1;
+  closed = false;
+  senders = 3;
+  receivers = 2;
+  sends = record { told = 0; untold = 1 };
+  receives = record { told = 1; untold = 2 };
+  streams = record { told = 1; untold = 0 };
+  closeds = record { told = 0; untold = 2 };
+}
+unfolding crowd
+crowd_stands = refl
 
 -- ---- the bound of settling is reached
 
@@ -166,3 +179,19 @@ three_polls = Settles-IsLegal (Bounded 1) two_wait two_wait-IsLegal
 three_at_the_most : most_polls (waiting_in (rosters two_wait)) ≡ 3
 unfolding two_wait
 three_at_the_most = refl
+
+-- the first who was told is polled first, and who wasn't told isn't polled
+another_first_is_no_settling : IsSettling (Bounded 1) two_wait ((Poll 1, SendPolled (Ready (Ok tt))) ∷ []) → ⊥
+unfolding two_wait
+another_first_is_no_settling each = let first : Some (Poll 0) ≡ Some (Poll 1) = each.1 in cc
+
+untold_is_not_polled : IsFreePolling Unbounded ((Poll 0, RecvPolled Pending) ∷ receive_started)
+    ((Poll 0, RecvPolled Pending) ∷ []) → ⊥
+unfolding receive_started
+untold_is_not_polled each = let few : each.1.0 < 0 = each.1.1 in omega (arith, few)
+
+-- a channel on which a send waits beside a receive isn't done
+two_wait_is_not_done : IsDone two_wait → ⊥
+unfolding two_wait
+two_wait_is_not_done done =
+    let count : 1 ≡ 0 = ap (λ (names : List ℕ). length names) (done.receives (omega arith)) in omega (arith, count)

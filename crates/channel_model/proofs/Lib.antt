@@ -2,6 +2,7 @@ mod RowsReplies
 mod Examples
 mod Script
 mod ScriptLemmas
+mod RowsMemory
 mod RowsSends
 mod RowsNotices
 mod RowsSettling

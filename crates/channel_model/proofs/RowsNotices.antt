@@ -1,5 +1,5 @@
 -- Worked rows of those who wait, and whom each step tells.
-use Rattle.std.specs.Prelude.{refl, [], ◌∷◌, Ok, Err, Some, None, true}
+use Rattle.std.specs.Prelude.{refl, [], ◌∷◌, Ok, Err, Some, None, true, false}
 use Rattle.futures.specs.declared.task.Poll.TheVariants.{Ready, Pending}
 use Rattle.channel_model.specs.declared.step.Kind.TheVariants.{Bounded, Unbounded}
 use Rattle.channel_model.specs.declared.step.Side.TheVariants.{Sender, Receiver}
@@ -8,7 +8,7 @@ use Rattle.channel_model.specs.declared.step.Notice.TheVariants.{Absent, Untold,
 use Rattle.channel_model.specs.declared.step.Step.TheVariants.{TrySend, ForceSend, TryRecv, Close, IsTerminated, CloneReceiver, DropSender, DropReceiver, StartSend, StartRecv, StartClosed, Poll, PollNext, DropOp}
 use Rattle.channel_model.specs.declared.step.Reply.TheVariants.{TrySent, Forced, Received, Flag, Done, SendPolled, RecvPolled, ClosedPolled, NextPolled}
 use Rattle.channel_core.specs.Tables.{send_error}
-use Rattle.channel_model.proofs.Script.{does, notes, Row, IsRow, EndsLegal}
+use Rattle.channel_model.proofs.Script.{does, notes, able, Row, IsRow, EndsLegal}
 use Rattle.channel_model.proofs.ScriptLemmas.{legal}
 
 -- an untold one steals
@@ -235,3 +235,99 @@ row_a_stream_hands_nothing_on = refl
 
 legal_a_stream_hands_nothing_on : EndsLegal a_stream_hands_nothing_on
 legal_a_stream_hands_nothing_on = legal a_stream_hands_nothing_on refl
+
+-- a notice goes to one, and who has none hands none on
+abbrev pub a_notice_goes_to_one : Row
+a_notice_goes_to_one = record {
+  kind = Unbounded;
+  lines =
+      does (StartRecv 0 0) Done
+      ∷ does (StartRecv 1 0) Done
+      ∷ does (StartRecv 2 0) Done
+      ∷ does (StartRecv 3 0) Done
+      ∷ does (Poll 0) (RecvPolled Pending)
+      ∷ does (Poll 1) (RecvPolled Pending)
+      ∷ does (Poll 2) (RecvPolled Pending)
+      ∷ does (Poll 3) (RecvPolled Pending)
+      ∷ does (DropOp 0) Done
+      ∷ notes (Op 1) Untold
+      ∷ does (TrySend 0 1) (TrySent (Ok tt))
+      ∷ notes (Op 1) Told
+      ∷ does (DropOp 1) Done
+      ∷ notes (Op 2) Told
+      ∷ notes (Op 3) Untold
+      ∷ [];
+}
+
+row_a_notice_goes_to_one : IsRow a_notice_goes_to_one
+row_a_notice_goes_to_one = refl
+
+legal_a_notice_goes_to_one : EndsLegal a_notice_goes_to_one
+legal_a_notice_goes_to_one = legal a_notice_goes_to_one refl
+
+-- an untold one keeps its place
+abbrev pub an_untold_one_keeps_its_place : Row
+an_untold_one_keeps_its_place = record {
+  kind = Unbounded;
+  lines =
+      does (StartRecv 0 0) Done
+      ∷ does (StartRecv 1 0) Done
+      ∷ does (Poll 0) (RecvPolled Pending)
+      ∷ does (Poll 1) (RecvPolled Pending)
+      ∷ does (Poll 0) (RecvPolled Pending)
+      ∷ does (TrySend 0 1) (TrySent (Ok tt))
+      ∷ notes (Op 0) Told
+      ∷ notes (Op 1) Untold
+      ∷ [];
+}
+
+row_an_untold_one_keeps_its_place : IsRow an_untold_one_keeps_its_place
+row_an_untold_one_keeps_its_place = refl
+
+legal_an_untold_one_keeps_its_place : EndsLegal an_untold_one_keeps_its_place
+legal_an_untold_one_keeps_its_place = legal an_untold_one_keeps_its_place refl
+
+-- who waits and could go on
+abbrev pub who_waits_and_could_go_on : Row
+who_waits_and_could_go_on = record {
+  kind = Bounded 1;
+  lines =
+      does (CloneReceiver 0 1) Done
+      ∷ does (StartRecv 0 0) Done
+      ∷ does (StartClosed 1 0) Done
+      ∷ does (Poll 0) (RecvPolled Pending)
+      ∷ does (Poll 1) (ClosedPolled Pending)
+      ∷ does (PollNext 1) (NextPolled Pending)
+      ∷ able (Op 0) false
+      ∷ able (Receiver 1) false
+      ∷ does (TrySend 0 1) (TrySent (Ok tt))
+      ∷ able (Op 0) true
+      ∷ able (Receiver 1) true
+      ∷ able (Receiver 0) false
+      ∷ does (StartSend 2 0 2) Done
+      ∷ able (Op 2) false
+      ∷ does (Poll 2) (SendPolled Pending)
+      ∷ able (Op 2) false
+      ∷ does (TryRecv 0) (Received (Ok 1))
+      ∷ able (Op 2) true
+      ∷ able (Op 0) false
+      ∷ does (TrySend 0 3) (TrySent (Ok tt))
+      ∷ does (Close (Sender 0)) (Flag true)
+      ∷ able (Op 2) true
+      ∷ does (TryRecv 0) (Received (Ok 3))
+      ∷ able (Op 0) true
+      ∷ able (Receiver 1) true
+      ∷ able (Op 1) false
+      ∷ does (DropOp 0) Done
+      ∷ does (DropReceiver 0) Done
+      ∷ does (DropReceiver 1) Done
+      ∷ able (Op 1) true
+      ∷ able (Receiver 1) false
+      ∷ [];
+}
+
+row_who_waits_and_could_go_on : IsRow who_waits_and_could_go_on
+row_who_waits_and_could_go_on = refl
+
+legal_who_waits_and_could_go_on : EndsLegal who_waits_and_could_go_on
+legal_who_waits_and_could_go_on = legal who_waits_and_could_go_on refl

@@ -8,7 +8,7 @@ use Rattle.channel_model.specs.declared.step.Side.TheVariants.{Sender, Receiver}
 use Rattle.channel_model.specs.declared.step.Who.TheVariants.{Op}
 use Rattle.channel_model.specs.declared.step.Notice.TheVariants.{Absent, Told}
 use Rattle.channel_model.specs.declared.step.Refusal.TheVariants.{Unknown}
-use Rattle.channel_model.specs.declared.step.Step.TheVariants.{TrySend, ForceSend, TryRecv, Close, IsClosed, IsFull, IsTerminated, Len, Capacity, DropReceiver, StartSend, StartRecv, Poll, DropOp}
+use Rattle.channel_model.specs.declared.step.Step.TheVariants.{TrySend, ForceSend, TryRecv, Close, IsClosed, IsEmpty, IsFull, IsTerminated, Len, Capacity, DropReceiver, StartSend, StartRecv, Poll, DropOp}
 use Rattle.channel_model.specs.declared.step.Reply.TheVariants.{TrySent, Forced, Received, Flag, Count, Capacity, Done, SendPolled, RecvPolled, Refused}
 use Rattle.channel_core.specs.Tables.{send_error}
 use Rattle.channel_model.proofs.Script.{does, notes, Row, IsRow, EndsLegal}
@@ -272,3 +272,43 @@ row_a_bounded_core_takes_no_memory = refl
 
 legal_a_bounded_core_takes_no_memory : EndsLegal a_bounded_core_takes_no_memory
 legal_a_bounded_core_takes_no_memory = legal a_bounded_core_takes_no_memory refl
+
+-- each send has its own message
+abbrev pub each_send_has_its_own_message : Row
+each_send_has_its_own_message = record {
+  kind = Bounded 2;
+  lines =
+      does (StartSend 0 0 5) Done
+      ∷ does (StartSend 1 0 6) Done
+      ∷ does (Poll 0) (SendPolled (Ready (Ok tt)))
+      ∷ does (Poll 1) (SendPolled (Ready (Ok tt)))
+      ∷ does (TryRecv 0) (Received (Ok 5))
+      ∷ does (TryRecv 0) (Received (Ok 6))
+      ∷ [];
+}
+
+row_each_send_has_its_own_message : IsRow each_send_has_its_own_message
+row_each_send_has_its_own_message = refl
+
+legal_each_send_has_its_own_message : EndsLegal each_send_has_its_own_message
+legal_each_send_has_its_own_message = legal each_send_has_its_own_message refl
+
+-- a closed channel that is full
+abbrev pub a_closed_channel_that_is_full : Row
+a_closed_channel_that_is_full = record {
+  kind = Bounded 1;
+  lines =
+      does (TrySend 0 1) (TrySent (Ok tt))
+      ∷ does (Close (Sender 0)) (Flag true)
+      ∷ does (IsFull (Sender 0)) (Flag true)
+      ∷ does (IsEmpty (Receiver 0)) (Flag false)
+      ∷ does (Len (Sender 0)) (Count 1)
+      ∷ does (Capacity (Receiver 0)) (Capacity (Some 1))
+      ∷ [];
+}
+
+row_a_closed_channel_that_is_full : IsRow a_closed_channel_that_is_full
+row_a_closed_channel_that_is_full = refl
+
+legal_a_closed_channel_that_is_full : EndsLegal a_closed_channel_that_is_full
+legal_a_closed_channel_that_is_full = legal a_closed_channel_that_is_full refl

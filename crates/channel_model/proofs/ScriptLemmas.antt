@@ -12,7 +12,7 @@ use Rattle.channel_model.specs.Legal.{IsLegal}
 use Rattle.channel_model.specs.Polling.{settling_polls}
 use Rattle.channel_model.proofs.LegalAnswers.{IsLegal-IsAnswer}
 use Rattle.channel_model.proofs.Settling.{IsComplete-IsLegal}
-use Rattle.channel_model.proofs.Script.{Line, does, notes, settles, past_after_lines, Row, EndsLegal}
+use Rattle.channel_model.proofs.Script.{Line, does, notes, settles, wants, able, past_after_lines, Row, EndsLegal}
 
 -- what a line answers is an answer
 pub answer-IsAnswer : (kind : Kind) (past : Past ℕ) (step : Step ℕ) → IsAnswer kind past step (answer_of kind past step)
@@ -27,6 +27,8 @@ IsLegal-past_after_lines kind past (does step expected ∷ lines) legal =
 IsLegal-past_after_lines kind past (notes who expected ∷ lines) legal = IsLegal-past_after_lines kind past lines legal
 IsLegal-past_after_lines kind past (settles expected finished ∷ lines) legal =
     IsLegal-past_after_lines kind (settling_polls kind past ++ past) lines (IsComplete-IsLegal kind past legal).legal
+IsLegal-past_after_lines kind past (wants step expected ∷ lines) legal = IsLegal-past_after_lines kind past lines legal
+IsLegal-past_after_lines kind past (able who expected ∷ lines) legal = IsLegal-past_after_lines kind past lines legal
 
 -- the capacity is positive, by a test that computes
 abbrev pub is_positive : Kind → Bool
