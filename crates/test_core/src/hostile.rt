@@ -52,8 +52,7 @@ fn beginning(count: usize) -> (usize, End) {
 #[test]
 fn every_beginning_of_a_script(rt: HostRuntime) -> Result<(), Fail> {
     let alloc = rt.alloc();
-    assert!(rt; SCRIPT.len() == 80);
-    assert!(rt; TEXT.len() == 35);
+    assert_eq!(rt; (SCRIPT.len(), TEXT.len()), (80, 35));
     for count in 0..=80 {
         println!(rt; "{count}")?;
         let (written, end) = beginning(count);
@@ -79,7 +78,7 @@ fn narrow(rt: &impl Abort, alloc: Global, room: usize, then: Refusing) {
     };
     assert!(rt; given == end, "{given:?} in place of {end:?} at {room}");
     let text = TEXT.as_bytes().get(..room).unwrap_or(&[]);
-    assert!(rt; writer.into_inner().written.as_slice() == text);
+    assert_eq!(rt; writer.into_inner().written.as_slice(), text);
 }
 
 #[test]
@@ -104,7 +103,7 @@ fn a_reader_that_fails(rt: HostRuntime) -> Result<(), Fail> {
         let mut writer = FromStd::new(Vec::new(alloc));
         let given = run_script(alloc, &mut reader, &mut writer);
         assert!(rt; given == Err(ScriptError::Read), "{given:?}");
-        assert!(rt; writer.into_inner().is_empty());
+        assert_eq!(rt; writer.into_inner().as_slice(), [].as_slice());
     }
     Ok(())
 }

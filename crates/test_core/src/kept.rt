@@ -97,7 +97,10 @@ fn of_a_core<'a>(rt: &impl Abort, core: &mut Core<u64, Counted<'a>>, live: &'a A
     assert_eq!(rt; count(live), 0);
     // who has the ticket of another list waits anew
     drop(core.poll_closed(&mut closed, new()));
-    assert!(rt; core.poll_next(&mut closed, new(), &mut Quiet) == Ok(Poll::Pending));
+    assert_eq!(rt;
+        core.poll_next(&mut closed, new(), &mut Quiet),
+        Ok(Poll::Pending)
+    );
     core.drop_receiver(&mut closed, &mut Quiet);
     assert_eq!(rt; count(live), 0);
     Ticket::destroy_none(receive);

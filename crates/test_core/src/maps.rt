@@ -153,10 +153,11 @@ fn one_worker_goes_from_input_to_input(rt: HostRuntime) {
         let first = if count == 0 { u64::MAX } else { 0 };
         let (places, maker) = (places.as_slice(), &mut StampMaker::starting_at(first));
         let answers = map_all(&rt, a, &turns, &turns, places, 1, 1, maker);
-        assert!(rt; answers.is_ok());
+        assert_eq!(rt; answers.err(), None);
         let calls = turns.calls.load(Ordering::SeqCst);
         assert_eq!(rt; calls, count.wrapping_mul(3));
-        assert!(rt; !turns.is_wrong.load(Ordering::SeqCst) && maker.draw().is_some());
+        let is_wrong = turns.is_wrong.load(Ordering::SeqCst);
+        assert_eq!(rt; (is_wrong, maker.draw().is_some()), (false, true));
     }
 }
 

@@ -81,5 +81,5 @@ fn the_history_as_a_script(rt: HostRuntime) {
         assert_eq!(rt; given, Some(wanted.as_str()));
         assert!(rt; wanted.starts_with("ok"));
     }
-    assert!(rt; lines.next().is_none());
+    assert_eq!(rt; lines.next(), None);
 }

@@ -129,7 +129,9 @@ impl Tickets {
 
     fn add(&mut self, rt: &impl Abort, name: u64, ticket: Ticket) {
         let alloc = self.alloc;
-        self.all.push((name, Held { alloc, ticket })).expect(rt, "memory");
+        self.all
+            .push((name, Held { alloc, ticket }))
+            .expect(rt, "memory");
     }
 
     fn place(&self, rt: &impl Abort, name: u64) -> usize {

@@ -23,7 +23,7 @@ fn a_list_of_steps(rt: HostRuntime) {
         Reply::Received(Ok(())),
         Reply::Refused(Refusal::Unknown, None),
     ];
-    assert!(rt; replies.as_slice() == wanted.as_slice());
+    assert_eq!(rt; replies.as_slice(), wanted.as_slice());
 }
 
 #[test]
@@ -35,5 +35,6 @@ fn a_settled_run(rt: HostRuntime) {
     assert_eq!(rt; run.step(Step::TrySend(0, 7)), Reply::TrySent(Ok(())));
     let settled = run.settle().expect(&rt, "memory");
     let ready = [(Who::Op(0), Reply::RecvPolled(Poll::Ready(Ok(7))))];
-    assert!(rt; settled.polls == 1 && settled.finished.as_slice() == ready.as_slice());
+    assert_eq!(rt; settled.polls, 1);
+    assert_eq!(rt; settled.finished.as_slice(), ready.as_slice());
 }

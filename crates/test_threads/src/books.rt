@@ -82,7 +82,8 @@ fn each_call_with_each_outcome(rt: HostRuntime) {
         records(&rt, 0, is_reversed, CALLS);
         records(&rt, 3, is_reversed, CALLS);
     }
-    assert!(rt; new_recorder(&rt, 0).finish(Vec::new(rt.alloc())).is_ok());
+    let finished = new_recorder(&rt, 0).finish(Vec::new(rt.alloc()));
+    assert_eq!(rt; finished.err(), None);
 }
 
 /// What comes of a recorder whose clerks also called another one, which has the same stamp. Clerk 0

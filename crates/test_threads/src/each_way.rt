@@ -74,7 +74,8 @@ fn fill<T: Message, R: Wait + Clone + Drop + AllocGlobal + Abort>(
 ) {
     assert!(rt; send_all(task, sending, s, all(rt, count)), "{sending:?}");
     for way in [TrySend, TrySendMany, Send, SendMany] {
-        assert!(rt; !s.is_full() || !send_all(task, way, s, all(rt, 1)));
+        let goes_in = s.is_full() && send_all(task, way, s, all(rt, 1));
+        assert!(rt; !goes_in, "{way:?}: a message goes in, and it is full");
     }
 }
 
@@ -91,13 +92,15 @@ fn pass<T: Message, R: Wait + Clone + Drop + RandomSource + AllocGlobal + Abort>
         let task = new_task(rt);
         fill(rt, &task, sending, &s, count);
         let is_full = capacity == Some(count);
-        assert!(rt; (s.len(), s.is_full(), r.is_full()) == (count, is_full, is_full));
+        let came = (s.len(), s.is_full(), r.is_full());
+        assert_eq!(rt; came, (count, is_full, is_full), "{sending:?}");
         let came = receive_all(rt.alloc(), &task, receiving, &mut r, (count, count));
         assert_eq!(rt; came.len(), count, "{receiving:?}");
         for (number, message) in came.iter().enumerate() {
             assert!(rt; *message == T::new(number), "{receiving:?}");
         }
-        assert!(rt; r.is_empty() && !r.is_closed() && !r.is_full());
+        let came = (r.is_empty(), r.is_closed(), r.is_full());
+        assert_eq!(rt; came, (true, false, false), "{receiving:?}");
     }
 }
 

@@ -71,7 +71,7 @@ fn pass<R: Threads + Wait + Clone + Drop + RandomSource + AllocGlobal + Abort + 
             };
             let started = scope.spawn(move || {
                 let (all_came, rises) = receives_all(rt, receiving, mine, noted);
-                assert!(rt; all_came && (rises || threads > 1));
+                assert_eq!(rt; (all_came, rises || threads > 1), (true, true));
             });
             assert!(rt; started.is_ok());
             let started = scope.spawn(move || assert!(rt; sends_all(rt, sending, sender)));

@@ -291,7 +291,8 @@ fn a_told_send_of_many_that_gives_its_messages_back_hands_on(rt: HostRuntime) {
     let _second = wait(&rt, &other, s.send(4));
     assert_eq!(rt; r.try_recv(), Ok(1));
     assert_eq!(rt; first.into_unsent().len(), 2);
-    assert!(rt; other.is_woken() && s.is_empty() && !s.is_closed());
+    let came = (other.is_woken(), s.is_empty(), s.is_closed());
+    assert_eq!(rt; came, (true, true, false));
     assert_eq!(rt; numbers(&weak, Group::Sends), (1, 1));
 }
 
@@ -307,7 +308,7 @@ fn operations_that_are_not_polled_change_nothing(rt: HostRuntime) {
     assert_eq!(rt; s.send(5).into_msg(), Some(5));
     let list = numbers_from(alloc, 0, 2).expect(&rt, "memory");
     assert_eq!(rt; s.send_many(list).into_unsent().len(), 2);
-    assert!(rt; into.is_empty() && !s.is_closed());
+    assert_eq!(rt; (into.len(), s.is_closed()), (0, false));
     assert_eq!(rt; (s.len(), r.try_recv()), (1, Ok(0)));
 }
 
@@ -319,7 +320,7 @@ fn finished_batches_act_as_new_ones(rt: HostRuntime) {
     let mut recv = r.recv_many(&mut into, 1);
     for _ in 0..2 {
         assert!(rt; matches!(&task.poll(&mut send), Poll::Ready(Ok(Ok(())))));
-        assert!(rt; matches!(&task.poll(&mut recv), Poll::Ready(Ok(1))));
+        assert_eq!(rt; task.poll(&mut recv), Poll::Ready(Ok(1)));
         s.close();
     }
 }
@@ -333,7 +334,7 @@ fn an_owned_receive_takes_the_wait_of_its_stream_with_it(rt: HostRuntime) {
     let mut recv = stream.into_recv();
     assert_eq!(rt; numbers(&weak, Group::Streams), (1, 0));
     assert_eq!(rt; s.try_send(7), Ok(Ok(())));
-    assert!(rt; matches!(&task.poll(&mut recv), Poll::Ready(Ok(Ok(7)))));
+    assert_eq!(rt; task.poll(&mut recv), Poll::Ready(Ok(Ok(7))));
     drop(recv);
     assert_eq!(rt; numbers(&weak, Group::Streams), (0, 0));
 }

@@ -63,7 +63,8 @@ fn dropped_futures_are_cancelled(rt: HostRuntime) {
     let ((s, r), task) = (channel(&rt, None), new_task(&rt));
     let weak = s.downgrade().expect(&rt, "memory");
     let (mut first, mut second) = (r.recv(), r.recv());
-    assert!(rt; task.poll(&mut first).is_pending() && task.poll(&mut second).is_pending());
+    assert_eq!(rt; task.poll(&mut first), Poll::Pending);
+    assert_eq!(rt; task.poll(&mut second), Poll::Pending);
     see(&rt, &weak, Group::Receives, (2, 0));
     assert_eq!(rt; s.try_send(1), Ok(Ok(())));
     see(&rt, &weak, Group::Receives, (2, 1));
@@ -79,7 +80,8 @@ fn dropped_futures_of_a_full_channel_are_cancelled(rt: HostRuntime) {
     let weak = s.downgrade().expect(&rt, "memory");
     assert_eq!(rt; s.try_send(1), Ok(Ok(())));
     let (mut first, mut second) = (s.send(2), s.send(3));
-    assert!(rt; task.poll(&mut first).is_pending() && task.poll(&mut second).is_pending());
+    assert_eq!(rt; task.poll(&mut first), Poll::Pending);
+    assert_eq!(rt; task.poll(&mut second), Poll::Pending);
     see(&rt, &weak, Group::Sends, (2, 0));
     assert_eq!(rt; r.try_recv(), Ok(1));
     see(&rt, &weak, Group::Sends, (2, 1));
@@ -88,7 +90,7 @@ fn dropped_futures_of_a_full_channel_are_cancelled(rt: HostRuntime) {
     drop(second);
     see(&rt, &weak, Group::Sends, (0, 0));
     let mut closed = s.closed();
-    assert!(rt; task.poll(&mut closed).is_pending());
+    assert_eq!(rt; task.poll(&mut closed), Poll::Pending);
     see(&rt, &weak, Group::Closeds, (1, 0));
     drop(closed);
     see(&rt, &weak, Group::Closeds, (0, 0));
