@@ -18,6 +18,7 @@ use crate::primitives::{abort, pause, turns, AtomicUsize};
 use crate::proved::channel_core::{Core as ProvedCore, Group, HANDLE_LIMIT};
 use crate::proved::event_list::Ticket;
 use crate::shim::Global;
+use crate::{TryRecvError, TrySendError};
 use std::num::NonZeroUsize;
 use std::sync::atomic::Ordering;
 use std::sync::{Arc, Weak};
@@ -95,6 +96,31 @@ impl<T> Channel<T> {
         step: impl FnOnce(&mut Core<T>, &mut Told) -> A,
     ) -> A {
         self.step_beside(group, |core, _spare, told| step(core, told))
+    }
+
+    /// Sends a message at once, or leaves it in its place. It is one piece for all calls that send, and
+    /// a message moves no more than once in it: from its place into the queue.
+    ///
+    /// # Panics
+    ///
+    /// If there is no message.
+    #[inline(never)]
+    pub(crate) fn try_send(&self, message: &mut Option<T>) -> Result<(), TrySendError<()>> {
+        let msg = message.take().unwrap();
+        let sent = self.step(Group::Sends, |core, told| with_memory(core.try_send(msg, told)));
+        let (why, msg) = match sent {
+            Ok(()) => return Ok(()),
+            Err(TrySendError::Full(msg)) => (TrySendError::Full(()), msg),
+            Err(TrySendError::Closed(msg)) => (TrySendError::Closed(()), msg),
+        };
+        *message = Some(msg);
+        Err(why)
+    }
+
+    /// Takes the oldest message, if there is one. It is one piece for all calls that receive.
+    #[inline(never)]
+    pub(crate) fn try_recv(&self) -> Result<T, TryRecvError> {
+        self.step(Group::Receives, |core, told| core.try_recv(told))
     }
 
     /// Makes a step that may take the spare link, or leave one.
