@@ -161,25 +161,21 @@ impl<T> Channel<T> {
         let will_wait = ticket.is_none() && !self.seems_ready(group);
         let mut own = will_wait.then(|| context.waker().clone());
         let mut left = None;
+        let mut answer = Poll::Pending;
         loop {
-            let answer = self.step_beside(group, |core, spare, told| {
-                let answer = finish(core, ticket, told, &mut left);
-                let mut waits = || {
-                    if let Some(own) = own.take() {
-                        left = with_memory(core.wait(group, ticket, own));
-                        return true;
-                    }
-                    let waiting = ticket.as_ref().and_then(|ticket| core.payload(group, ticket));
-                    waiting.map_or(false, |waker| waker.will_wake(context.waker()))
+            let is_done = self.step_beside(group, |core, spare, told| {
+                answer = finish(core, ticket, told, &mut left);
+                let is_done = answer.is_ready() || {
+                    let wakes = |waker: &Waker| waker.will_wake(context.waker());
+                    wait(core, group, ticket, &mut own, &mut left, &wakes)
                 };
-                let is_done = answer.is_ready() || waits();
                 self.settle(ticket, link.as_deref_mut(), spare);
-                is_done.then_some(answer)
+                is_done
             });
-            match answer {
-                Some(answer) => return answer,
-                None => own = Some(context.waker().clone()),
+            if is_done {
+                return answer;
             }
+            own = Some(context.waker().clone());
         }
     }
 
@@ -319,6 +315,27 @@ impl<T> Channel<T> {
     fn end(&self, side: Side) {
         self.step(Group::Closeds, |core, told| end(core, side, told));
     }
+}
+
+/// One that can't go on waits, by the waker that it brings, or goes on waiting by the one that it left
+/// there. The answer is whether it waits by one that is its own.
+///
+/// Not in line, so that it is compiled once for all that may wait.
+#[inline(never)]
+fn wait<T>(
+    core: &mut Core<T>,
+    group: Group,
+    ticket: &mut Option<Ticket>,
+    own: &mut Option<Waker>,
+    left: &mut Left,
+    is_own: &dyn Fn(&Waker) -> bool,
+) -> bool {
+    if let Some(own) = own.take() {
+        *left = with_memory(core.wait(group, ticket, own));
+        return true;
+    }
+    let waiting = ticket.as_ref().and_then(|ticket| core.payload(group, ticket));
+    waiting.map_or(false, is_own)
 }
 
 /// The core's step that takes the last handle of a side.
