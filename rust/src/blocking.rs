@@ -2,16 +2,13 @@
 //!
 //! It doesn't sleep by its `park`: an `unpark` that comes meanwhile is its caller's, and stays.
 
-use crate::primitives::{thread_local, turns, AtomicUsize, Condvar, StdMutex};
+use crate::primitives::{thread_local, AtomicUsize, Condvar, StdMutex};
 use std::cell::Cell;
 use std::future::Future;
 use std::pin::Pin;
 use std::sync::atomic::Ordering;
 use std::sync::{Arc, PoisonError};
 use std::task::{Context, Poll, Wake, Waker};
-
-/// How often a thread looks again before it sleeps.
-const LOOKS: u32 = 40;
 
 /// What a thread does, or what was done to it.
 const AWAKE: usize = 0;
@@ -50,14 +47,9 @@ impl Parker {
         Arc::new(Parker { state: AtomicUsize::new(AWAKE), bed, bell })
     }
 
-    /// Waits until somebody wakes this thread.
+    /// Waits until somebody wakes this thread, unless somebody has. It doesn't look again before it
+    /// sleeps: its caller has looked for long enough.
     fn wait(&self) {
-        for _look in 0..turns(LOOKS) {
-            if self.take_wake() {
-                return;
-            }
-            std::hint::spin_loop();
-        }
         let mut bed = self.bed.lock().unwrap_or_else(PoisonError::into_inner);
         let _ = self.state.compare_exchange(AWAKE, ASLEEP, ORDER, ORDER);
         while self.state.load(ORDER) == ASLEEP {

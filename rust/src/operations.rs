@@ -106,10 +106,7 @@ impl<T> Future for Send<'_, T> {
         if wait.ticket.is_none() && sender.channel.seems_ready(Group::Sends) {
             if let Some(taken) = message.take() {
                 // Not `try_send`, nor `try_recv` below: a step that stands in one place is in line there.
-                match sender
-                    .channel
-                    .step(Group::Sends, |core, told| with_memory(core.try_send(taken, told)))
-                {
+                match sender.channel.step(|core, told| with_memory(core.try_send(taken, told))) {
                     Ok(()) => return Poll::Ready(Ok(())),
                     Err(TrySendError::Full(left)) => *message = Some(left),
                     Err(TrySendError::Closed(left)) => return Poll::Ready(Err(SendError(left))),
@@ -157,7 +154,7 @@ impl<T> Future for Recv<'_, T> {
     fn poll(self: Pin<&mut Self>, cx: &mut Context<'_>) -> Poll<Self::Output> {
         let Recv { receiver, wait } = self.get_mut();
         if wait.ticket.is_none() && receiver.channel.seems_ready(Group::Receives) {
-            match receiver.channel.step(Group::Receives, |core, told| core.try_recv(told)) {
+            match receiver.channel.step(|core, told| core.try_recv(told)) {
                 Ok(message) => return Poll::Ready(Ok(message)),
                 Err(TryRecvError::Empty) => {}
                 Err(TryRecvError::Closed) => return Poll::Ready(Err(RecvError)),

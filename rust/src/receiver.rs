@@ -62,7 +62,13 @@ impl<T> Receiver<T> {
     /// ```
     #[inline]
     pub fn try_recv(&self) -> Result<T, TryRecvError> {
-        self.channel.step(Group::Receives, |core, told| core.try_recv(told))
+        if !self.channel.seems_ready(Group::Receives) {
+            return Err(TryRecvError::Empty);
+        }
+        if self.channel.is_terminated() {
+            return Err(TryRecvError::Closed);
+        }
+        self.channel.step(|core, told| core.try_recv(told))
     }
 
     /// Takes the oldest message, and waits while the channel is open and empty.
@@ -128,7 +134,7 @@ impl<T> Receiver<T> {
     /// assert_eq!(r.try_recv(), Ok(1));
     /// ```
     pub fn close(&self) -> bool {
-        self.channel.step(Group::Closeds, |core, told| core.close(told))
+        self.channel.step(|core, told| core.close(told))
     }
 
     /// Whether the channel is closed.

@@ -43,7 +43,13 @@ impl<T> Sender<T> {
     /// ```
     #[inline]
     pub fn try_send(&self, msg: T) -> Result<(), TrySendError<T>> {
-        self.channel.step(Group::Sends, |core, told| with_memory(core.try_send(msg, told)))
+        if self.is_closed() {
+            return Err(TrySendError::Closed(msg));
+        }
+        if !self.channel.seems_ready(Group::Sends) {
+            return Err(TrySendError::Full(msg));
+        }
+        self.channel.step(|core, told| with_memory(core.try_send(msg, told)))
     }
 
     /// Sends a message, and waits while the channel is full.
@@ -137,7 +143,10 @@ impl<T> Sender<T> {
     /// assert_eq!(s.force_send(4), Err(SendError(4)));
     /// ```
     pub fn force_send(&self, msg: T) -> Result<Option<T>, SendError<T>> {
-        self.channel.step(Group::Sends, |core, told| with_memory(core.force_send(msg, told)))
+        if self.is_closed() {
+            return Err(SendError(msg));
+        }
+        self.channel.step(|core, told| with_memory(core.force_send(msg, told)))
     }
 
     /// Closes the channel, and answers whether it was open. What it holds can still be received.
@@ -152,7 +161,7 @@ impl<T> Sender<T> {
     /// assert_eq!(r.try_recv(), Ok(1));
     /// ```
     pub fn close(&self) -> bool {
-        self.channel.step(Group::Closeds, |core, told| core.close(told))
+        self.channel.step(|core, told| core.close(told))
     }
 
     /// Whether the channel is closed.
