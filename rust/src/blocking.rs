@@ -2,7 +2,7 @@
 //!
 //! It doesn't sleep by its `park`: an `unpark` that comes meanwhile is its caller's, and stays.
 
-use crate::primitives::{thread_local, turns, AtomicUsize, Condvar, StdMutex};
+use crate::primitives::{thread_local, AtomicUsize, Condvar, StdMutex};
 use std::cell::Cell;
 use std::future::Future;
 use std::pin::Pin;
@@ -10,9 +10,6 @@ use std::sync::atomic::Ordering;
 use std::sync::{Arc, PoisonError};
 use std::task::{Context, Poll, Wake, Waker};
 use std::time::Instant;
-
-/// How often a thread looks again before it sleeps.
-const LOOKS: u32 = 40;
 
 /// What a thread does, or what was done to it.
 const AWAKE: usize = 0;
@@ -51,14 +48,9 @@ impl Parker {
         Arc::new(Parker { state: AtomicUsize::new(AWAKE), bed, bell })
     }
 
-    /// Waits until somebody wakes this thread, or until `end`, and answers whether somebody did.
+    /// Waits until somebody wakes this thread, unless somebody has, or until `end`. The answer is whether
+    /// somebody did. It doesn't look again before it sleeps: its caller has looked for long enough.
     fn wait(&self, end: Option<Instant>) -> bool {
-        for _look in 0..turns(LOOKS) {
-            if self.take_wake() {
-                return true;
-            }
-            std::hint::spin_loop();
-        }
         let mut bed = self.bed.lock().unwrap_or_else(PoisonError::into_inner);
         let _ = self.state.compare_exchange(AWAKE, ASLEEP, ORDER, ORDER);
         while self.state.load(ORDER) == ASLEEP {

@@ -40,8 +40,7 @@
 //!   another's step, which moves at most [`ROUND_LIMIT`] messages.
 //! - A new call hides a method of its name that a trait of yours gives a handle: that is called as
 //!   `Trait::method(&handle)` then.
-//! - `std` is needed. The feature `std` is there by name alone, and `portable-atomic` isn't. The
-//!   feature `parking_lot`, which isn't a default, takes that crate's lock in place of std's.
+//! - `std` is needed. The feature `std` is there by name alone, and `portable-atomic` isn't.
 
 #![forbid(unsafe_code)]
 #![warn(missing_docs, missing_debug_implementations, rust_2018_idioms)]

@@ -572,7 +572,7 @@ impl<T> Channel<T> {
     /// Takes messages while it has the lock.
     fn recv_round(&self, into: &mut Vec<T>, limit: usize) -> Result<usize, TryRecvError> {
         let room = self.make_room(into, limit);
-        self.step(Group::Receives, |core, told| take(core, into, room, told))
+        self.step(|core, told| take(core, into, room, told))
     }
 
     /// Takes up to so many messages more, in rounds, as long as there seem to be any.
@@ -589,7 +589,7 @@ impl<T> Channel<T> {
 
     /// Sends messages from the front while it has the lock.
     fn send_round(&self, from: &mut VecDeque<T>) -> Result<usize, TrySendError<()>> {
-        self.step(Group::Sends, |core, told| put(core, from, ROUND_LIMIT, told))
+        self.step(|core, told| put(core, from, ROUND_LIMIT, told))
     }
 }
 

@@ -62,6 +62,12 @@ impl<T> Receiver<T> {
     /// ```
     #[inline]
     pub fn try_recv(&self) -> Result<T, TryRecvError> {
+        if !self.channel.seems_ready(Group::Receives) {
+            return Err(TryRecvError::Empty);
+        }
+        if self.channel.is_terminated() {
+            return Err(TryRecvError::Closed);
+        }
         self.channel.try_recv()
     }
 
@@ -138,7 +144,7 @@ impl<T> Receiver<T> {
     /// assert_eq!(r.try_recv(), Ok(1));
     /// ```
     pub fn close(&self) -> bool {
-        self.channel.step(Group::Closeds, |core, told| core.close(told))
+        self.channel.step(|core, told| core.close(told))
     }
 
     /// Whether the channel is closed.

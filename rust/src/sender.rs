@@ -43,6 +43,12 @@ impl<T> Sender<T> {
     /// ```
     #[inline]
     pub fn try_send(&self, msg: T) -> Result<(), TrySendError<T>> {
+        if self.is_closed() {
+            return Err(TrySendError::Closed(msg));
+        }
+        if !self.channel.seems_ready(Group::Sends) {
+            return Err(TrySendError::Full(msg));
+        }
         let mut message = Some(msg);
         match (self.channel.try_send(&mut message), message) {
             (Err(TrySendError::Full(())), Some(msg)) => Err(TrySendError::Full(msg)),
@@ -169,7 +175,10 @@ impl<T> Sender<T> {
     /// assert_eq!(s.force_send(4), Err(SendError(4)));
     /// ```
     pub fn force_send(&self, msg: T) -> Result<Option<T>, SendError<T>> {
-        self.channel.step(Group::Sends, |core, told| with_memory(core.force_send(msg, told)))
+        if self.is_closed() {
+            return Err(SendError(msg));
+        }
+        self.channel.step(|core, told| with_memory(core.force_send(msg, told)))
     }
 
     /// Closes the channel, and answers whether it was open. What it holds can still be received.
@@ -184,7 +193,7 @@ impl<T> Sender<T> {
     /// assert_eq!(r.try_recv(), Ok(1));
     /// ```
     pub fn close(&self) -> bool {
-        self.channel.step(Group::Closeds, |core, told| core.close(told))
+        self.channel.step(|core, told| core.close(told))
     }
 
     /// Whether the channel is closed.
