@@ -5,7 +5,7 @@
 
 # What the tests need from Debian, if the registry can't be reached.
 packages='librust-async-executor-dev librust-futures-core-dev librust-futures-lite-dev
-librust-parking-lot-dev librust-slab-dev librust-tokio-dev'
+librust-slab-dev librust-tokio-dev'
 # What loom needs, which the models are made with.
 packages="$packages librust-generator-dev librust-scoped-tls-dev librust-tracing-subscriber-dev"
 debian=/usr/share/cargo/registry

@@ -61,4 +61,5 @@ mod batches;
 mod handles;
 mod messages;
 mod orders;
+mod questions;
 mod wakers;

@@ -3,9 +3,12 @@
 use std::cell::RefCell;
 use std::sync::Arc;
 
+use futures_core::FusedStream;
 use loom::model;
 use loom::sync::atomic::{AtomicUsize, Ordering};
-use vamorilesh::{unbounded, Receiver, Sender, TryRecvError};
+use vamorilesh::{bounded, unbounded, Receiver, Sender, TryRecvError, TrySendError};
+
+use super::{caller, is_ready};
 
 /// What the one who did something calls, and the handles that it keeps until the end.
 type Call<H> = fn(H) -> Vec<H>;
@@ -58,13 +61,65 @@ fn of_messages() {
 }
 
 #[test]
+fn of_messages_that_somebody_is_told_of() {
+    let ends = || {
+        let (s, r) = unbounded::<u64>();
+        let (other, waker) = (r.clone(), caller(&s));
+        let mut wait = Box::pin(async move { other.recv().await });
+        assert!(!is_ready(&mut wait, waker));
+        (s, (r, wait))
+    };
+    is_in_order(
+        ends,
+        |s| {
+            s.try_send(1).unwrap();
+            vec![s]
+        },
+        |(r, _wait)| !r.is_empty(),
+    );
+}
+
+#[test]
+fn of_what_a_plain_call_sees() {
+    let full = || {
+        let (s, r) = bounded(1);
+        s.try_send(1).unwrap();
+        (r.clone(), (s, r))
+    };
+    let receive: Call<Receiver<u64>> = |r| {
+        let _ = r.try_recv();
+        vec![r]
+    };
+    is_in_order(full, receive, |(_, r)| r.try_recv() == Err(TryRecvError::Empty));
+    let close: Call<Receiver<u64>> = |r| {
+        r.close();
+        vec![r]
+    };
+    is_in_order(full, close, |(s, _)| s.try_send(2) == Err(TrySendError::Closed(2)));
+    is_in_order(full, close, |(s, _)| s.force_send(2).is_err());
+    let empty = || {
+        let (s, r) = bounded(1);
+        (s.clone(), (s, r))
+    };
+    let send: Call<Sender<u64>> = |s| {
+        let _ = s.try_send(1);
+        vec![s]
+    };
+    is_in_order(empty, send, |(s, _)| s.try_send(2) == Err(TrySendError::Full(2)));
+}
+
+#[test]
 fn of_closes() {
     let close: Call<Sender<u64>> = |s| {
         s.close();
         vec![s]
     };
-    let sees: [fn(&Receiver<u64>) -> bool; 3] =
-        [|r| r.is_closed(), |r| r.try_recv() == Err(TryRecvError::Closed), |r| !r.close()];
+    let sees: [fn(&Receiver<u64>) -> bool; 4] = [
+        |r| r.is_closed(),
+        |r| r.is_terminated(),
+        |r| r.try_recv() == Err(TryRecvError::Closed),
+        |r| !r.close(),
+    ];
     sees.into_iter().for_each(|sees| is_in_order(unbounded, close, sees));
 }
 

@@ -2,16 +2,14 @@
 //!
 //! It doesn't sleep by its `park`: an `unpark` that comes meanwhile is its caller's, and stays.
 
-use crate::primitives::{thread_local, turns, AtomicUsize, Condvar, StdMutex};
+use crate::primitives::{thread_local, AtomicUsize, Condvar, StdMutex};
 use std::cell::Cell;
 use std::future::Future;
 use std::pin::Pin;
 use std::sync::atomic::Ordering;
 use std::sync::{Arc, PoisonError};
 use std::task::{Context, Poll, Wake, Waker};
-
-/// How often a thread looks again before it sleeps.
-const LOOKS: u32 = 40;
+use std::time::Instant;
 
 /// What a thread does, or what was done to it.
 const AWAKE: usize = 0;
@@ -50,20 +48,23 @@ impl Parker {
         Arc::new(Parker { state: AtomicUsize::new(AWAKE), bed, bell })
     }
 
-    /// Waits until somebody wakes this thread.
-    fn wait(&self) {
-        for _look in 0..turns(LOOKS) {
-            if self.take_wake() {
-                return;
-            }
-            std::hint::spin_loop();
-        }
+    /// Waits until somebody wakes this thread, unless somebody has, or until `end`. The answer is whether
+    /// somebody did. It doesn't look again before it sleeps: its caller has looked for long enough.
+    fn wait(&self, end: Option<Instant>) -> bool {
         let mut bed = self.bed.lock().unwrap_or_else(PoisonError::into_inner);
         let _ = self.state.compare_exchange(AWAKE, ASLEEP, ORDER, ORDER);
         while self.state.load(ORDER) == ASLEEP {
-            bed = self.bell.wait(bed).unwrap_or_else(PoisonError::into_inner);
+            let Some(end) = end else {
+                bed = self.bell.wait(bed).unwrap_or_else(PoisonError::into_inner);
+                continue;
+            };
+            let left = end.saturating_duration_since(Instant::now());
+            if left.is_zero() {
+                break;
+            }
+            bed = self.bell.wait_timeout(bed, left).unwrap_or_else(PoisonError::into_inner).0;
         }
-        self.take_wake();
+        self.take_wake()
     }
 
     /// Whether somebody woke this thread since it asked last. It is awake from then on.
@@ -80,16 +81,32 @@ thread_local! {
 
 /// Polls a future until it is ready, and sleeps whenever it is pending until it is woken.
 pub fn block_on<F: Future + Unpin>(mut future: F) -> F::Output {
+    match block_until(&mut future, None) {
+        Poll::Ready(output) => output,
+        Poll::Pending => unreachable!("a wait without an end has ended"),
+    }
+}
+
+/// Polls a future until it is ready, or until `end`, and sleeps whenever it is pending until it is
+/// woken. It is polled at least once.
+pub(crate) fn block_until<F: Future + Unpin>(
+    future: &mut F,
+    end: Option<Instant>,
+) -> Poll<F::Output> {
+    let mut polled = Poll::Pending;
+    poll_until(end, &mut |context| {
+        polled = Pin::new(&mut *future).poll(context);
+        polled.is_ready()
+    });
+    polled
+}
+
+/// Makes polls until one is ready, or until `end`. It is compiled once for all futures.
+fn poll_until(end: Option<Instant>, poll: &mut dyn FnMut(&mut Context<'_>) -> bool) {
     let parker = PARKER.try_with(Cell::take).ok().flatten().unwrap_or_else(Parker::new);
     parker.state.store(AWAKE, ORDER);
     let waker = Waker::from(parker.clone());
     let mut context = Context::from_waker(&waker);
-    let output = loop {
-        match Pin::new(&mut future).poll(&mut context) {
-            Poll::Pending => parker.wait(),
-            Poll::Ready(output) => break output,
-        }
-    };
+    while !poll(&mut context) && parker.wait(end) {}
     let _ = PARKER.try_with(|own| own.set(Some(parker)));
-    output
 }

@@ -1,6 +1,6 @@
 //! A channel that threads and tasks share: one lock round the proved core.
 //!
-//! Each call makes one step of the core under the lock.
+//! A call makes one step of the core under the lock, or none if its answer can be seen without.
 //!
 //! What can be seen of the core without the lock, how many messages there are and whether it is
 //! closed, stands in one word, which is written under the lock after each step. The questions read
@@ -8,32 +8,34 @@
 //! or `try_recv`, if it seems to go on, and else the poll that waits. A thread looks for a while
 //! before it waits.
 //!
+//! A plain call that would change nothing reads that word alone: a `try_recv` of an empty channel, a
+//! `try_send` into a full one, and any of them at a closed one, but for what is left there. Each such
+//! answer comes from one reading of the word, and stands among the steps where that reading does: a
+//! step that has ended has written the word before, and one that begins later writes it after.
+//!
 //! The numbers of handles are kept outside the lock, so that a copy needs none: to the core there
 //! is one sender as long as there is any, and one receiver likewise. The core is told when the last
 //! one goes, and decides what that means. It is asked for each upgrade, too.
 
 use crate::lock::Lock;
 use crate::marks::Told;
-use crate::primitives::{abort, pause, turns, AtomicUsize};
+use crate::primitives::{abort, look, AtomicUsize};
 use crate::proved::channel_core::{Core as ProvedCore, Group, HANDLE_LIMIT};
 use crate::proved::event_list::Ticket;
 use crate::shim::Global;
+use crate::{TryRecvError, TrySendError};
 use std::num::NonZeroUsize;
 use std::sync::atomic::Ordering;
 use std::sync::{Arc, Weak};
 use std::task::{Context, Poll, Waker};
-use std::time::Duration;
 
 pub(crate) type Core<T> = ProvedCore<T, Waker>;
 
-/// How often a thread looks before it waits.
-const LOOKS: u32 = 100;
-
-/// How long it pauses between two looks. All of them take longer than some pauses at a taken lock.
-const PAUSE: Duration = Duration::from_nanos(100);
-
-/// What the other side needs for a message, at the least.
-const MESSAGE: Duration = Duration::from_nanos(10);
+/// How often a thread looks before it waits. It looks often if the look before was answered, or as many
+/// as `EVERY` in a row weren't, and seldom otherwise.
+const SELDOM: u32 = 1;
+const OFTEN: u32 = 6;
+const EVERY: usize = 32;
 
 /// How `seen` is written: in the one order of all calls on all channels. Who sends on one channel and
 /// then reads of another, while somebody does so the other way round, may count on that. On x86 the
@@ -62,6 +64,8 @@ pub(crate) struct Channel<T> {
     seen: AtomicUsize,
     /// How many handles each side has.
     handles: [AtomicUsize; 2],
+    /// How many times in a row a thread looked in vain before it waited.
+    vain: AtomicUsize,
 }
 
 /// The senders of a channel, or its receivers.
@@ -83,30 +87,47 @@ impl<T> Channel<T> {
             capacity: capacity.and_then(NonZeroUsize::new),
             seen: AtomicUsize::new(0),
             handles: [AtomicUsize::new(1), AtomicUsize::new(1)],
+            vain: AtomicUsize::new(0),
         }
     }
 
-    /// Makes a step under the lock, and then wakes those whom it told. Sends and receives take turns at
-    /// a taken lock, by the group of the step. What is neither has the group `Closeds`, and takes none.
+    /// Makes a step under the lock, and then wakes those whom it told.
     #[inline]
-    pub(crate) fn step<A>(
-        &self,
-        group: Group,
-        step: impl FnOnce(&mut Core<T>, &mut Told) -> A,
-    ) -> A {
-        self.step_beside(group, |core, _spare, told| step(core, told))
+    pub(crate) fn step<A>(&self, step: impl FnOnce(&mut Core<T>, &mut Told) -> A) -> A {
+        self.step_beside(|core, _spare, told| step(core, told))
+    }
+
+    /// Sends a message at once, or leaves it in its place. It is one piece for all calls that send, and
+    /// a message moves no more than once in it: from its place into the queue.
+    ///
+    /// # Panics
+    ///
+    /// If there is no message.
+    #[inline(never)]
+    pub(crate) fn try_send(&self, message: &mut Option<T>) -> Result<(), TrySendError<()>> {
+        let msg = message.take().unwrap();
+        let sent = self.step(|core, told| with_memory(core.try_send(msg, told)));
+        let (why, msg) = match sent {
+            Ok(()) => return Ok(()),
+            Err(TrySendError::Full(msg)) => (TrySendError::Full(()), msg),
+            Err(TrySendError::Closed(msg)) => (TrySendError::Closed(()), msg),
+        };
+        *message = Some(msg);
+        Err(why)
+    }
+
+    /// Takes the oldest message, if there is one. It is one piece for all calls that receive.
+    #[inline(never)]
+    pub(crate) fn try_recv(&self) -> Result<T, TryRecvError> {
+        self.step(|core, told| core.try_recv(told))
     }
 
     /// Makes a step that may take the spare link, or leave one.
     #[inline]
-    fn step_beside<A>(
-        &self,
-        group: Group,
-        step: impl FnOnce(&mut Core<T>, &mut Link<T>, &mut Told) -> A,
-    ) -> A {
+    fn step_beside<A>(&self, step: impl FnOnce(&mut Core<T>, &mut Link<T>, &mut Told) -> A) -> A {
         let mut told = Told::default();
         let answer = {
-            let mut locked = self.locked.lock(move || self.time_to_turn(group));
+            let mut locked = self.locked.lock();
             let (core, spare) = &mut *locked;
             let answer = step(core, spare, &mut told);
             let seen = 2 * core.len() + usize::from(core.is_closed());
@@ -135,25 +156,21 @@ impl<T> Channel<T> {
         let will_wait = ticket.is_none() && !self.seems_ready(group);
         let mut own = will_wait.then(|| context.waker().clone());
         let mut left = None;
+        let mut answer = Poll::Pending;
         loop {
-            let answer = self.step_beside(group, |core, spare, told| {
-                let answer = finish(core, ticket, told, &mut left);
-                let mut waits = || {
-                    if let Some(own) = own.take() {
-                        left = with_memory(core.wait(group, ticket, own));
-                        return true;
-                    }
-                    let waiting = ticket.as_ref().and_then(|ticket| core.payload(group, ticket));
-                    waiting.map_or(false, |waker| waker.will_wake(context.waker()))
+            let is_done = self.step_beside(|core, spare, told| {
+                answer = finish(core, ticket, told, &mut left);
+                let is_done = answer.is_ready() || {
+                    let wakes = |waker: &Waker| waker.will_wake(context.waker());
+                    wait(core, group, ticket, &mut own, &mut left, &wakes)
                 };
-                let is_done = answer.is_ready() || waits();
                 self.settle(ticket, link.as_deref_mut(), spare);
-                is_done.then_some(answer)
+                is_done
             });
-            match answer {
-                Some(answer) => return answer,
-                None => own = Some(context.waker().clone()),
+            if is_done {
+                return answer;
             }
+            own = Some(context.waker().clone());
         }
     }
 
@@ -167,7 +184,7 @@ impl<T> Channel<T> {
         link: Option<&mut Link<T>>,
     ) -> Option<Waker> {
         ticket.as_ref()?;
-        self.step_beside(group, |core, spare, told| {
+        self.step_beside(|core, spare, told| {
             let left = core.withdraw(group, ticket, told);
             self.settle(ticket, link, spare);
             left
@@ -217,30 +234,21 @@ impl<T> Channel<T> {
         }
     }
 
-    /// How long the other side seems to need until it has nothing left to do: an empty channel is the
-    /// senders' turn, and a full one the receivers'. Without a bound there are no turns.
-    fn time_to_turn(&self, group: Group) -> Duration {
-        let left = self.capacity().and_then(|most| match group {
-            Group::Sends => Some(self.len()),
-            Group::Receives | Group::Streams => Some(most - self.len()),
-            Group::Closeds => None,
-        });
-        let left = left.map_or(u32::MAX, |left| u32::try_from(left).unwrap_or(u32::MAX));
-        MESSAGE * left
-    }
-
     /// Lets others run for a while, at most until who waits for this seems to go on. That is cheaper
     /// than to sleep if another thread is about to make it so.
     #[inline]
     pub(crate) fn await_turn(&self, group: Group) {
-        let mut looks = 0;
-        while !self.seems_ready(group) {
-            pause(PAUSE);
-            looks += 1;
-            if looks == turns(LOOKS) {
-                break;
-            }
+        if !self.seems_ready(group) {
+            self.look(group);
         }
+    }
+
+    #[cold]
+    fn look(&self, group: Group) {
+        let vain = self.vain.load(Ordering::Relaxed);
+        let count = if vain % EVERY == 0 { OFTEN } else { SELDOM };
+        let is_answered = look(count, &mut || self.seems_ready(group));
+        self.vain.store(if is_answered { 0 } else { vain.wrapping_add(1) }, Ordering::Relaxed);
     }
 
     pub(crate) fn capacity(&self) -> Option<usize> {
@@ -267,7 +275,7 @@ impl<T> Channel<T> {
     /// Counts one more handle if the channel is open, and answers whether it is. The core isn't told:
     /// it knows of one.
     pub(crate) fn upgrade(&self, side: Side) -> bool {
-        self.step(Group::Closeds, |core, told| {
+        self.step(|core, told| {
             if core.is_closed() {
                 return false;
             }
@@ -291,8 +299,29 @@ impl<T> Channel<T> {
     /// Tells the core that a side has no handle left.
     #[cold]
     fn end(&self, side: Side) {
-        self.step(Group::Closeds, |core, told| end(core, side, told));
+        self.step(|core, told| end(core, side, told));
     }
+}
+
+/// One that can't go on waits, by the waker that it brings, or goes on waiting by the one that it left
+/// there. The answer is whether it waits by one that is its own.
+///
+/// Not in line, so that it is compiled once for all that may wait.
+#[inline(never)]
+fn wait<T>(
+    core: &mut Core<T>,
+    group: Group,
+    ticket: &mut Option<Ticket>,
+    own: &mut Option<Waker>,
+    left: &mut Left,
+    is_own: &dyn Fn(&Waker) -> bool,
+) -> bool {
+    if let Some(own) = own.take() {
+        *left = with_memory(core.wait(group, ticket, own));
+        return true;
+    }
+    let waiting = ticket.as_ref().and_then(|ticket| core.payload(group, ticket));
+    waiting.map_or(false, is_own)
 }
 
 /// The core's step that takes the last handle of a side.

@@ -7,10 +7,11 @@
 //!
 //! The names and answers are those of the crate `async-channel` 2.5. New are the calls for many
 //! messages: [`Sender::send_many`] and [`Receiver::recv_many`], their kinds that block or don't
-//! wait, and [`Receiver::try_iter`]. The state of a channel, which decides the answers and who is
-//! woken, is proved source with its contracts taken out. What stands round it in this crate is
-//! written by hand and tested: the lock, the handles and their numbers, the futures and the
-//! blocking calls.
+//! wait, and [`Receiver::try_iter`]. So are those that block for so long at the most, as
+//! [`Receiver::recv_timeout`], and futures that have their handle, as [`Receiver::into_recv`]. The
+//! state of a channel, which decides the answers and who is woken, is proved source with its contracts
+//! taken out. What stands round it in this crate is written by hand and tested: the lock, the handles
+//! and their numbers, the futures and the blocking calls.
 //!
 //! ```
 //! # futures_lite::future::block_on(async {
@@ -39,8 +40,7 @@
 //!   another's step, which moves at most [`ROUND_LIMIT`] messages.
 //! - A new call hides a method of its name that a trait of yours gives a handle: that is called as
 //!   `Trait::method(&handle)` then.
-//! - `std` is needed. The feature `std` is there by name alone, and `portable-atomic` isn't. The
-//!   feature `parking_lot`, which isn't a default, takes that crate's lock in place of std's.
+//! - `std` is needed. The feature `std` is there by name alone, and `portable-atomic` isn't.
 
 #![forbid(unsafe_code)]
 #![warn(missing_docs, missing_debug_implementations, rust_2018_idioms)]
@@ -50,6 +50,8 @@
 #[cfg(not(target_family = "wasm"))]
 mod blocking;
 mod channel;
+#[cfg(not(target_family = "wasm"))]
+mod deadlines;
 // Of the erased source too. It stands here so that the errors have no longer names than these.
 #[path = "proved/channel_core/errors.rs"]
 #[allow(dead_code, missing_docs)]
@@ -74,6 +76,10 @@ mod many;
 #[allow(dead_code, missing_docs, missing_debug_implementations)]
 mod shim;
 
+#[cfg(not(target_family = "wasm"))]
+pub use deadlines::{RecvTimeoutError, SendTimeoutError};
+#[cfg(not(target_family = "wasm"))]
+pub use many::{IntoIter, Iter};
 pub use many::{RecvMany, SendMany, TryIter, ROUND_LIMIT};
 pub use operations::{Closed, Recv, Send};
 pub use receiver::{Receiver, WeakReceiver};
@@ -146,6 +152,7 @@ pub use errors::RecvError;
 pub use errors::TryRecvError;
 
 use channel::Channel;
+use std::mem;
 use std::sync::Arc;
 
 /// The erased run, for the programs in `scripts`. It is no part of the interface.
@@ -184,6 +191,8 @@ pub use blocking::block_on;
 /// ```
 pub fn bounded<T>(cap: usize) -> (Sender<T>, Receiver<T>) {
     assert!(cap > 0, "capacity cannot be zero");
+    // In async-channel a place has a number beside its message.
+    assert!(cap <= isize::MAX as usize / mem::size_of::<(usize, T)>(), "capacity overflow");
     handles(Channel::new(Some(cap)))
 }
 
@@ -218,6 +227,8 @@ write_names! {
     "WeakReceiver" WeakReceiver<T>, "Send" Send<'_, T>, "Recv" Recv<'_, T>, "Closed" Closed<'_, T>,
     "SendMany" SendMany<'_, T>, "RecvMany" RecvMany<'_, T>, "TryIter" TryIter<'_, T>,
 }
+#[cfg(not(target_family = "wasm"))]
+write_names! { "Iter" Iter<'_, T>, "IntoIter" IntoIter<T>, }
 
 /// The first two handles of a channel.
 fn handles<T>(channel: Channel<T>) -> (Sender<T>, Receiver<T>) {

@@ -13,6 +13,7 @@ use crate::shim::Over;
 use crate::{Receiver, SendError, Sender, TryRecvError, TrySendError};
 use std::collections::VecDeque;
 use std::future::Future;
+use std::iter::FusedIterator;
 use std::pin::Pin;
 use std::task::{Context, Poll};
 
@@ -32,6 +33,15 @@ use std::task::{Context, Poll};
 /// assert_eq!(r.len(), ROUND_LIMIT + 1);
 /// ```
 pub const ROUND_LIMIT: usize = 128;
+
+/// How many rounds a poll makes before it lets other tasks run: that is some 20 microseconds.
+const POLL_ROUNDS: usize = 8;
+
+/// Lets other tasks run. The caller's is woken at once, to go on.
+fn let_others_run<A>(context: &Context<'_>) -> Poll<A> {
+    context.waker().wake_by_ref();
+    Poll::Pending
+}
 
 impl<T> Sender<T> {
     /// Sends messages from the front of `from` at once, as many as fit, and answers how many went
@@ -73,9 +83,9 @@ impl<T> Sender<T> {
     /// Sends all messages, in order, and waits while the channel is full.
     ///
     /// They are taken out of `messages` at once. They go in as there is room, at most
-    /// [`ROUND_LIMIT`] together, and others may come in between. If there are none it is ready at
-    /// once, also if the channel is closed. [`SendMany`] says what becomes of them if it is given
-    /// up.
+    /// [`ROUND_LIMIT`] together, and others may come in between. A poll sends so many eight times at
+    /// the most, and then lets other tasks run. If there are none it is ready at once, also if the
+    /// channel is closed. [`SendMany`] says what becomes of them if it is given up.
     ///
     /// # Errors
     ///
@@ -185,7 +195,8 @@ impl<T> Receiver<T> {
     ///
     /// The future answers how many came: at least one, but none if the channel is closed and empty,
     /// or `limit` is 0. It doesn't wait for more than there is. At most [`ROUND_LIMIT`] messages come
-    /// out together, and others may come in between.
+    /// out together, and others may come in between. A poll takes so many eight times at the most, and
+    /// then lets other tasks run.
     ///
     /// ```
     /// # futures_lite::future::block_on(async {
@@ -201,7 +212,7 @@ impl<T> Receiver<T> {
     /// # });
     /// ```
     pub fn recv_many<'a>(&'a self, into: &'a mut Vec<T>, limit: usize) -> RecvMany<'a, T> {
-        RecvMany { receiver: self, into, limit, wait: Wait::new(Group::Receives) }
+        RecvMany { receiver: self, into, limit, taken: 0, wait: Wait::new(Group::Receives) }
     }
 
     /// Takes up to `limit` messages, the oldest first, puts them after those in `into`, and blocks
@@ -231,6 +242,22 @@ impl<T> Receiver<T> {
             Err(TryRecvError::Empty) => crate::blocking::block_on(self.recv_many(into, limit)),
             answer => answer.unwrap_or(0),
         }
+    }
+
+    /// An iterator over the messages to come, which blocks the thread while the channel is open and
+    /// empty. It ends once the channel is empty and closed. `for message in &receiver` makes it too.
+    ///
+    /// A task that blocks its thread may keep the very task from running that would send.
+    ///
+    /// ```
+    /// let (s, r) = vamorilesh::bounded(1);
+    /// std::thread::spawn(move || s.send_many_blocking(1..4));
+    ///
+    /// assert_eq!(r.iter().sum::<u64>(), 6);
+    /// ```
+    #[cfg(not(target_family = "wasm"))]
+    pub fn iter(&self) -> Iter<'_, T> {
+        Iter { receiver: self }
     }
 
     /// An iterator over the messages that there are, which never waits for one.
@@ -326,7 +353,12 @@ impl<T> Future for SendMany<'_, T> {
     fn poll(self: Pin<&mut Self>, cx: &mut Context<'_>) -> Poll<Self::Output> {
         let SendMany { sender, left, count, done, wait } = self.get_mut();
         assert!(!*done, "a send was polled after it had finished");
+        let mut rounds = POLL_ROUNDS;
         while !left.is_empty() {
+            if rounds == 0 {
+                return let_others_run(cx);
+            }
+            rounds -= 1;
             let polled = wait.poll(&sender.channel, cx, |core, ticket, told, back| {
                 let mut first = left.pop_front();
                 let polled = with_memory(core.finish_send(&mut first, ticket, told, back));
@@ -354,7 +386,7 @@ impl<T> Future for SendMany<'_, T> {
 ///
 /// One that has finished may be polled again, and is a new receive then. One that waits and is
 /// dropped takes no message, so that none is lost: if it was told of one, the next receive that
-/// waits is told of it.
+/// waits is told of it. If one is dropped that let other tasks run, what came is in the list.
 ///
 /// ```
 /// # futures_lite::future::block_on(async {
@@ -375,6 +407,8 @@ pub struct RecvMany<'a, T> {
     into: &'a mut Vec<T>,
     /// How many it takes at the most.
     limit: usize,
+    /// How many it took before it let others run.
+    taken: usize,
     /// Where it waits.
     wait: Wait<T>,
 }
@@ -383,19 +417,33 @@ impl<T> Future for RecvMany<'_, T> {
     type Output = usize;
 
     fn poll(self: Pin<&mut Self>, cx: &mut Context<'_>) -> Poll<usize> {
-        let RecvMany { receiver, into, limit, wait } = self.get_mut();
+        let RecvMany { receiver, into, limit, taken, wait } = self.get_mut();
         let (channel, limit) = (&receiver.channel, *limit);
         if limit == 0 {
             return Poll::Ready(0);
         }
-        let room = channel.make_room(into, limit);
-        let first = wait.poll(channel, cx, |core, ticket, told, left| {
-            core.finish_recv(ticket, told, left).map_ok(|message| {
-                into.push(message);
-                1 + take(core, into, room - 1, told).unwrap_or(0)
-            })
-        });
-        first.map(|first| first.map_or(0, |first| first + channel.recv_more(into, limit - first)))
+        let most = (limit - *taken).min(POLL_ROUNDS * ROUND_LIMIT);
+        let mut came = 0;
+        if *taken == 0 {
+            let room = channel.make_room(into, most);
+            let first = wait.poll(channel, cx, |core, ticket, told, left| {
+                core.finish_recv(ticket, told, left).map_ok(|message| {
+                    into.push(message);
+                    1 + take(core, into, room - 1, told).unwrap_or(0)
+                })
+            });
+            match first {
+                Poll::Ready(Ok(first)) => came = first,
+                Poll::Ready(Err(_)) => return Poll::Ready(0),
+                Poll::Pending => return Poll::Pending,
+            }
+        }
+        came += channel.recv_more(into, most - came);
+        *taken += came;
+        if came == most && *taken < limit && channel.len() > 0 {
+            return let_others_run(cx);
+        }
+        Poll::Ready(std::mem::take(taken))
     }
 }
 
@@ -430,6 +478,89 @@ impl<T> Iterator for TryIter<'_, T> {
     }
 }
 
+/// The messages to come: [`Receiver::iter`] makes it.
+///
+/// Each message is received when it is asked for, and the thread blocks while there is none. Once the
+/// channel is empty and closed it ends.
+///
+/// ```
+/// let (s, r) = vamorilesh::unbounded();
+/// s.try_send(1).unwrap();
+/// drop(s);
+///
+/// let mut messages = r.iter();
+/// assert_eq!((messages.next(), messages.next()), (Some(1), None));
+/// ```
+#[cfg(not(target_family = "wasm"))]
+#[must_use = "iterators are lazy and do nothing unless consumed"]
+pub struct Iter<'a, T> {
+    /// Whose messages they are.
+    receiver: &'a Receiver<T>,
+}
+
+/// The messages to come, by an iterator that has their receiver: `for message in receiver` makes it.
+///
+/// ```
+/// let (s, r) = vamorilesh::bounded(1);
+/// std::thread::spawn(move || s.send_many_blocking(1..4));
+///
+/// let mut sum = 0;
+/// for message in r {
+///     sum += message;
+/// }
+/// assert_eq!(sum, 6);
+/// ```
+#[cfg(not(target_family = "wasm"))]
+#[must_use = "iterators are lazy and do nothing unless consumed"]
+pub struct IntoIter<T> {
+    /// Whose messages they are.
+    receiver: Receiver<T>,
+}
+
+#[cfg(not(target_family = "wasm"))]
+impl<T> Iterator for Iter<'_, T> {
+    type Item = T;
+
+    fn next(&mut self) -> Option<T> {
+        self.receiver.recv_blocking().ok()
+    }
+}
+
+#[cfg(not(target_family = "wasm"))]
+impl<T> Iterator for IntoIter<T> {
+    type Item = T;
+
+    fn next(&mut self) -> Option<T> {
+        self.receiver.recv_blocking().ok()
+    }
+}
+
+// Both end for good: a channel that is empty and closed stays so.
+#[cfg(not(target_family = "wasm"))]
+impl<T> FusedIterator for Iter<'_, T> {}
+#[cfg(not(target_family = "wasm"))]
+impl<T> FusedIterator for IntoIter<T> {}
+
+#[cfg(not(target_family = "wasm"))]
+impl<'a, T> IntoIterator for &'a Receiver<T> {
+    type Item = T;
+    type IntoIter = Iter<'a, T>;
+
+    fn into_iter(self) -> Iter<'a, T> {
+        self.iter()
+    }
+}
+
+#[cfg(not(target_family = "wasm"))]
+impl<T> IntoIterator for Receiver<T> {
+    type Item = T;
+    type IntoIter = IntoIter<T>;
+
+    fn into_iter(self) -> IntoIter<T> {
+        IntoIter { receiver: self }
+    }
+}
+
 impl<T> Channel<T> {
     /// Makes room for a round, and answers how many messages it may take.
     fn make_room(&self, into: &mut Vec<T>, limit: usize) -> usize {
@@ -441,7 +572,7 @@ impl<T> Channel<T> {
     /// Takes messages while it has the lock.
     fn recv_round(&self, into: &mut Vec<T>, limit: usize) -> Result<usize, TryRecvError> {
         let room = self.make_room(into, limit);
-        self.step(Group::Receives, |core, told| take(core, into, room, told))
+        self.step(|core, told| take(core, into, room, told))
     }
 
     /// Takes up to so many messages more, in rounds, as long as there seem to be any.
@@ -458,7 +589,7 @@ impl<T> Channel<T> {
 
     /// Sends messages from the front while it has the lock.
     fn send_round(&self, from: &mut VecDeque<T>) -> Result<usize, TrySendError<()>> {
-        self.step(Group::Sends, |core, told| put(core, from, ROUND_LIMIT, told))
+        self.step(|core, told| put(core, from, ROUND_LIMIT, told))
     }
 }
 

@@ -8,6 +8,7 @@ use crate::proved::channel_core::Group;
 use crate::proved::event_list::Ticket;
 use crate::{Receiver, RecvError, SendError, Sender, TryRecvError, TrySendError};
 use std::future::Future;
+use std::ops::Deref;
 use std::pin::Pin;
 use std::sync::{Arc, Weak};
 use std::task::{Context, Poll};
@@ -59,6 +60,24 @@ impl<T> Drop for Wait<T> {
     }
 }
 
+/// The handle of an operation, which it borrows or has.
+pub(crate) enum Held<'a, H> {
+    Lent(&'a H),
+    Own(Box<H>),
+}
+
+impl<H> Deref for Held<'_, H> {
+    type Target = H;
+
+    #[inline]
+    fn deref(&self) -> &H {
+        match self {
+            Held::Lent(handle) => handle,
+            Held::Own(handle) => handle,
+        }
+    }
+}
+
 /// The send that [`Sender::send`] begins. It sends nothing before its first poll.
 ///
 /// A send that waits and is dropped drops its message. If it was told of a free place, the next send
@@ -86,12 +105,44 @@ impl<T> Drop for Wait<T> {
 /// ```
 #[must_use = "futures do nothing unless you `.await` or poll them"]
 pub struct Send<'a, T> {
-    /// Whose send it is.
-    pub(crate) sender: &'a Sender<T>,
+    /// Where it waits. It is given up before the handle goes.
+    pub(crate) wait: Wait<T>,
     /// The message, until it is sent or handed back.
     pub(crate) message: Option<T>,
-    /// Where it waits.
-    pub(crate) wait: Wait<T>,
+    /// Whose send it is.
+    pub(crate) sender: Held<'a, Sender<T>>,
+}
+
+impl<T> Send<'_, T> {
+    /// Gives the send up, and hands its message back, unless that has gone.
+    ///
+    /// ```
+    /// # futures_lite::future::block_on(async {
+    /// use futures_lite::future::poll_once;
+    ///
+    /// let (s, r) = vamorilesh::bounded(1);
+    /// s.send(1).await.unwrap();
+    ///
+    /// let mut send = s.send(2);
+    /// assert_eq!(poll_once(&mut send).await, None);
+    /// assert_eq!(send.into_msg(), Some(2));
+    /// # drop(r);
+    /// # });
+    /// ```
+    pub fn into_msg(self) -> Option<T> {
+        self.message
+    }
+
+    /// Sends the message if it goes in, and doesn't wait if it doesn't.
+    pub(crate) fn send_at_once(&mut self) -> Poll<Result<(), SendError<T>>> {
+        match self.sender.channel.try_send(&mut self.message) {
+            Ok(()) => Poll::Ready(Ok(())),
+            Err(TrySendError::Full(())) => Poll::Pending,
+            Err(TrySendError::Closed(())) => {
+                Poll::Ready(self.message.take().map_or(Ok(()), |message| Err(SendError(message))))
+            }
+        }
+    }
 }
 
 // No reference into a future is handed out, so it may be moved between its polls.
@@ -102,21 +153,16 @@ impl<T> Future for Send<'_, T> {
 
     #[inline]
     fn poll(self: Pin<&mut Self>, cx: &mut Context<'_>) -> Poll<Self::Output> {
-        let Send { sender, message, wait } = self.get_mut();
-        if wait.ticket.is_none() && sender.channel.seems_ready(Group::Sends) {
-            if let Some(taken) = message.take() {
-                // Not `try_send`, nor `try_recv` below: a step that stands in one place is in line there.
-                match sender
-                    .channel
-                    .step(Group::Sends, |core, told| with_memory(core.try_send(taken, told)))
-                {
-                    Ok(()) => return Poll::Ready(Ok(())),
-                    Err(TrySendError::Full(left)) => *message = Some(left),
-                    Err(TrySendError::Closed(left)) => return Poll::Ready(Err(SendError(left))),
-                }
+        let send = self.get_mut();
+        // The text of its panic is async-channel's.
+        send.message.as_ref().unwrap();
+        if send.wait.ticket.is_none() && send.sender.channel.seems_ready(Group::Sends) {
+            let sent = send.send_at_once();
+            if sent.is_ready() {
+                return sent;
             }
         }
-        assert!(message.is_some(), "a send was polled after it had finished");
+        let Send { sender, message, wait } = send;
         wait.poll(&sender.channel, cx, |core, ticket, told, left| {
             with_memory(core.finish_send(message, ticket, told, left))
         })
@@ -144,10 +190,10 @@ impl<T> Future for Send<'_, T> {
 /// ```
 #[must_use = "futures do nothing unless you `.await` or poll them"]
 pub struct Recv<'a, T> {
-    /// Whose receive it is.
-    pub(crate) receiver: &'a Receiver<T>,
-    /// Where it waits.
+    /// Where it waits. It is given up before the handle goes.
     pub(crate) wait: Wait<T>,
+    /// Whose receive it is.
+    pub(crate) receiver: Held<'a, Receiver<T>>,
 }
 
 impl<T> Future for Recv<'_, T> {
@@ -157,7 +203,7 @@ impl<T> Future for Recv<'_, T> {
     fn poll(self: Pin<&mut Self>, cx: &mut Context<'_>) -> Poll<Self::Output> {
         let Recv { receiver, wait } = self.get_mut();
         if wait.ticket.is_none() && receiver.channel.seems_ready(Group::Receives) {
-            match receiver.channel.step(Group::Receives, |core, told| core.try_recv(told)) {
+            match receiver.channel.try_recv() {
                 Ok(message) => return Poll::Ready(Ok(message)),
                 Err(TryRecvError::Empty) => {}
                 Err(TryRecvError::Closed) => return Poll::Ready(Err(RecvError)),
@@ -188,10 +234,10 @@ impl<T> Future for Recv<'_, T> {
 /// ```
 #[must_use = "futures do nothing unless you `.await` or poll them"]
 pub struct Closed<'a, T> {
-    /// Who waits.
-    pub(crate) sender: &'a Sender<T>,
-    /// Where it waits.
+    /// Where it waits. It is given up before the handle goes.
     pub(crate) wait: Wait<T>,
+    /// Who waits.
+    pub(crate) sender: Held<'a, Sender<T>>,
 }
 
 impl<T> Future for Closed<'_, T> {

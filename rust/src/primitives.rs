@@ -14,9 +14,7 @@ pub(crate) use std::sync::{atomic::AtomicUsize, Condvar, Mutex as StdMutex};
 #[cfg(not(vamorilesh_loom))]
 pub(crate) use std::thread_local;
 
-#[cfg(feature = "parking_lot")]
-pub(crate) use parking_lot::{Mutex, MutexGuard};
-#[cfg(not(any(feature = "parking_lot", vamorilesh_loom)))]
+#[cfg(not(vamorilesh_loom))]
 pub(crate) use std::sync::{Mutex, MutexGuard};
 
 #[cfg(not(test))]
@@ -28,32 +26,57 @@ pub(crate) fn abort() -> ! {
     panic!("the program ends");
 }
 
-/// How often a thread looks before it sleeps: once on one processor, where nobody goes on meanwhile.
-/// Models look once, too.
-pub(crate) fn turns(count: u32) -> u32 {
+/// The pause before a thread's first look at what it waits for. Each of the next ones is twice as long
+/// as the one before, and none longer than the other.
+const PAUSES: [Duration; 2] = [Duration::from_nanos(100), Duration::from_nanos(800)];
+
+/// Pauses and looks, up to so many times, until `is_there` says that what the thread waits for is there.
+/// The answer is whether it is.
+///
+/// The thread doesn't yield: if all processors are busy, it may get no turn for milliseconds then.
+#[cold]
+pub(crate) fn look(count: u32, is_there: &mut dyn FnMut() -> bool) -> bool {
+    let [mut time, longest] = PAUSES;
+    (0..looks(count)).any(|_| {
+        pause(time);
+        time = longest.min(2 * time);
+        is_there()
+    })
+}
+
+/// How often a thread looks, of so many times: on one processor never, since nobody goes on meanwhile.
+/// Models look once, without a pause.
+fn looks(count: u32) -> u32 {
     static PROCESSORS: std::sync::atomic::AtomicUsize = std::sync::atomic::AtomicUsize::new(0);
+    if cfg!(vamorilesh_loom) {
+        return 1;
+    }
     if PROCESSORS.load(Relaxed) == 0 {
         PROCESSORS.store(std::thread::available_parallelism().map_or(2, usize::from), Relaxed);
     }
-    if cfg!(vamorilesh_loom) || PROCESSORS.load(Relaxed) == 1 {
-        1
+    if PROCESSORS.load(Relaxed) == 1 {
+        0
     } else {
         count
     }
 }
 
 /// Lets so much time go by, if there is a clock. It isn't a number of the processor's pauses, since what
-/// one takes differs between processors. A thread doesn't yield: if all processors are busy, it may get
-/// no turn for milliseconds then.
-#[cold]
-pub(crate) fn pause(time: Duration) {
-    let start = now();
-    while start.map_or(false, |start| start.elapsed() < time) {
+/// one takes differs between processors.
+fn pause(time: Duration) {
+    if cfg!(any(vamorilesh_loom, target_family = "wasm")) {
+        return;
+    }
+    #[cfg(test)]
+    PAUSED.with(|paused| paused.set(paused.get() + time));
+    let start = Instant::now();
+    while start.elapsed() < time {
         std::hint::spin_loop();
     }
 }
 
-/// The time, if there is a clock. In WebAssembly there may be none.
-fn now() -> Option<Instant> {
-    (!cfg!(target_family = "wasm")).then(Instant::now)
+#[cfg(test)]
+std::thread_local! {
+    /// For how long this thread has paused.
+    pub(crate) static PAUSED: std::cell::Cell<Duration> = const { std::cell::Cell::new(Duration::ZERO) };
 }

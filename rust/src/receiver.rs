@@ -1,7 +1,7 @@
 //! The receiving side: receivers, which are streams too, and weak ones.
 
 use crate::channel::{Channel, Side};
-use crate::operations::{Recv, Wait};
+use crate::operations::{Held, Recv, Wait};
 use crate::proved::channel_core::Group;
 use crate::proved::event_list::Ticket;
 use crate::{RecvError, TryRecvError};
@@ -62,7 +62,13 @@ impl<T> Receiver<T> {
     /// ```
     #[inline]
     pub fn try_recv(&self) -> Result<T, TryRecvError> {
-        self.channel.step(Group::Receives, |core, told| core.try_recv(told))
+        if !self.channel.seems_ready(Group::Receives) {
+            return Err(TryRecvError::Empty);
+        }
+        if self.channel.is_terminated() {
+            return Err(TryRecvError::Closed);
+        }
+        self.channel.try_recv()
     }
 
     /// Takes the oldest message, and waits while the channel is open and empty.
@@ -85,7 +91,22 @@ impl<T> Receiver<T> {
     /// ```
     #[inline]
     pub fn recv(&self) -> Recv<'_, T> {
-        Recv { receiver: self, wait: Wait::new(Group::Receives) }
+        Recv { receiver: Held::Lent(self), wait: Wait::new(Group::Receives) }
+    }
+
+    /// [`recv`](Receiver::recv) by a future that has the receiver, and so may go where it likes.
+    ///
+    /// ```
+    /// # futures_lite::future::block_on(async {
+    /// let (s, r) = vamorilesh::unbounded();
+    /// let receive = r.into_recv();
+    ///
+    /// s.send(1).await.unwrap();
+    /// assert_eq!(receive.await, Ok(1));
+    /// # });
+    /// ```
+    pub fn into_recv<'a>(self) -> Recv<'a, T> {
+        Recv { receiver: Held::Own(Box::new(self)), wait: Wait::new(Group::Receives) }
     }
 
     /// Takes the oldest message, and blocks the thread while the channel is open and empty.
@@ -108,12 +129,7 @@ impl<T> Receiver<T> {
     /// ```
     #[cfg(not(target_family = "wasm"))]
     pub fn recv_blocking(&self) -> Result<T, RecvError> {
-        self.channel.await_turn(Group::Receives);
-        match self.try_recv() {
-            Ok(message) => Ok(message),
-            Err(TryRecvError::Empty) => crate::blocking::block_on(self.recv()),
-            Err(TryRecvError::Closed) => Err(RecvError),
-        }
+        self.recv_until(None).map_err(|_| RecvError)
     }
 
     /// Closes the channel, and answers whether it was open. What it holds can still be received.
@@ -128,7 +144,7 @@ impl<T> Receiver<T> {
     /// assert_eq!(r.try_recv(), Ok(1));
     /// ```
     pub fn close(&self) -> bool {
-        self.channel.step(Group::Closeds, |core, told| core.close(told))
+        self.channel.step(|core, told| core.close(told))
     }
 
     /// Whether the channel is closed.

@@ -1,7 +1,7 @@
 //! The sending side: senders, and weak ones.
 
 use crate::channel::{with_memory, Channel, Side};
-use crate::operations::{Closed, Send, Wait};
+use crate::operations::{Closed, Held, Send, Wait};
 use crate::proved::channel_core::Group;
 use crate::{SendError, TrySendError};
 use std::sync::Arc;
@@ -43,7 +43,18 @@ impl<T> Sender<T> {
     /// ```
     #[inline]
     pub fn try_send(&self, msg: T) -> Result<(), TrySendError<T>> {
-        self.channel.step(Group::Sends, |core, told| with_memory(core.try_send(msg, told)))
+        if self.is_closed() {
+            return Err(TrySendError::Closed(msg));
+        }
+        if !self.channel.seems_ready(Group::Sends) {
+            return Err(TrySendError::Full(msg));
+        }
+        let mut message = Some(msg);
+        match (self.channel.try_send(&mut message), message) {
+            (Err(TrySendError::Full(())), Some(msg)) => Err(TrySendError::Full(msg)),
+            (Err(TrySendError::Closed(())), Some(msg)) => Err(TrySendError::Closed(msg)),
+            _ => Ok(()),
+        }
     }
 
     /// Sends a message, and waits while the channel is full.
@@ -67,7 +78,24 @@ impl<T> Sender<T> {
     /// ```
     #[inline]
     pub fn send(&self, msg: T) -> Send<'_, T> {
-        Send { sender: self, message: Some(msg), wait: Wait::new(Group::Sends) }
+        Send { sender: Held::Lent(self), message: Some(msg), wait: Wait::new(Group::Sends) }
+    }
+
+    /// [`send`](Sender::send) by a future that has the sender, and so may go where it likes.
+    ///
+    /// ```
+    /// # futures_lite::future::block_on(async {
+    /// let (s, r) = vamorilesh::unbounded();
+    ///
+    /// let send = s.clone().into_send(1);
+    /// std::thread::spawn(|| futures_lite::future::block_on(send)).join().unwrap().unwrap();
+    /// assert_eq!(r.recv().await, Ok(1));
+    /// # drop(s);
+    /// # });
+    /// ```
+    pub fn into_send<'a>(self, msg: T) -> Send<'a, T> {
+        let wait = Wait::new(Group::Sends);
+        Send { sender: Held::Own(Box::new(self)), message: Some(msg), wait }
     }
 
     /// Waits until no receiver is left.
@@ -89,7 +117,22 @@ impl<T> Sender<T> {
     /// # });
     /// ```
     pub fn closed(&self) -> Closed<'_, T> {
-        Closed { sender: self, wait: Wait::new(Group::Closeds) }
+        Closed { sender: Held::Lent(self), wait: Wait::new(Group::Closeds) }
+    }
+
+    /// [`closed`](Sender::closed) by a future that has the sender, and so may go where it likes.
+    ///
+    /// ```
+    /// # futures_lite::future::block_on(async {
+    /// let (s, r) = vamorilesh::unbounded::<u64>();
+    /// let closed = s.into_closed();
+    ///
+    /// drop(r);
+    /// closed.await;
+    /// # });
+    /// ```
+    pub fn into_closed<'a>(self) -> Closed<'a, T> {
+        Closed { sender: Held::Own(Box::new(self)), wait: Wait::new(Group::Closeds) }
     }
 
     /// Sends a message, and blocks the thread while the channel is full.
@@ -111,12 +154,7 @@ impl<T> Sender<T> {
     /// ```
     #[cfg(not(target_family = "wasm"))]
     pub fn send_blocking(&self, msg: T) -> Result<(), SendError<T>> {
-        self.channel.await_turn(Group::Sends);
-        match self.try_send(msg) {
-            Ok(()) => Ok(()),
-            Err(TrySendError::Full(msg)) => crate::blocking::block_on(self.send(msg)),
-            Err(TrySendError::Closed(msg)) => Err(SendError(msg)),
-        }
+        self.send_until(msg, None).map_err(|error| SendError(error.into_inner()))
     }
 
     /// Sends a message at once, also if the channel is full: then the oldest one comes out for it.
@@ -137,7 +175,10 @@ impl<T> Sender<T> {
     /// assert_eq!(s.force_send(4), Err(SendError(4)));
     /// ```
     pub fn force_send(&self, msg: T) -> Result<Option<T>, SendError<T>> {
-        self.channel.step(Group::Sends, |core, told| with_memory(core.force_send(msg, told)))
+        if self.is_closed() {
+            return Err(SendError(msg));
+        }
+        self.channel.step(|core, told| with_memory(core.force_send(msg, told)))
     }
 
     /// Closes the channel, and answers whether it was open. What it holds can still be received.
@@ -152,7 +193,7 @@ impl<T> Sender<T> {
     /// assert_eq!(r.try_recv(), Ok(1));
     /// ```
     pub fn close(&self) -> bool {
-        self.channel.step(Group::Closeds, |core, told| core.close(told))
+        self.channel.step(|core, told| core.close(told))
     }
 
     /// Whether the channel is closed.

@@ -70,10 +70,14 @@ fn a_channel_without_room_panics() {
 
 #[test]
 fn a_channel_with_more_room_than_there_is_memory_panics() {
-    assert!(catch_unwind(|| bounded::<u64>(usize::MAX)).is_err());
-    assert!(catch_unwind(|| bounded::<u64>(usize::MAX / 8)).is_err());
-    let (s, r) = bounded(usize::MAX);
-    assert_eq!((s.try_send(()), s.capacity(), r.is_full()), (Ok(()), Some(usize::MAX), false));
+    // As in async-channel, where a place takes eight bytes more than its message.
+    let most = isize::MAX as usize;
+    let text = |panic: std::thread::Result<()>| *panic.unwrap_err().downcast::<&str>().unwrap();
+    assert_eq!(text(catch_unwind(|| drop(bounded::<u64>(most / 16 + 1)))), "capacity overflow");
+    assert_eq!(text(catch_unwind(|| drop(bounded::<u8>(most / 16 + 1)))), "capacity overflow");
+    assert_eq!(text(catch_unwind(|| drop(bounded::<()>(usize::MAX)))), "capacity overflow");
+    let (s, r) = bounded(most / 8);
+    assert_eq!((s.try_send(()), s.capacity(), r.is_full()), (Ok(()), Some(most / 8), false));
 }
 
 #[test]
@@ -317,7 +321,9 @@ fn a_send_that_has_finished_is_not_polled_again() {
     for answer in [Ok(()), Err(SendError(1))] {
         let mut send = support::Task::new(s.send(1));
         assert_eq!(send.poll(), Poll::Ready(answer));
-        assert!(catch_unwind(AssertUnwindSafe(|| send.poll().is_ready())).is_err());
+        let panic = catch_unwind(AssertUnwindSafe(|| send.poll().is_ready())).unwrap_err();
+        let text = "called `Option::unwrap()` on a `None` value";
+        assert_eq!(panic.downcast_ref::<&str>(), Some(&text));
         assert_eq!((r.len(), r.close()), (1, answer.is_ok()));
     }
 }

@@ -9,13 +9,13 @@ use std::panic::{self, catch_unwind, AssertUnwindSafe};
 use std::pin::Pin;
 use std::ptr;
 use std::sync::atomic::{AtomicUsize, Ordering};
-use std::sync::{mpsc, Arc};
+use std::sync::Arc;
 use std::task::{Context, Poll, RawWaker, RawWakerVTable, Wake, Waker};
 use std::thread;
-use std::time::Duration;
 
 use futures_core::Stream;
 use futures_lite::StreamExt;
+use support::ends;
 use vamorilesh::{bounded, unbounded, Receiver, Sender};
 
 thread_local! {
@@ -50,16 +50,6 @@ fn dropped(_: *const ()) {
 }
 
 static TABLE: RawWakerVTable = RawWakerVTable::new(copied, |_| {}, |_| {}, dropped);
-
-/// Fails if these calls don't end: one that comes under the lock waits for ever.
-fn ends(calls: impl FnOnce() + Send + 'static) {
-    let (tell, told) = mpsc::channel();
-    thread::spawn(move || {
-        calls();
-        tell.send(())
-    });
-    assert_eq!(told.recv_timeout(Duration::from_secs(10)), Ok(()));
-}
 
 /// Polls a future once, and answers whether it was ready and how often its waker was copied.
 fn poll_copied<F: Future + Unpin>(future: &mut F) -> (bool, usize) {

@@ -693,3 +693,45 @@ fn traits_and_texts() {
     assert_eq!(texts, ("SendMany { .. }".to_owned(), "TryIter { .. }".to_owned()));
     assert_eq!(format!("{:?}", r.recv_many(&mut into, 1)), "RecvMany { .. }");
 }
+
+/// How many messages a poll of a batch moves before it lets other tasks run.
+const POLL_LIMIT: usize = 8 * ROUND_LIMIT;
+
+#[test]
+fn a_send_of_very_many_lets_others_run() {
+    let (s, r) = unbounded();
+    let mut send = Task::new(s.send_many(0..3 * POLL_LIMIT));
+    for polls in 1..=2 {
+        assert!(send.poll().is_pending());
+        assert_eq!((r.len(), send.woken()), (polls * POLL_LIMIT, polls));
+    }
+    assert_eq!((send.poll(), r.len(), send.woken()), (Poll::Ready(Ok(())), 3 * POLL_LIMIT, 2));
+    assert!(r.try_iter().eq(0..3 * POLL_LIMIT));
+}
+
+#[test]
+fn a_receive_of_very_many_lets_others_run() {
+    let (s, r) = unbounded();
+    s.send_many_blocking(0..3 * POLL_LIMIT + 1).unwrap();
+    let mut into = Vec::new();
+    let mut receive = Task::new(r.recv_many(&mut into, 3 * POLL_LIMIT));
+    for polls in 1..=2 {
+        assert!(receive.poll().is_pending());
+        assert_eq!((s.len(), receive.woken()), ((3 - polls) * POLL_LIMIT + 1, polls));
+    }
+    assert_eq!(receive.poll(), Poll::Ready(3 * POLL_LIMIT));
+    // It is a new receive from here on.
+    assert_eq!((receive.poll(), receive.woken()), (Poll::Ready(1), 2));
+    assert!(receive.poll().is_pending());
+    drop(receive);
+    assert!(into.into_iter().eq(0..=3 * POLL_LIMIT));
+}
+
+#[test]
+fn a_receive_of_very_many_that_is_dropped_leaves_what_came_in_the_list() {
+    let (s, r) = unbounded();
+    s.send_many_blocking(0..2 * POLL_LIMIT).unwrap();
+    let mut into = Vec::new();
+    assert!(Task::new(r.recv_many(&mut into, usize::MAX)).poll().is_pending());
+    assert!(into.into_iter().chain(r.try_iter()).eq(0..2 * POLL_LIMIT));
+}

@@ -5,15 +5,17 @@ mod support;
 
 use std::alloc::{GlobalAlloc, Layout, System};
 use std::cell::Cell;
+use std::collections::VecDeque;
 use std::future::Future;
+use std::mem::ManuallyDrop;
 use std::pin::{pin, Pin};
 use std::task::{Context, Waker};
 use std::thread;
 use std::time::Duration;
 
 use futures_core::Stream;
-use support::{poll_pinned, poll_with, Count};
-use vamorilesh::{bounded, unbounded};
+use support::{ends, poll_pinned, poll_with, Count};
+use vamorilesh::{bounded, unbounded, WeakSender};
 
 /// What a drained queue or an empty list may keep.
 const FEW_KB: isize = 8 << 10;
@@ -23,6 +25,17 @@ thread_local! {
     static TAKEN: Cell<(isize, usize)> = const { Cell::new((0, 0)) };
     /// The most bytes that it took or gave back at once.
     static MOST: Cell<usize> = const { Cell::new(0) };
+    /// What each request for memory of this thread calls: it takes its channel's lock.
+    static CALLED: Cell<ManuallyDrop<Option<WeakSender<u64>>>> =
+        const { Cell::new(ManuallyDrop::new(None)) };
+}
+
+fn call() {
+    let weak = CALLED.try_with(Cell::take).ok().and_then(ManuallyDrop::into_inner);
+    if let Some(weak) = weak {
+        drop(weak.upgrade());
+        CALLED.with(|called| called.set(ManuallyDrop::new(Some(weak))));
+    }
 }
 
 struct Counting;
@@ -39,6 +52,7 @@ fn count(bytes: isize) {
 unsafe impl GlobalAlloc for Counting {
     unsafe fn alloc(&self, layout: Layout) -> *mut u8 {
         count(layout.size() as isize);
+        call();
         System.alloc(layout)
     }
     unsafe fn dealloc(&self, place: *mut u8, layout: Layout) {
@@ -133,6 +147,42 @@ fn a_list_that_takes_many_batches_asks_for_memory_seldom() {
     (0..10_000_u64).for_each(|message| s.try_send(message).unwrap());
     let (mut into, before) = (Vec::new(), taken().1);
     while r.try_recv_many(&mut into, 10).is_ok() {}
+    assert!(taken().1 - before <= 20);
+}
+
+#[test]
+fn a_list_that_takes_a_batch_grows_without_the_lock() {
+    ends(|| {
+        let (s, r) = unbounded();
+        (0..1_000).for_each(|message| s.try_send(message).unwrap());
+        let mut into = Vec::new();
+        CALLED.with(|called| called.set(ManuallyDrop::new(Some(s.downgrade()))));
+        assert_eq!(r.try_recv_many(&mut into, 500), Ok(500));
+        let count = r.recv_many_blocking(&mut into, 1_000);
+        drop(ManuallyDrop::into_inner(CALLED.with(Cell::take)));
+        assert_eq!((count, into.len()), (500, 1_000));
+    });
+}
+
+#[test]
+fn a_batch_does_not_move_its_rest_in_each_round() {
+    const MESSAGES: u64 = 100_000;
+    let (s, _r) = unbounded();
+    let mut from: VecDeque<_> = (0..MESSAGES).collect();
+    let before = taken().1;
+    assert_eq!(s.try_send_many(&mut from), Ok(MESSAGES as usize));
+    // The queue asks for each block, and there are four times as many rounds.
+    assert!(taken().1 - before <= 300);
+}
+
+#[test]
+fn a_close_asks_for_memory_seldom_whoever_waits() {
+    let (s, r) = unbounded::<u64>();
+    let waker = Waker::from(Count::new());
+    let mut waiting: Vec<_> = (0..1_000).map(|_| Box::pin(r.recv())).collect();
+    assert!(waiting.iter_mut().all(|wait| poll_with(wait, &waker).is_pending()));
+    let before = taken().1;
+    assert!(s.close());
     assert!(taken().1 - before <= 20);
 }
 

@@ -3,8 +3,8 @@ import re
 
 from eraser.known import (
     BEFORE_NOT, BOUNDS, BY_RUN, CLAUSES, CRATES, DERIVES, EVERYWHERE, FIRST, FORMATTER,
-    GHOST_WORDS, ITEM_WORDS, LEFT_OUT, MACROS, NAMED, OWNERS, PATHS, REQUIRES, RUN, TAKEN, TEXT_TRAITS,
-    TRAITS, UNREACHED, WRITER,
+    GHOST_WORDS, ITEM_WORDS, LEFT_OUT, MACROS, NAMED, OUT_OF_LINE, OWNERS, PATHS, REQUIRES, RUN, TAKEN,
+    TEXT_TRAITS, TRAITS, UNREACHED, WRITER,
 )
 from eraser.source import CLOSING
 
@@ -76,8 +76,13 @@ class Eraser:
         if is_by_run:
             attributes = f'#[cfg({RUN})]\n{self.indent(word.start)}{attributes}'
         if word.text == 'fn' and text.endswith('}') and '#[inline' not in attributes:
-            attributes += f'#[inline]\n{self.indent(word.start)}'
+            attributes += f'{self.inline(text)}\n{self.indent(word.start)}'
         return f'{attributes}{visibility}{text}'
+
+    def inline(self, function):
+        """What is said of a function of which the source says nothing."""
+        name = re.match(r'fn (\w+)', function).group(1)
+        return '#[inline(never)]' if self.path_of(name) in OUT_OF_LINE else '#[inline]'
 
     def indent(self, at):
         """The spaces before the line on which a place is."""

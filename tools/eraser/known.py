@@ -90,6 +90,15 @@ BY_RUN = {
     'event_list::ticket::Ticket::key',
 }
 
+# Calls that ask nothing of the message's type, and most of which a caller seldom gets to: in line they
+# would be compiled for each message type.
+OUT_OF_LINE = {
+    'event_list::list::listen_from', 'event_list::list::renew_from',
+    'event_list::list::unregister_from', 'event_list::list::tell_one_from',
+    'event_list::list::tell_all_from', 'event_list::list::entry_from',
+    'channel_core::waiting::tell_closed',
+}
+
 # Types that own all that their `drop` changes. So in Rust it is enough that their parts go.
 OWNERS = {'channel_run::run::Run'}
 

@@ -74,6 +74,11 @@ impl<F: Future> Task<F> {
         poll_with(&mut self.future, &Waker::from(self.count.clone()))
     }
 
+    /// What counts how often its waker is woken.
+    pub fn count(&self) -> Arc<Count> {
+        self.count.clone()
+    }
+
     /// How often its waker was woken since it was made.
     pub fn woken(&self) -> usize {
         self.count.woken()
@@ -117,6 +122,16 @@ pub fn await_sleep(folder: &std::path::Path, times: usize) {
         }
     }
     panic!("it doesn't sleep");
+}
+
+/// Fails if these calls don't end: one that comes under a channel's lock waits for ever.
+pub fn ends(calls: impl FnOnce() + Send + 'static) {
+    let (tell, told) = std::sync::mpsc::channel();
+    std::thread::spawn(move || {
+        calls();
+        tell.send(())
+    });
+    assert_eq!(told.recv_timeout(std::time::Duration::from_secs(10)), Ok(()));
 }
 
 /// Drawn numbers: the same for the same seed (SplitMix64).

@@ -84,6 +84,7 @@ fn handles_are_copied_and_written_whatever_the_message() {
 fn what_may_be_met_after_a_panic() {
     each!(has_unwind, Plain, Sender Receiver WeakSender WeakReceiver);
     each!(has_unwind, Plain, of SendOp Recv Closed);
+    each!(has_unwind, Rc<Cell<u8>>, Sender Receiver WeakSender WeakReceiver);
 }
 
 #[test]

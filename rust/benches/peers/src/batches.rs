@@ -6,7 +6,7 @@ use std::thread;
 use crate::peers::{AsyncChannel, Batches, Crossbeam, Flume, Here, Peer};
 use crate::threads::{over_all, timed, SIDE};
 use crate::works::work;
-use crate::Work;
+use crate::{names, Work};
 
 /// Messages of one thread's work, and of all threads' work. Each batch divides a thread's part.
 const ONE: u64 = 204_800;
@@ -37,7 +37,7 @@ pub fn all() -> Vec<Work> {
 pub fn print(time: impl Fn(&'static str, &'static str) -> f64) {
     println!("| Threads and channel | crossbeam | 8 | 32 | 128 | to single | to best |");
     println!("|---|---|---|---|---|---|---|");
-    let names: Vec<_> = all().iter().map(|work| work.name).collect();
+    let names: Vec<_> = names(&all()).collect();
     for side in ["one to one", "four to four"] {
         for channel in ["bounded(128)", "bounded(1024)", "unbounded"] {
             let is_row = |name: &&str| name.starts_with(side) && name.ends_with(channel);

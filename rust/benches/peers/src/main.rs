@@ -1,8 +1,8 @@
 //! Measures channels side by side: prints a table of times as ratios to `async-channel`.
 //!
 //!     cargo run --release [ROUNDS] [WORD..]      only works whose name has one of the words
-//!     cargo run --release [ROUNDS] table NAME    one_thread, threads, one_processor or batches, as
-//!                                                docs/figures.txt has it
+//!     cargo run --release [ROUNDS] table NAME    one_thread, threads, one_processor, batches, waits,
+//!                                                busy or calls, as docs/figures.txt has it
 //!
 //! Each round runs every work on every peer in turn, so that all share the machine's bad moments.
 //! A ratio below 1 is faster than `async-channel`. After the ratio of the medians stands the one of
@@ -10,18 +10,20 @@
 //! by the time for which it had a processor; works of many count on a quiet machine.
 
 mod batches;
+mod calls;
 mod peers;
 mod threads;
+mod waits;
 mod works;
 
 use std::collections::BTreeMap;
 
-/// A peer's name, and its run of a work, which answers nanoseconds for each message.
-type Run = (&'static str, fn() -> f64);
+/// A peer's name, and its run of a work, which answers nanoseconds for each of the work's rows.
+type Run = (&'static str, fn() -> Vec<f64>);
 
-/// One piece of work, and each peer that can do it.
+/// One piece of work, the names of its rows, and each peer that can do it.
 pub struct Work {
-    pub name: &'static str,
+    pub names: Vec<&'static str>,
     pub runs: Vec<Run>,
 }
 
@@ -52,6 +54,7 @@ impl Times {
     }
 }
 
+/// What was measured of each row and peer.
 type Measured = BTreeMap<(&'static str, &'static str), Times>;
 
 fn measure(works: &[Work], rounds: usize) -> Measured {
@@ -59,46 +62,52 @@ fn measure(works: &[Work], rounds: usize) -> Measured {
     for _ in 0..rounds {
         for work in works {
             for (peer, run) in &work.runs {
-                times.entry((work.name, *peer)).or_default().push(run());
+                for (name, time) in work.names.iter().zip(run()) {
+                    times.entry((*name, *peer)).or_default().push(time);
+                }
             }
         }
     }
     times.into_iter().map(|(key, times)| (key, Times::of(times))).collect()
 }
 
+/// The names of all rows.
+fn names(works: &[Work]) -> impl Iterator<Item = &'static str> + '_ {
+    works.iter().flat_map(|work| &work.names).copied()
+}
+
 fn print_table(works: &[Work], measured: &Measured) {
     println!("| Work | {BASE} {} | {HERE} | ratio | of the least |", version(BASE));
     println!("|---|---|---|---|---|");
-    for work in works {
-        let (base, here) = (measured[&(work.name, BASE)], measured[&(work.name, HERE)]);
+    for name in names(works) {
+        let (base, here) = (measured[&(name, BASE)], measured[&(name, HERE)]);
         let (ratio, least) = (here.median / base.median, here.least / base.least);
         let times = format!("{:.0} ns | {:.0} ns", base.median, here.median);
-        println!("| {} | {times} | {ratio:.2} | {least:.2} |", work.name);
+        println!("| {name} | {times} | {ratio:.2} | {least:.2} |");
     }
     let others = ["flume", "crossbeam-channel", "tokio"];
     println!("\n| Work | {} |", others.map(|peer| format!("{peer} {}", version(peer))).join(" | "));
     println!("|---|---|---|---|");
-    for work in works {
-        let base = measured[&(work.name, BASE)].median;
-        let ratio = |peer| match measured.get(&(work.name, peer)) {
-            Some(times) => format!("{:.2}", times.median / base),
-            None => "".to_owned(),
-        };
-        println!("| {} | {} |", work.name, others.map(ratio).join(" | "));
+    for name in names(works) {
+        let ratio = |peer| ratio(measured, name, peer);
+        println!("| {name} | {} |", others.map(ratio).join(" | "));
     }
+}
+
+/// The median of a row and a peer as a ratio to that of `async-channel`, if the peer has it.
+fn ratio(measured: &Measured, name: &'static str, peer: &'static str) -> String {
+    let base = measured[&(name, BASE)].median;
+    let times = measured.get(&(name, peer));
+    times.map_or(String::new(), |times| format!("{:.2}", times.median / base))
 }
 
 /// A table as docs/figures.txt has it: nanoseconds of the crate, and ratios to `async-channel`.
 fn print_rows(works: &[Work], measured: &Measured, here: &str) {
     println!("| Work | ns | {here} | flume | crossbeam | tokio |\n|---|---|---|---|---|---|");
-    for work in works {
-        let base = measured[&(work.name, BASE)].median;
-        let ratio = |peer| match measured.get(&(work.name, peer)) {
-            Some(times) => format!("{:.2}", times.median / base),
-            None => "".to_owned(),
-        };
+    for name in names(works) {
+        let ratio = |peer| ratio(measured, name, peer);
         let ratios = [HERE, "flume", "crossbeam-channel", "tokio"].map(ratio).join(" | ");
-        println!("| {} | {:.0} | {ratios} |", work.name, measured[&(work.name, HERE)].median);
+        println!("| {name} | {:.0} | {ratios} |", measured[&(name, HERE)].median);
     }
 }
 
@@ -108,6 +117,9 @@ fn print_of_page(name: &str, rounds: usize) {
         "one_thread" => (works::all(), "One thread: the crate's ns of processor time"),
         "threads" => (threads::all(), "Threads, and tasks on tokio"),
         "one_processor" => (threads::crowds(), "Threads on one processor"),
+        "waits" => (waits::all(), "Threads that wait, on a machine with nothing else to do"),
+        "busy" => (waits::all(), "The same while as many others as there are processors work"),
+        "calls" => (calls::all(), "The slowest calls"),
         "batches" => {
             (batches::all(), "Batches of 8, 32 and 128, by the blocking calls: ns a message")
         }
@@ -122,6 +134,11 @@ fn print_of_page(name: &str, rounds: usize) {
              to these, and to its best (`try_iter` of 1, 8, 32 or 128)."
         );
         batches::print(|work, peer| measured[&(work, peer)].median);
+        return;
+    }
+    if name == "calls" {
+        println!("said: {about}");
+        calls::print(&measured);
         return;
     }
     if name != "one_thread" {
@@ -150,9 +167,10 @@ fn main() {
         }
     }
     let works = [works::all(), threads::all(), threads::crowds(), batches::all()];
-    let mut works = works.into_iter().flatten().collect::<Vec<_>>();
+    let waits = [waits::all(), calls::all()];
+    let mut works = works.into_iter().chain(waits).flatten().collect::<Vec<_>>();
     if !words.is_empty() {
-        works.retain(|work| words.iter().any(|word| work.name.contains(word.as_str())));
+        works.retain(|work| words.iter().any(|word| work.names[0].contains(word.as_str())));
     }
     measure(&works, 1);
     let measured = measure(&works, rounds);

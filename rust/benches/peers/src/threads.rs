@@ -15,7 +15,15 @@ pub fn all() -> Vec<Work> {
     vec![
         work!("one thread to one, bounded(1)", single(Some(1), 20_000):
             AsyncChannel Here Flume Crossbeam Tokio),
+        work!("one thread to one, bounded(4)", single(Some(4), 50_000):
+            AsyncChannel Here Flume Crossbeam Tokio),
+        work!("one thread to one, bounded(16)", single(Some(16), 100_000):
+            AsyncChannel Here Flume Crossbeam Tokio),
+        work!("one thread to one, bounded(64)", single(Some(64), 200_000):
+            AsyncChannel Here Flume Crossbeam Tokio),
         work!("one thread to one, bounded(128)", single(Some(128), 200_000):
+            AsyncChannel Here Flume Crossbeam Tokio),
+        work!("one thread to one, bounded(1024)", single(Some(1_024), 200_000):
             AsyncChannel Here Flume Crossbeam Tokio),
         work!("one thread to one, unbounded", single(None, 200_000):
             AsyncChannel Here Flume Crossbeam Tokio),
@@ -66,7 +74,8 @@ pub fn over_all(spans: &[Span], count: u64) -> f64 {
     (end - start).as_nanos() as f64 / count as f64
 }
 
-fn single<P: Peer>(capacity: Option<usize>, count: u64) -> f64 {
+/// One thread sends to another.
+pub fn single<P: Peer>(capacity: Option<usize>, count: u64) -> f64 {
     let (tx, mut rx) = P::make(capacity);
     let ready = &Barrier::new(2);
     thread::scope(|scope| {

@@ -12,12 +12,19 @@ use futures_lite::future::{block_on, zip};
 use crate::peers::{Async, AsyncChannel, Closes, Crossbeam, Flume, Here, Many, Peer, Tokio};
 use crate::Work;
 
-/// A work and its run on each of the peers named.
+/// A work and its run on each of the peers named. One with parts has a row for each of them, and its
+/// run answers as many numbers.
 macro_rules! work {
     ($name:expr, $run:ident $arguments:tt: $($peer:ident)+) => {
         Work {
-            name: $name,
-            runs: vec![$(($peer::NAME, || $run::<$peer> $arguments)),+],
+            names: vec![$name],
+            runs: vec![$(($peer::NAME, || vec![$run::<$peer> $arguments])),+],
+        }
+    };
+    ($name:expr, [$($part:literal),+], $run:ident $arguments:tt: $($peer:ident)+) => {
+        Work {
+            names: vec![$(concat!($name, $part)),+],
+            runs: vec![$(($peer::NAME, || $run::<$peer> $arguments.to_vec())),+],
         }
     };
 }
@@ -55,20 +62,36 @@ pub fn all() -> Vec<Work> {
     ]
 }
 
-/// The time for which this thread had a processor: other work on the machine hardly changes it.
-struct ProcessorTime(Duration);
+/// The time for which a thread, or all threads, had a processor: other work on the machine hardly
+/// changes it.
+pub struct ProcessorTime {
+    clock: libc::clockid_t,
+    start: Duration,
+}
 
 impl ProcessorTime {
-    fn now() -> Self {
-        let mut time = libc::timespec { tv_sec: 0, tv_nsec: 0 };
-        // SAFETY: the clock writes the time that it is handed.
-        let status = unsafe { libc::clock_gettime(libc::CLOCK_THREAD_CPUTIME_ID, &mut time) };
-        assert_eq!(status, 0);
-        ProcessorTime(Duration::new(time.tv_sec as u64, time.tv_nsec as u32))
+    /// Of this thread.
+    pub fn now() -> Self {
+        let clock = libc::CLOCK_THREAD_CPUTIME_ID;
+        ProcessorTime { clock, start: Self::time(clock) }
     }
 
-    fn elapsed(&self) -> Duration {
-        Self::now().0 - self.0
+    /// Of all threads of this program.
+    pub fn of_all() -> Self {
+        let clock = libc::CLOCK_PROCESS_CPUTIME_ID;
+        ProcessorTime { clock, start: Self::time(clock) }
+    }
+
+    fn time(clock: libc::clockid_t) -> Duration {
+        let mut time = libc::timespec { tv_sec: 0, tv_nsec: 0 };
+        // SAFETY: the clock writes the time that it is handed.
+        let status = unsafe { libc::clock_gettime(clock, &mut time) };
+        assert_eq!(status, 0);
+        Duration::new(time.tv_sec as u64, time.tv_nsec as u32)
+    }
+
+    pub fn elapsed(&self) -> Duration {
+        Self::time(self.clock) - self.start
     }
 }
 

@@ -49,7 +49,7 @@ impl<W> WaitLists<W> {
     }
 
     /// The channel was closed.
-    #[inline]
+    #[inline(never)]
     pub(super) fn tell_closed<B: Bell<W>>(&mut self, bell: &mut B) {
         self.sends.tell_all(bell);
         self.receives.tell_all(bell);

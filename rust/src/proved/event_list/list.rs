@@ -235,12 +235,12 @@ impl<W> WaitList<W> {
 // What the calls of the plain names run, on the ledger of a blank. They stand apart since a ledger
 // gets its name when a call passes a blank on.
 impl<W> WaitList<W> {
-    #[inline]
+    #[inline(never)]
     fn listen_from<L: Ledger>(&mut self, payload: W, blank: Blank) -> Result<Ticket, NoRoom<W>> {
         self.listen_counted(payload, &mut Steps::<L>::of(blank))
     }
 
-    #[inline]
+    #[inline(never)]
     fn renew_from<L: Ledger>(
         &mut self,
         ticket: &Ticket,
@@ -250,22 +250,22 @@ impl<W> WaitList<W> {
         self.renew_counted(ticket, payload, &mut Steps::<L>::of(blank))
     }
 
-    #[inline]
+    #[inline(never)]
     fn unregister_from<L: Ledger>(&mut self, ticket: Ticket, blank: Blank) -> Option<EntryState<W>> {
         self.unregister_counted(ticket, &mut Steps::<L>::of(blank))
     }
 
-    #[inline]
+    #[inline(never)]
     fn tell_one_from<B: Bell<W>, L: Ledger>(&mut self, bell: &mut B, blank: Blank) -> bool {
         self.tell_one_counted(bell, &mut Steps::<L>::of(blank))
     }
 
-    #[inline]
+    #[inline(never)]
     fn tell_all_from<B: Bell<W>, L: Ledger>(&mut self, bell: &mut B, blank: Blank) -> usize {
         self.tell_all_counted(bell, &mut Steps::<L>::of(blank))
     }
 
-    #[inline]
+    #[inline(never)]
     fn entry_from<L: Ledger>(&self, ticket: &Ticket, blank: Blank) -> Option<&EntryState<W>> {
         self.links
             .as_ref()?
