@@ -151,7 +151,8 @@ impl<T> Unpin for Send<'_, T> {}
 impl<T> Future for Send<'_, T> {
     type Output = Result<(), SendError<T>>;
 
-    #[inline]
+    // One piece for all that poll it, as tasks and threads do.
+    #[inline(never)]
     fn poll(self: Pin<&mut Self>, cx: &mut Context<'_>) -> Poll<Self::Output> {
         let send = self.get_mut();
         // The text of its panic is async-channel's.
@@ -199,7 +200,8 @@ pub struct Recv<'a, T> {
 impl<T> Future for Recv<'_, T> {
     type Output = Result<T, RecvError>;
 
-    #[inline]
+    // One piece for all that poll it, as tasks and threads do.
+    #[inline(never)]
     fn poll(self: Pin<&mut Self>, cx: &mut Context<'_>) -> Poll<Self::Output> {
         let Recv { receiver, wait } = self.get_mut();
         if wait.ticket.is_none() && receiver.channel.seems_ready(Group::Receives) {

@@ -282,7 +282,7 @@ impl<T> Clone for Receiver<T> {
 
 impl<T> Drop for Receiver<T> {
     /// The last receiver closes the channel. The stream's wait ends before that.
-    #[inline]
+    #[inline(never)]
     fn drop(&mut self) {
         let _left = self.channel.withdraw(Group::Streams, &mut self.stream, None);
         self.channel.drop_handle(Side::Receivers);
