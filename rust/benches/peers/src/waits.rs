@@ -87,10 +87,12 @@ where
         for _ in 0..WORKERS {
             let mut queues: Vec<_> = queues.iter().map(P::clone_rx).collect();
             let mut ends = P::clone_rx(&ends);
-            scope.spawn(move || while block_on(next::<P>(&mut queues, &mut ends)) {
-                let start = Instant::now();
-                while start.elapsed() < JOB {
-                    std::hint::spin_loop();
+            scope.spawn(move || {
+                while block_on(next::<P>(&mut queues, &mut ends)) {
+                    let start = Instant::now();
+                    while start.elapsed() < JOB {
+                        std::hint::spin_loop();
+                    }
                 }
             });
         }
