@@ -714,14 +714,14 @@ fn a_receive_of_very_many_lets_others_run() {
     let (s, r) = unbounded();
     s.send_many_blocking(0..3 * POLL_LIMIT + 1).unwrap();
     let mut into = Vec::new();
-    let mut receive = Task::new(r.recv_many(&mut into, 3 * POLL_LIMIT));
+    let mut receive = Task::new(r.recv_many(&mut into, 3 * POLL_LIMIT - 1));
     for polls in 1..=2 {
         assert!(receive.poll().is_pending());
         assert_eq!((s.len(), receive.woken()), ((3 - polls) * POLL_LIMIT + 1, polls));
     }
-    assert_eq!(receive.poll(), Poll::Ready(3 * POLL_LIMIT));
+    assert_eq!(receive.poll(), Poll::Ready(3 * POLL_LIMIT - 1));
     // It is a new receive from here on.
-    assert_eq!((receive.poll(), receive.woken()), (Poll::Ready(1), 2));
+    assert_eq!((receive.poll(), receive.woken()), (Poll::Ready(2), 2));
     assert!(receive.poll().is_pending());
     drop(receive);
     assert!(into.into_iter().eq(0..=3 * POLL_LIMIT));
