@@ -47,10 +47,16 @@ pages:
 	tools/facts
 	tools/facts_tests
 	tools/examples_tests
+	tools/believed
+	tools/believed_tests
 	tools/edits --places
+	tools/edits_tests
 	tools/wrong_bodies --places
+	tools/wrong_bodies_tests
 	tools/refused_requests_tests
 	tools/rust_wrong_bodies_tests
+	tools/prove_tests
+	tools/gate_tests
 
 # What needs no proof either, and takes a minute and a half.
 examples: kit

@@ -4,9 +4,9 @@
 A case is a folder: args (one a line), stdin, stdout, stderr and status. The file stdout_to, if
 there is one, names a device that standard output goes to, and stdin_from what standard input comes
 from. A case whose name begins with `trace_` is chantrace's. Status and both streams are compared.
-Of one case each of the three is then changed, and the difference has to be named. The gate leaves
-the programs built; if one isn't, `rt run` builds it. The last line counts the cases, and the status
-is 0 if all passed and there are as many as are stored here.
+Of each case each of the three is then changed, and the difference has to be named. The gate leaves
+the programs built; if one isn't, `rt run` builds it. The last line counts the cases and the changes,
+and the status is 0 if all passed.
 """
 
 import os
@@ -17,8 +17,6 @@ import sys
 TOOLS = pathlib.Path(__file__).resolve().parent
 CRATES = TOOLS.parent / "crates"
 SECONDS = 60
-# How many cases there are, so that none is lost.
-CASES = 14
 
 
 def built(case):
@@ -64,28 +62,28 @@ def differences(case, wanted):
     return [f"{it}: {given[it]!r}, not {wanted[it]!r}" for it in wanted if given[it] != wanted[it]]
 
 
-def overlooked(case):
-    """Which of the three may be other than wanted, with no difference named."""
+def changes(case):
+    """What would be other than wanted, each by its name."""
     wanted = wanted_of(case)
     others = {"status": wanted["status"] + 1, "stdout": b"other", "stderr": b"other"}
-    return [
-        it for it, other in others.items()
-        if len(differences(case, {**wanted, it: other})) != 1
-    ]
+    return {it: {**wanted, it: other} for it, other in others.items()}
 
 
 def main():
     cases = sorted(it for it in (TOOLS / "chanrun_runs").iterdir() if it.is_dir())
-    failed = 0
+    failed = seen = missed = 0
     for case in cases:
         wrong = differences(case, wanted_of(case))
         failed += bool(wrong)
         print(f"chanrun: {case.name}: {'; '.join(wrong) or 'ok'}")
-    missed = overlooked(TOOLS / "chanrun_runs" / "good_script")
-    for it in missed:
-        print(f"chanrun: another {it} isn't seen")
-    print(f"chanrun: {len(cases) - failed} passed, {failed + len(missed)} failed; stored: {CASES}")
-    return 0 if len(cases) == CASES and not failed and not missed else 1
+        for name, changed in changes(case).items():
+            is_seen = len(differences(case, changed)) == 1
+            seen, missed = seen + is_seen, missed + (not is_seen)
+            if not is_seen:
+                print(f"chanrun: {case.name}: another {name} isn't seen")
+    print(f"chanrun: {len(cases) - failed} passed, {failed} failed; "
+          f"{seen} changes seen, {missed} not")
+    return 0 if cases and not failed and not missed else 1
 
 
 if __name__ == "__main__":

@@ -230,6 +230,12 @@ def numbered(rows):
         yield row
 
 
+def all_rows():
+    """All rows, each with a name of its own."""
+    rows = [*other_rows(), *rows_of_handles(), *scripts(), *faulty_scripts(), *stored_runs()]
+    return numbered([*rows, *long_scripts()])
+
+
 def text_of(made, outcomes):
     """What is printed of a row, and stored if no other threads make its requests."""
     came = Counter(outcomes.values())
@@ -271,14 +277,12 @@ def main():
     is_written = sys.argv[1:] == ["--write"]
     if sys.argv[1:] and not is_written:
         raise SystemExit(__doc__)
-    now, total, faults = {}, Counter(), []
+    now, total, faults, count = {}, Counter(), [], 0
     with tempfile.TemporaryDirectory() as folder, ThreadPoolExecutor(os.cpu_count()) as pool:
         sweep = Sweep(pathlib.Path(folder))
-        rows = [*other_rows(), *rows_of_handles(), *scripts(), *faulty_scripts(), *stored_runs()]
-        rows += long_scripts()
-        for row in numbered(rows):
+        for count, row in enumerate(all_rows(), 1):
             made, outcomes = sweep.outcomes(row, pool)
-            total.update(outcomes.values())
+            total.update(() if row.is_by_threads else outcomes.values())
             text = text_of(made, outcomes)
             print(f"refused: {row}: {text}")
             if kept := stored_text(row, text, outcomes):
@@ -289,9 +293,9 @@ def main():
     faults += differences(stored(), now)
     for fault in faults:
         print(f"refused: {fault}")
-    parts = ", ".join(f"{count} {what}" for what, count in sorted(total.items()))
-    print(f"refused: {len(rows)} rows, {total.total()} requests refused in turn: {parts}; "
-          f"{len(faults)} faults")
+    parts = ", ".join(f"{came} {what}" for what, came in sorted(total.items()))
+    print(f"refused: {count} rows; of those without threads {total.total()} requests refused in "
+          f"turn: {parts}; {len(faults)} faults")
     return 1 if faults else 0
 
 

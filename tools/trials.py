@@ -19,6 +19,7 @@ those that had one, `breaks_a_proof` is set: the prover may find none for a chan
 contract, either.
 
 A change of a definition names a law, which is proved by hand. It is refused if that isn't proved.
+If the definitions themselves have an error then, it wasn't tried.
 If a worked row finds it, it names the row, too, and the law's proof begins with that row.
 
 A change may have a `clause`. Then its copy ensures that clause alone, and it is refused if a goal
@@ -27,13 +28,10 @@ of that clause isn't proved. So no time goes into the other clauses.
 The prover looks a second time for a proof that it could offer of each goal that it did not prove,
 unless an answer of the function has a hole. So a hole is put beside the answers.
 """
-import importlib.machinery
-import importlib.util
 import os
 import re
 import shutil
 import subprocess
-import sys
 import tempfile
 import threading
 from collections import Counter
@@ -49,6 +47,8 @@ VERDICT = re.compile(
 GOAL = re.compile(
     r'^note: (\S+):(\d+):\d+: (?:it is not proved|`search` found no proof).*?\(`([\w-]+)`\)', re.M
 )
+# A definition that the prover doesn't take.
+UNREAD = re.compile(r'^(?:\./)?specs/\S+:\d+:\d+: error.*', re.M)
 # How many run side by side, whatever crates they are of.
 TURNS = threading.BoundedSemaphore(len(os.sched_getaffinity(0)))
 # How many changes a copy of a crate has at most, so that no run takes much longer than others.
@@ -96,6 +96,8 @@ class Tried:
     misfits = ()
     # Whether nothing isn't proved but goals that had one of these.
     breaks_a_proof = False
+    # Why its function isn't proved if that is no goal of its own.
+    other_reason = ''
 
     @property
     def tried(self):
@@ -180,16 +182,6 @@ class Tried:
             if not self.is_local or (Path(file) == Path(self.file) and int(line) in self.lines)
             if of_clause.fullmatch(goal)
         }
-
-
-def toolchain():
-    """The command `rt` as a module, which knows with which words the prover is called."""
-    path = os.path.realpath(shutil.which('rt') or sys.exit('there is no rt on the path'))
-    loader = importlib.machinery.SourceFileLoader('rt', path)
-    module = importlib.util.module_from_spec(importlib.util.spec_from_loader('rt', loader))
-    loader.exec_module(module)
-    module.rtlib.guarded()  # its first call sets a signal's handler, which only the main thread may
-    return module.rtlib
 
 
 def stored_for(function, proofs):
@@ -375,6 +367,8 @@ class Trial:
         if len(mine) != 1:
             raise Refused(f'{change.function} is no name of one function')
         name, verdict, why = mine[0].groups()
+        if change.is_definition and (unread := UNREAD.search(said)):
+            raise Refused(unread[0])
         if change.is_definition and verdict != 'could not tell':
             if change.row and verdict != 'proved' and not is_wrong(change.row, said):
                 raise Refused('it is not its row that fails')
@@ -391,6 +385,8 @@ class Trial:
             raise Refused('the prover could not tell')
         if is_alone and not unproved and why and why.startswith('it calls'):
             raise Refused(why)
+        if is_alone and not unproved:
+            change.other_reason = f'{verdict}: {why}'
         if change.misfits:
             right, *_ = stored_for(change.function, self.folder / 'proofs')
             change.breaks_a_proof = unproved <= change.answered(right / ANSWERS)

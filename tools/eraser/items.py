@@ -2,9 +2,9 @@
 import re
 
 from eraser.known import (
-    BEFORE_NOT, BOUNDS, CLAUSES, CRATES, DERIVES, EVERYWHERE, FIRST, FORMATTER,
-    GHOST_WORDS, ITEM_WORDS, LEFT_OUT, MACROS, NAMED, OWNERS, PATHS, REQUIRES, TAKEN, TEXT_TRAITS,
-    TRAITS, WRITER,
+    BEFORE_NOT, BOUNDS, BY_RUN, CLAUSES, CRATES, DERIVES, EVERYWHERE, FIRST, FORMATTER,
+    GHOST_WORDS, ITEM_WORDS, LEFT_OUT, MACROS, NAMED, OWNERS, PATHS, REQUIRES, RUN, TAKEN, TEXT_TRAITS,
+    TRAITS, UNREACHED, WRITER,
 )
 from eraser.source import CLOSING
 
@@ -20,6 +20,9 @@ class Eraser:
         self.modules = []  # that the file names
         self.imported = set()  # paths that it imports
         self.everywhere = set()  # of EVERYWHERE, that the file uses
+        self.owner = []  # the type or trait whose block is read
+        self.is_by_run = False  # whether the run alone reaches the item that was read
+        self.met = set()  # of UNREACHED, BY_RUN and REQUIRES, that the file has
 
     def file(self):
         source = self.source
@@ -53,7 +56,7 @@ class Eraser:
         word = self.source.take()
         take = {
             'ghost': self.ghost,
-            'use': self.use,
+            'use': lambda: self.use(visibility),
             'mod': lambda: self.module(is_test),
             'const': self.constant,
             'enum': lambda: self.data('enum'),
@@ -67,8 +70,11 @@ class Eraser:
         if is_test and word.text != 'mod':
             self.source.refuse('only a module may be for tests', word.start)
         text = take()
+        is_by_run, self.is_by_run = self.is_by_run, False
         if text is None:
             return None
+        if is_by_run:
+            attributes = f'#[cfg({RUN})]\n{self.indent(word.start)}{attributes}'
         if word.text == 'fn' and text.endswith('}') and '#[inline' not in attributes:
             attributes += f'#[inline]\n{self.indent(word.start)}'
         return f'{attributes}{visibility}{text}'
@@ -148,7 +154,7 @@ class Eraser:
         self.source.skip_block()
         self.source.take(';')
 
-    def use(self):
+    def use(self, visibility):
         """A use, with the names that its paths have in Rust. What only the prover reads goes."""
         start, path = self.source.at, [self.source.take_word()]
         names = []
@@ -158,17 +164,29 @@ class Eraser:
             else:
                 path.append(self.source.take_word())
         self.source.take(';')
-        targets = {}
+        targets, of_run = {}, {}
         for path in ['::'.join([*path, name]) for name in names] or ['::'.join(path)]:
             if path not in PATHS:
                 self.new_name(path.rpartition('::')[2], start)
             self.imported.add(path)
             target = self.target(path, start)
-            if target:
+            if target and not self.is_of(UNREACHED, path):
                 prefix, _, name = target.rpartition('::')
-                targets.setdefault(prefix, []).append(name)
-        lines = [use_line(prefix, names) for prefix, names in targets.items()]
+                some = of_run if self.is_of(BY_RUN, path) else targets
+                some.setdefault(prefix, []).append(name)
+        self.is_by_run = not targets
+        lines = [use_line(prefix, names) for prefix, names in (targets or of_run).items()]
+        if targets:
+            lines += [f'#[cfg({RUN})]\n{visibility}{use_line(prefix, names)}'
+                      for prefix, names in of_run.items()]
         return '\n'.join(lines) or None
+
+    def is_of(self, table, path):
+        """Whether a table has what this path names, by whatever module hands it on."""
+        crate, *_, name = self.whole(path).split('::')
+        if CRATES.get(self.source.crate) and table is BY_RUN:
+            return False
+        return any((it.split('::')[0], it.split('::')[-1]) == (crate, name) for it in table)
 
     def names(self):
         self.source.take('{')
@@ -178,6 +196,15 @@ class Eraser:
             if not self.source.sees('}'):
                 self.source.take(',')
         return names
+
+    def whole(self, path):
+        """A path from its crate on."""
+        first, _, others = path.partition('::')
+        if first == 'crate':
+            return f'{self.source.crate}::{others}'
+        if first == 'super':
+            return '::'.join([self.source.crate, *self.source.module[:-1], others])
+        return self.path_of(path) if first in self.modules else path
 
     def target(self, path, at):
         """What a path is called in Rust, or None where only the prover reads it."""
@@ -224,18 +251,27 @@ class Eraser:
         self.source.take(';')
         return f'const{text};'
 
+    def if_reached(self, path, text):
+        """A text, or None if nothing reaches what has this path."""
+        self.met |= {path} & (UNREACHED | BY_RUN)
+        self.is_by_run = path in BY_RUN
+        return None if path in UNREACHED else text
+
     def data(self, word):
         """A struct or an enum."""
-        head = f'{word} {self.own_name()}{self.generics()}'
+        name = self.own_name()
+        head = f'{word} {name}{self.generics()}'
         if self.source.sees('{'):
-            return f'{head} {self.group()}'
-        fields = self.group() if self.source.sees('(') else ''
-        self.source.take(';')
-        return f'{head}{fields};'
+            text = f'{head} {self.group()}'
+        else:
+            fields = self.group() if self.source.sees('(') else ''
+            self.source.take(';')
+            text = f'{head}{fields};'
+        return self.if_reached(self.path_of(name), text)
 
     def trait(self):
         name = self.own_name()
-        return f'trait {name}{self.generics()} {self.block_of_items(name)}'
+        return f'trait {name}{self.generics()} {self.block_of_items(name, name)}'
 
     def implementation(self):
         start, generics = self.source.at, self.generics()
@@ -250,7 +286,10 @@ class Eraser:
             return self.source.skip_block()
         if trait and trait.partition('<')[0] not in TRAITS:
             self.source.refuse(f'an impl of the unknown trait `{trait}`', start)
-        return f'impl{generics} {subject} {self.block_of_items(trait)}'
+        block = self.block_of_items(trait, owner)
+        if not trait and not block.strip('{} \n'):
+            return None
+        return self.if_reached(self.path_of(owner), f'impl{generics} {subject} {block}')
 
     def model(self, start):
         """What a contract sees of a type. In it are ghost items alone."""
@@ -261,15 +300,18 @@ class Eraser:
             self.source.take('ghost')
             self.ghost()
 
-    def block_of_items(self, trait):
+    def block_of_items(self, trait, owner):
         self.source.take('{')
+        self.owner = [owner]
         items = self.items('}', trait)
+        self.owner = []
         self.source.take('}')
         return '{' + items + '}'
 
     def function(self, trait, is_reached):
         """A function, without its clauses. It may be reached by code that isn't proved."""
         name = self.source.take_word()
+        path = self.path_of(*self.owner, name)
         is_text = trait in TEXT_TRAITS and name == 'fmt'
         head = f'fn {name}{self.generics(is_text)}{self.parameters(is_text)}'
         if self.source.take_if('->'):
@@ -277,12 +319,11 @@ class Eraser:
         if self.source.take_if('where'):
             self.conditions()
         while self.source.sees(*CLAUSES):
-            self.clause(name, is_reached)
-        if self.source.take_if(';'):
-            return f'{head};'
-        return f'{head} {self.group()}'
+            self.clause(name, path, is_reached and path not in UNREACHED)
+        text = f'{head};' if self.source.take_if(';') else f'{head} {self.group()}'
+        return self.if_reached(path, text)
 
-    def clause(self, name, is_reached):
+    def clause(self, name, path, is_reached):
         """A clause of a function. What code by hand would have to keep must be known."""
         word = self.source.take()
         if not self.source.sees('{'):
@@ -291,8 +332,11 @@ class Eraser:
         start = self.source.at
         self.source.skip_block()
         text = ' '.join(self.source.text[start:self.source.at].split())
-        if word.text == 'requires' and is_reached and REQUIRES.get(self.path_of(name)) != text:
+        if word.text != 'requires' or not is_reached:
+            return
+        if REQUIRES.get(path) != text:
             self.source.refuse(f'`{name}` can be called by hand and requires {text}', word.start)
+        self.met.add(path)
 
     def parameters(self, is_text):
         start, text = self.source.at, self.group()

@@ -52,9 +52,9 @@ def is_there(crate, place, clauses):
 
 
 def is_quoted(text, calls):
-    """Whether the contract of one of these calls has the text."""
-    parts = [' '.join(part.split()) for part in text.split('..')]
-    return any(all(part in call.text for part in parts) for call in calls)
+    """Whether the contract of one of these calls has the text's parts, one behind the other."""
+    parts = (re.escape(' '.join(part.split())) for part in text.split('..'))
+    return any(re.search('.*'.join(parts), call.text) for call in calls)
 
 
 def cell_faults(cell, crates, named):
@@ -80,19 +80,30 @@ def is_equivalence(cell, calls):
     return any('↔' in call.text for call in calls if call.place() in places)
 
 
-def faults():
-    """The citations of docs/PROOFS.md and of the pages for callers that no source has."""
-    crates = {name: Crate(name) for name in listed_crates()}
+def rows():
+    """Each row or point with citations, of docs/PROOFS.md and of the pages for callers."""
     for path in [PROOFS, *for_callers()]:
-        for number, named, claim, cell in cited_rows(path.read_text('utf-8')):
-            calls = [call for name in named for call in crates[name].calls]
-            if 'exactly if' in claim and not is_equivalence(cell, calls):
-                yield (
-                    f'{path.relative_to(ROOT)}:{number}: `exactly if` is an equivalence, and no call '
-                    'that is cited has one: claim what its clause says'
-                )
-            for cited in cell_faults(cell, crates, named):
-                yield (
-                    f'{path.relative_to(ROOT)}:{number}: `{cited}` is no contract of '
-                    f'{" or ".join(named)}: cite a call and its clauses as they stand there'
-                )
+        for row in cited_rows(path.read_text('utf-8')):
+            yield path, *row
+
+
+def citations():
+    """Each text that is cited."""
+    return [cited for *_, cell in rows() for cited in NAMES.findall(cell)]
+
+
+def faults():
+    """The citations that no source has."""
+    crates = {name: Crate(name) for name in listed_crates()}
+    for path, number, named, claim, cell in rows():
+        calls = [call for name in named for call in crates[name].calls]
+        if 'exactly if' in claim and not is_equivalence(cell, calls):
+            yield (
+                f'{path.relative_to(ROOT)}:{number}: `exactly if` is an equivalence, and no call '
+                'that is cited has one: claim what its clause says'
+            )
+        for cited in cell_faults(cell, crates, named):
+            yield (
+                f'{path.relative_to(ROOT)}:{number}: `{cited}` is no contract of '
+                f'{" or ".join(named)}: cite a call and its clauses as they stand there'
+            )

@@ -46,16 +46,23 @@ def anchors(text):
     return {re.sub(r'[^\w\- ]', '', head.lower()).replace(' ', '-') for head in heads}
 
 
+def links():
+    """Each link from a page to a file here: the page, the file, and its heading."""
+    for path in pages():
+        for target, anchor in LINK.findall(path.read_text('utf-8')):
+            yield path, target, anchor
+
+
 def lost():
     """The links, crates and files of definitions that a page names and that aren't there."""
+    for path, target, anchor in links():
+        name, there = path.relative_to(ROOT), path.parent / target if target else path
+        if not there.exists():
+            yield f'{name}: there is no {target}: mend the link'
+        elif anchor and anchor not in anchors(there.read_text('utf-8')):
+            yield f'{name}: there is no {target}#{anchor}: mend the link'
     for path in pages():
         text, name = path.read_text('utf-8'), path.relative_to(ROOT)
-        for target, anchor in LINK.findall(text):
-            there = path.parent / target if target else path
-            if not there.exists():
-                yield f'{name}: there is no {target}: mend the link'
-            elif anchor and anchor not in anchors(there.read_text('utf-8')):
-                yield f'{name}: there is no {target}#{anchor}: mend the link'
         for crate in {*CRATE.findall(text)}:
             if not (ROOT / 'crates' / crate).is_dir():
                 yield f'{name}: there is no crate {crate}'

@@ -18,6 +18,8 @@ mod maps;
 #[cfg(test)]
 mod replay;
 #[cfg(test)]
+mod rows;
+#[cfg(test)]
 mod scripts;
 #[cfg(test)]
 mod steps;

@@ -1,9 +1,12 @@
 //! Threads that are blocked: what ends each call, and what it answers.
-use crate::waiting::{are_waiting, channel, new_task};
+use crate::waiting::{await_numbers, channel, new_task};
 use crate::ways::numbers_from;
 use Act::*;
 use Said::*;
-use async_channel::{Group, Receiver, Recv, RecvError, Send, SendError, Sender, WeakSender};
+use async_channel::{
+    Group, OutOfMemory, Receiver, Recv, RecvError, Send, SendError, Sender, TryRecvError,
+    TrySendError, WeakSender,
+};
 use futures::test::MockTask;
 use std::alloc::{AllocGlobal, Global};
 use std::process::Abort;
@@ -40,7 +43,22 @@ enum Said {
     Batch(usize),
     Done,
     Closed,
-    Otherwise,
+    Full,
+    Empty,
+    NoMemory,
+    /// So many messages were not sent.
+    Unsent(usize),
+    /// Another message came back.
+    Back(u64),
+    /// A list took room for so many messages.
+    Room(usize),
+}
+
+impl Said {
+    /// Whether a message went in or out, or the channel was closed just now.
+    fn is_well(self) -> bool {
+        matches!(self, Got(_) | Done)
+    }
 }
 
 impl Call {
@@ -61,29 +79,31 @@ impl Call {
             Call::Recv => match r.recv_blocking() {
                 Ok(Ok(message)) => Got(message),
                 Ok(Err(RecvError)) => Closed,
-                Err(_) => Otherwise,
+                Err(OutOfMemory) => NoMemory,
             },
             Call::RecvMany => {
                 let mut into = Vec::new(alloc);
                 match r.recv_many_blocking(&mut into, usize::MAX) {
                     Ok(Ok(count)) if into.capacity() < 100 => Batch(count),
+                    Ok(Ok(_)) => Room(into.capacity()),
                     Ok(Err(RecvError)) => Closed,
-                    _ => Otherwise,
+                    Err(OutOfMemory) => NoMemory,
                 }
             }
             Call::Send(message) => match s.send_blocking(message) {
                 Ok(Ok(())) => Done,
                 Ok(Err(SendError(back))) if back == message => Closed,
-                _ => Otherwise,
+                Ok(Err(SendError(back))) => Back(back),
+                Err(_) => NoMemory,
             },
             Call::SendMany(first) => {
                 let Ok(mut from) = numbers_from(alloc, first, 2) else {
-                    return Otherwise;
+                    return NoMemory;
                 };
                 match s.send_many_blocking(&mut from) {
                     Ok(Ok(())) if from.is_empty() => Done,
-                    Ok(Err(SendError(()))) => Batch(from.len()),
-                    _ => Otherwise,
+                    Ok(_) => Unsent(from.len()),
+                    Err(OutOfMemory) => NoMemory,
                 }
             }
         }
@@ -95,14 +115,17 @@ impl Act {
         match self {
             TrySend(message) => match s.try_send(message) {
                 Ok(Ok(())) => Done,
-                _ => Otherwise,
+                Ok(Err(TrySendError::Full(_))) => Full,
+                Ok(Err(TrySendError::Closed(_))) => Closed,
+                Err(_) => NoMemory,
             },
             TryRecv => match r.try_recv() {
                 Ok(message) => Got(message),
-                _ => Otherwise,
+                Err(TryRecvError::Empty) => Empty,
+                Err(TryRecvError::Closed) => Closed,
             },
-            Close if s.close() => Done,
-            Close => Otherwise,
+            Act::Close if s.close() => Done,
+            Act::Close => Closed,
         }
     }
 }
@@ -146,7 +169,7 @@ where
     let (own_s, own_r) = own_ends(rt, s, r);
     let alloc = rt.alloc();
     let thread = thread::spawn(rt, move || call.make(alloc, &own_s, &own_r));
-    assert!(rt; are_waiting(weak, call.group(), (count, 0)), "{call:?}");
+    await_numbers(rt, weak, call.group(), (count, 0));
     thread.expect(rt, "a thread")
 }
 
@@ -173,7 +196,7 @@ const CASES: [Case; 5] = [
     ),
     (
         [Call::Send(2), Call::SendMany(3)],
-        [(TryRecv, Got(1), Done), (Close, Done, Batch(2))],
+        [(TryRecv, Got(1), Done), (Close, Done, Unsent(2))],
     ),
 ];
 
@@ -190,7 +213,7 @@ where
         assert_eq!(rt; act.make(&s, &r), *answer, "{act:?}");
         assert_eq!(rt; thread.join(rt), *ended, "{act:?}");
     }
-    assert!(rt; are_waiting(&weak, first.group(), (0, 0)));
+    await_numbers(rt, &weak, first.group(), (0, 0));
 }
 
 #[test]
@@ -203,21 +226,32 @@ fn the_longest_blocked_call_ends(rt: HostRuntime) {
 /// How often a blocked thread is told, and finds nothing.
 const ROUNDS: u32 = 100;
 
-/// Makes the call again and again, until it answers this.
+/// Makes the call again and again, until it answers this, or isn't well. The answer is what it said.
 fn repeats<R: Wait + Clone + Drop + AllocGlobal>(
     rt: &R,
     call: Call,
     last: Said,
     s: &Sender<u64, R>,
     r: &Receiver<u64, R>,
-) -> bool {
+) -> Said {
     for _ in rt.forever() {
         let said = call.make(rt.alloc(), s, r);
-        if said == last || said == Otherwise {
-            return said == last;
+        if said == last || !said.is_well() {
+            return said;
         }
     }
-    false
+    unreachable!()
+}
+
+/// Makes the call of another thread, which has to be well.
+fn act<R: Wait + Clone + Drop>(
+    rt: &impl Abort,
+    act: Act,
+    s: &Sender<u64, R>,
+    r: &Receiver<u64, R>,
+) {
+    let said = act.make(s, r);
+    assert!(rt; said.is_well(), "{act:?}: {said:?}");
 }
 
 #[test]
@@ -232,17 +266,17 @@ fn who_is_told_in_vain_is_told_again_and_tells_no_other(rt: HostRuntime) {
         let thread = thread::spawn(&rt, move || repeats(&rt, call, last, &own_s, &own_r));
         let task = new_task(&rt);
         for _ in 0..ROUNDS {
-            assert!(rt; are_waiting(&weak, call.group(), (1, 0)), "{call:?}");
+            await_numbers(&rt, &weak, call.group(), (1, 0));
             let (mut send, mut recv) = (s.send(0), r.recv());
             assert!(rt; !is_ready(&task, call, &mut send, &mut recv), "{call:?}");
-            assert!(rt; tells.make(&s, &r) != Otherwise, "{call:?}");
+            act(&rt, tells, &s, &r);
             // mostly before the thread wakes
             takes.make(&s, &r);
-            assert!(rt; are_waiting(&weak, call.group(), (2, 0)), "{call:?}");
+            await_numbers(&rt, &weak, call.group(), (2, 0));
         }
         assert_eq!(rt; ends.make(&s, &r), Done, "{call:?}");
-        assert!(rt; thread.expect(&rt, "a thread").join(&rt), "{call:?}");
-        assert!(rt; are_waiting(&weak, call.group(), (0, 0)), "{call:?}");
+        assert_eq!(rt; thread.expect(&rt, "a thread").join(&rt), last);
+        await_numbers(&rt, &weak, call.group(), (0, 0));
     }
 }
 
@@ -275,10 +309,10 @@ where
     let (task, mut send, mut recv) = (new_task(rt), s.send(2), r.recv());
     assert!(rt; !is_ready(&task, call, &mut send, &mut recv));
     let thread = blocked(rt, call, &s, &r, &weak, 2);
-    assert!(rt; tells.make(&s, &r) != Otherwise);
+    act(rt, tells, &s, &r);
     give_time(rt);
     let goes_on = !matches!(ends, Close) && is_ready(&task, call, &mut send, &mut recv);
-    assert!(rt; ends.make(&s, &r) != Otherwise);
+    act(rt, ends, &s, &r);
     (goes_on, thread.join(rt))
 }
 
@@ -295,7 +329,7 @@ fn a_blocked_call_sleeps_until_it_is_told(rt: HostRuntime) {
 
 #[test]
 fn a_told_call_wakes_no_other(rt: HostRuntime) {
-    for (call, act, ended) in [
+    for (call, tells, ended) in [
         (Call::Recv, TrySend(7), Got(7)),
         (Call::Send(2), TryRecv, Done),
     ] {
@@ -304,7 +338,7 @@ fn a_told_call_wakes_no_other(rt: HostRuntime) {
         give_time(&rt);
         let (task, mut send, mut recv) = (new_task(&rt), s.send(3), r.recv());
         assert!(rt; !is_ready(&task, call, &mut send, &mut recv));
-        assert!(rt; act.make(&s, &r) != Otherwise);
+        act(&rt, tells, &s, &r);
         assert_eq!(rt; thread.join(&rt), ended);
         assert!(rt; !task.is_woken(), "{call:?}");
     }
@@ -359,4 +393,47 @@ fn a_blocked_batch_tells_as_many_sends(rt: HostRuntime) {
         }
     }
     assert!(rt; both_waited);
+}
+
+/// How many messages come at once, which is more than two rounds of a batch move.
+const MESSAGES: usize = 300;
+
+/// How many messages a batch with this limit takes that blocks until so many come.
+fn takes_at_once<R>(rt: &R, limit: usize) -> usize
+where
+    R: Threads + Wait + Clone + Drop + RandomSource + AllocGlobal + Abort + Clock,
+    R: std::marker::Send + Sync + 'static,
+{
+    let (s, r) = channel(rt, None);
+    let (alloc, weak) = (rt.alloc(), s.downgrade().expect(rt, "memory"));
+    let thread = thread::spawn(rt, move || {
+        let mut into = Vec::new(alloc);
+        drop(r.recv_many_blocking(&mut into, limit));
+        into.len()
+    });
+    await_numbers(rt, &weak, Group::Receives, (1, 0));
+    give_time(rt);
+    let mut from = numbers_from(alloc, 0, MESSAGES).expect(rt, "memory");
+    assert_eq!(rt; s.try_send_many(&mut from), Ok(Ok(MESSAGES)));
+    thread.expect(rt, "a thread").join(rt)
+}
+
+#[test]
+fn a_batch_that_blocks_takes_all_that_is_there_up_to_its_limit(rt: HostRuntime) {
+    for (limit, wanted) in [(200, 200), (usize::MAX, MESSAGES)] {
+        let (s, r) = channel(&rt, None);
+        let mut from = numbers_from(rt.alloc(), 0, MESSAGES).expect(&rt, "memory");
+        assert_eq!(rt; s.try_send_many(&mut from), Ok(Ok(MESSAGES)));
+        let mut into = Vec::new(rt.alloc());
+        assert_eq!(rt; r.recv_many_blocking(&mut into, limit), Ok(Ok(wanted)));
+        // One that wakes before all have come takes fewer.
+        let mut most = 0;
+        for _ in 0..BATCHES {
+            most = most.max(takes_at_once(&rt, limit));
+            if most == wanted {
+                break;
+            }
+        }
+        assert_eq!(rt; most, wanted);
+    }
 }

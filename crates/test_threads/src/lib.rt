@@ -31,3 +31,5 @@ mod turns;
 mod waiting;
 #[cfg(test)]
 mod ways;
+#[cfg(test)]
+mod worked;

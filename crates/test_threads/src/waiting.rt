@@ -38,17 +38,20 @@ pub fn numbers<T: Drop, R: Wait + Clone + Drop>(
     (seen.waiting, seen.told)
 }
 
-/// Takes turns until so many wait in the group, and so many of them are told.
-pub fn are_waiting<T: Drop, R: Wait + Clone + Drop>(
+/// Takes turns until so many wait in the group, and so many of them are told. It fails if they don't.
+pub fn await_numbers<T: Drop, R: Wait + Clone + Drop>(
+    rt: &impl Abort,
     weak: &WeakSender<T, R>,
     group: Group,
     wanted: (usize, usize),
-) -> bool {
+) {
+    let mut seen = numbers(weak, group);
     for _ in 0..TURNS {
-        if numbers(weak, group) == wanted {
-            return true;
+        if seen == wanted {
+            return;
         }
         thread::yield_now();
+        seen = numbers(weak, group);
     }
-    false
+    assert_eq!(rt; seen, wanted, "{group:?}");
 }

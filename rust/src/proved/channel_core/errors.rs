@@ -42,24 +42,6 @@ pub struct OutOfMemory;
 #[derive(Clone, Copy, PartialEq, Eq)]
 pub struct NoMemory<T>(pub T);
 
-/// A channel was not made.
-#[derive(Clone, Copy, PartialEq, Eq)]
-pub enum MakeError {
-    /// Memory was refused.
-    OutOfMemory = 1,
-    /// The maker has given its last stamp.
-    NoStamps = 2,
-}
-
-/// A handle was not copied or upgraded.
-#[derive(Clone, Copy, PartialEq, Eq)]
-pub enum CloneError {
-    /// There are more handles of its kind than half of what a `usize` can count.
-    TooMany = 1,
-    /// Memory was refused.
-    OutOfMemory = 2,
-}
-
 impl<T> SendError<T> {
     /// The message.
     #[inline]
@@ -213,47 +195,3 @@ impl<T> fmt::Debug for NoMemory<T> {
 }
 
 impl<T> Error for NoMemory<T> {}
-
-impl fmt::Display for MakeError {
-    #[inline]
-    fn fmt(&self, f: &mut fmt::Formatter<'_>) -> fmt::Result {
-        f.write_str(match self {
-            MakeError::OutOfMemory => "out of memory",
-            MakeError::NoStamps => "no stamp is left",
-        })
-    }
-}
-
-impl fmt::Debug for MakeError {
-    #[inline]
-    fn fmt(&self, f: &mut fmt::Formatter<'_>) -> fmt::Result {
-        f.write_str(match self {
-            MakeError::OutOfMemory => "OutOfMemory",
-            MakeError::NoStamps => "NoStamps",
-        })
-    }
-}
-
-impl Error for MakeError {}
-
-impl fmt::Display for CloneError {
-    #[inline]
-    fn fmt(&self, f: &mut fmt::Formatter<'_>) -> fmt::Result {
-        f.write_str(match self {
-            CloneError::TooMany => "too many handles",
-            CloneError::OutOfMemory => "out of memory",
-        })
-    }
-}
-
-impl fmt::Debug for CloneError {
-    #[inline]
-    fn fmt(&self, f: &mut fmt::Formatter<'_>) -> fmt::Result {
-        f.write_str(match self {
-            CloneError::TooMany => "TooMany",
-            CloneError::OutOfMemory => "OutOfMemory",
-        })
-    }
-}
-
-impl Error for CloneError {}

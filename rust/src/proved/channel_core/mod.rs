@@ -7,9 +7,11 @@ mod queue;
 mod state;
 mod waiting;
 
-pub use crate::errors::{
-    CloneError, MakeError, NoMemory, OutOfMemory, RecvError, SendError, TryRecvError, TrySendError,
-};
-pub use crate::proved::event_list::{Bell, NoRoom, Quiet, Ticket};
+pub use crate::errors::{NoMemory, OutOfMemory, RecvError, SendError, TryRecvError, TrySendError};
+pub use crate::proved::event_list::{Bell, NoRoom, Ticket};
+#[cfg(vamorilesh_run)]
+pub use crate::proved::event_list::Quiet;
 pub use queue::Queue;
-pub use state::{Core, Group, HANDLE_LIMIT, Upgrade};
+pub use state::{Core, Group, HANDLE_LIMIT};
+#[cfg(vamorilesh_run)]
+pub use state::Upgrade;

@@ -114,6 +114,7 @@ impl<T> Queue<T> {
     }
 
     /// The message in this place, from 0 for the oldest.
+    #[cfg(vamorilesh_run)]
     #[inline]
     pub fn get(&self, place: usize) -> Option<&T> {
         match &self.store {

@@ -46,6 +46,7 @@ pub enum Group {
 }
 
 /// What became of a wish for one more strong handle.
+#[cfg(vamorilesh_run)]
 #[derive(Clone, Copy, Debug, PartialEq, Eq)]
 pub enum Upgrade {
     /// The count was raised by 1.
@@ -139,12 +140,14 @@ impl<T, W> Core<T, W> {
     }
 
     /// Whether the channel is closed and no message is held, so that none will come.
+    #[cfg(vamorilesh_run)]
     #[inline]
     pub fn is_terminated(&self) -> bool {
         self.closed && self.is_empty()
     }
 
     /// The message in this place, from 0 for the oldest.
+    #[cfg(vamorilesh_run)]
     #[inline]
     pub fn message(&self, place: usize) -> Option<&T> {
         self.queue.get(place)
@@ -157,42 +160,42 @@ impl<T, W> Core<T, W> {
     }
 
     /// The number of senders.
+    #[cfg(vamorilesh_run)]
     #[inline]
     pub fn sender_count(&self) -> usize {
         self.senders
     }
 
     /// The number of receivers.
+    #[cfg(vamorilesh_run)]
     #[inline]
     pub fn receiver_count(&self) -> usize {
         self.receivers
     }
 
     /// The most messages that there may be, if there is a capacity.
+    #[cfg(vamorilesh_run)]
     #[inline]
     pub fn capacity(&self) -> Option<usize> {
         self.queue.capacity()
     }
 
     /// How many wait in the group, told ones among them.
+    #[cfg(vamorilesh_run)]
     #[inline]
     pub fn waiting(&self, g: Group) -> usize {
         self.lists.of(g).len()
     }
 
-    /// How many in the group are told.
-    #[inline]
-    pub fn told(&self, g: Group) -> usize {
-        self.lists.of(g).told()
-    }
-
     /// The key of the first one in the group, if somebody there is told.
+    #[cfg(vamorilesh_run)]
     #[inline]
     pub fn first_told(&self, g: Group) -> Option<usize> {
         self.lists.of(g).first_told()
     }
 
     /// Whether the ticket's entry is told, or nothing if it isn't in the group's list.
+    #[cfg(vamorilesh_run)]
     #[inline]
     pub fn is_told(&self, g: Group, t: &Ticket) -> Option<bool> {
         self.lists.of(g).is_told(t)

@@ -16,5 +16,5 @@ pub use crate::proved::channel_model::{
     Kind, Notice, OutOfMemory, RecvError, Refusal, Reply, SendError, Side, Step, TryRecvError,
     TrySendError, Who,
 };
-pub use run::{End, Run, RunError, run_all};
+pub use run::Run;
 pub use settle::Settled;

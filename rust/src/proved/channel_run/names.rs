@@ -20,12 +20,6 @@ impl Names {
         }
     }
 
-    /// How many names are live.
-    #[inline]
-    pub(super) fn len(&self) -> usize {
-        self.names.len()
-    }
-
     /// Whether a name is live.
     #[inline]
     pub(super) fn has(&self, name: u64) -> bool {

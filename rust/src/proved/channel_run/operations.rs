@@ -30,16 +30,6 @@ pub enum Operation<T> {
 }
 
 impl<T> Operation<T> {
-    /// Whether it borrows this sender.
-    #[inline]
-    pub(super) fn borrows_sender(&self, name: u64) -> bool {
-        match self {
-            Operation::Send { sender, .. } => *sender == name,
-            Operation::Recv { .. } => false,
-            Operation::Closed { sender, .. } => *sender == name,
-        }
-    }
-
     /// The message of a send that hasn't finished, and doesn't wait.
     #[inline]
     pub(super) fn into_message(self) -> Option<T> {
@@ -92,16 +82,6 @@ impl<T> Operation<T> {
                 core.cancel_closed(&mut ticket);
                 Ticket::destroy_none(ticket);
             }
-        }
-    }
-
-    /// Whether it borrows this receiver.
-    #[inline]
-    pub(super) fn borrows_receiver(&self, name: u64) -> bool {
-        match self {
-            Operation::Send { .. } => false,
-            Operation::Recv { receiver, .. } => *receiver == name,
-            Operation::Closed { .. } => false,
         }
     }
 

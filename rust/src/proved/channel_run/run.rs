@@ -192,39 +192,3 @@ fn notice<T>(core: &Core<T, ()>, group: Group, ticket: &Option<Ticket>) -> Notic
         None => Notice::Absent,
     }
 }
-
-/// What a list of steps came to.
-pub struct End<T> {
-    /// One reply a step, in order.
-    pub replies: Vec<Reply<T>>,
-    /// The run after the last step.
-    pub run: Run<T>,
-}
-
-/// Memory was refused before the first step. The steps come back.
-pub struct RunError<T>(pub Vec<Step<T>>);
-
-/// Makes the steps in turn, in a run of a new channel.
-///
-/// A bounded channel's capacity has to be positive. Room for the replies is taken first.
-#[inline]
-pub fn run_all<T>(
-    alloc: Global,
-    kind: Kind,
-    steps: Vec<Step<T>>,
-) -> Result<End<T>, RunError<T>> {
-    let Ok(mut replies) = Vec::with_capacity(alloc, steps.len()) else {
-        return Err(RunError(steps));
-    };
-    let Ok(mut run) = Run::new(alloc, kind) else {
-        return Err(RunError(steps));
-    };
-    for step in steps {
-        let reply = run.step(step);
-        match replies.push(reply) {
-            Ok(()) => {}
-            Err(_) => unreachable!(),
-        }
-    }
-    Ok(End { replies, run })
-}

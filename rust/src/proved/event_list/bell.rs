@@ -11,8 +11,10 @@ pub trait Bell<W> {
 }
 
 /// A bell that does nothing, for a list whose waiters are looked after by its owner.
+#[cfg(vamorilesh_run)]
 pub struct Quiet;
 
+#[cfg(vamorilesh_run)]
 impl<W> Bell<W> for Quiet {
     #[inline]
     fn ring(&mut self, payload: W) {

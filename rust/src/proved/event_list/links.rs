@@ -177,6 +177,7 @@ impl<W> Links<W> {
     }
 
     /// The key of the first entry, if somebody is told.
+    #[cfg(vamorilesh_run)]
     #[inline]
     pub(super) fn first_told(&self) -> Option<usize> {
         if self.told == 0 {

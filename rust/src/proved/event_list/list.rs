@@ -65,12 +65,6 @@ impl<W> WaitList<W> {
         Ok(())
     }
 
-    /// The entry waits again with this payload. The answer is whether it is in the list.
-    #[inline]
-    pub fn again(&mut self, ticket: &Ticket, payload: W) -> bool {
-        self.renew(ticket, payload).is_ok()
-    }
-
     /// Tells the longest waiting untold entry. The answer is whether there was one.
     #[inline(always)]
     pub fn tell_one<B: Bell<W>>(&mut self, bell: &mut B) -> bool {
@@ -84,18 +78,6 @@ impl<W> WaitList<W> {
             return 0;
         }
         self.tell_all_from::<B, Brand>(bell, Blank::new(1))
-    }
-
-    /// The entry leaves. The answer is whether it was told, or nothing if it isn't in the list.
-    #[inline]
-    pub fn remove(&mut self, ticket: Ticket) -> Option<bool> {
-        Some(self.unregister(ticket)?.is_told())
-    }
-
-    /// The entry leaves, and if it was told, one is told in its place.
-    #[inline]
-    pub fn cancel<B: Bell<W>>(&mut self, ticket: Ticket, bell: &mut B) {
-        self.withdraw(ticket, bell);
     }
 
     /// `again`, which gives the payload that an untold entry had. If the entry isn't in the list,
@@ -138,17 +120,6 @@ impl<W> WaitList<W> {
         links.listen(payload, &mut steps.lookups)
     }
 
-    /// `again`, which counts its look-ups: at most 6.
-    #[inline]
-    pub fn again_counted<L: Ledger>(
-        &mut self,
-        ticket: &Ticket,
-        payload: W,
-        steps: &mut Steps<L>,
-    ) -> bool {
-        self.renew_counted(ticket, payload, steps).is_ok()
-    }
-
     /// `tell_one`, which counts its look-ups: one if one is told, and else none.
     #[inline]
     pub fn tell_one_counted<B: Bell<W>, L: Ledger>(
@@ -175,30 +146,8 @@ impl<W> WaitList<W> {
         }
     }
 
-    /// `remove`, which counts its look-ups: at most 6.
-    #[inline]
-    pub fn remove_counted<L: Ledger>(
-        &mut self,
-        ticket: Ticket,
-        steps: &mut Steps<L>,
-    ) -> Option<bool> {
-        Some(self.unregister_counted(ticket, steps)?.is_told())
-    }
-
-    /// `cancel`, which counts its look-ups: at most 12.
-    #[inline]
-    pub fn cancel_counted<B: Bell<W>, L: Ledger>(
-        &mut self,
-        ticket: Ticket,
-        bell: &mut B,
-        steps: &mut Steps<L>,
-    ) {
-        if self.remove_counted(ticket, steps) == Some(true) {
-            self.tell_one_counted(bell, steps);
-        }
-    }
-
     /// How many wait. All have different keys.
+    #[cfg(vamorilesh_run)]
     #[inline]
     pub fn len(&self) -> usize {
         match &self.links {
@@ -207,22 +156,8 @@ impl<W> WaitList<W> {
         }
     }
 
-    /// How many are told.
-    #[inline]
-    pub fn told(&self) -> usize {
-        match &self.links {
-            Some(links) => links.told(),
-            None => 0,
-        }
-    }
-
-    /// Whether the ticket's entry is in the list.
-    #[inline]
-    pub fn contains(&self, ticket: &Ticket) -> bool {
-        self.is_told(ticket).is_some()
-    }
-
     /// Whether the ticket's entry is told, or nothing if it isn't in the list.
+    #[cfg(vamorilesh_run)]
     #[inline]
     pub fn is_told(&self, ticket: &Ticket) -> Option<bool> {
         Some(self.entry_from::<Brand>(ticket, Blank::new(1))?.is_told())
@@ -235,6 +170,7 @@ impl<W> WaitList<W> {
     }
 
     /// The key of the first entry, if somebody is told.
+    #[cfg(vamorilesh_run)]
     #[inline]
     pub fn first_told(&self) -> Option<usize> {
         self.links.as_ref()?.first_told()

@@ -16,7 +16,9 @@ mod links;
 mod list;
 mod ticket;
 
-pub use bell::{Bell, Quiet};
+pub use bell::Bell;
+#[cfg(vamorilesh_run)]
+pub use bell::Quiet;
 pub use entries::EntryState;
 pub use list::steps::Steps;
 pub use list::{NoRoom, WaitList};

@@ -13,12 +13,14 @@ pub struct Ticket {
 
 impl Ticket {
     /// The key of the entry.
+    #[cfg(vamorilesh_run)]
     #[inline]
     pub fn key(&self) -> usize {
         self.key
     }
 
     /// Ends a place where no ticket is.
+    #[cfg(vamorilesh_run)]
     #[inline]
     pub fn destroy_none(place: Option<Ticket>) {
         match place {

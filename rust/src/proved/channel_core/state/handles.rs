@@ -1,11 +1,14 @@
 // Taken out of crates/channel_core/src/state/handles.rt by tools/erase. Change that file, not this one.
 //! The handles of a channel: how many senders and receivers there are, and who is the last.
 
-use crate::proved::channel_core::state::{Core, HANDLE_LIMIT, Upgrade, shut};
+use crate::proved::channel_core::state::{Core, HANDLE_LIMIT, shut};
+#[cfg(vamorilesh_run)]
+use crate::proved::channel_core::state::Upgrade;
 use crate::proved::channel_core::waiting::leave;
 use crate::proved::event_list::{Bell, Ticket};
 
 // Counts one more copy of a handle, if there is one and there may be one more.
+#[cfg(vamorilesh_run)]
 #[inline]
 fn add_handle(count: &mut usize) -> bool {
     if *count == 0 || *count > HANDLE_LIMIT {
@@ -16,6 +19,7 @@ fn add_handle(count: &mut usize) -> bool {
 }
 
 // Counts one more handle, made of a weak one.
+#[cfg(vamorilesh_run)]
 #[inline]
 fn upgrade_handle(closed: bool, count: &mut usize) -> Upgrade {
     if closed {
@@ -31,6 +35,7 @@ fn upgrade_handle(closed: bool, count: &mut usize) -> Upgrade {
 impl<T, W> Core<T, W> {
     /// Counts one more sender, a copy of one that there is. The answer is whether there may be one
     /// more.
+    #[cfg(vamorilesh_run)]
     #[inline]
     pub fn add_sender(&mut self) -> bool {
         add_handle(&mut self.senders)
@@ -38,18 +43,21 @@ impl<T, W> Core<T, W> {
 
     /// Counts one more receiver, a copy of one that there is. The answer is whether there may be
     /// one more.
+    #[cfg(vamorilesh_run)]
     #[inline]
     pub fn add_receiver(&mut self) -> bool {
         add_handle(&mut self.receivers)
     }
 
     /// Counts one more sender, made of a weak one, if the channel is open.
+    #[cfg(vamorilesh_run)]
     #[inline]
     pub fn upgrade_sender(&mut self) -> Upgrade {
         upgrade_handle(self.closed, &mut self.senders)
     }
 
     /// Counts one more receiver, made of a weak one, if the channel is open.
+    #[cfg(vamorilesh_run)]
     #[inline]
     pub fn upgrade_receiver(&mut self) -> Upgrade {
         upgrade_handle(self.closed, &mut self.receivers)

@@ -4,7 +4,9 @@
 use crate::errors::{NoMemory, OutOfMemory, RecvError, SendError};
 use crate::proved::channel_core::state::{Core, Group};
 use crate::proved::channel_core::waiting::{hand_on, leave, wait};
-use crate::proved::event_list::{Bell, NoRoom, Quiet, Ticket};
+use crate::proved::event_list::{Bell, NoRoom, Ticket};
+#[cfg(vamorilesh_run)]
+use crate::proved::event_list::Quiet;
 use std::task::Poll;
 
 impl<T, W> Core<T, W> {
@@ -14,6 +16,7 @@ impl<T, W> Core<T, W> {
     /// A ready poll leaves neither message nor ticket. A pending one leaves the ticket of an
     /// untold entry that holds `w`. If memory was refused nothing has changed, the message
     /// and the ticket neither.
+    #[cfg(vamorilesh_run)]
     #[inline(always)]
     pub fn poll_send<B: Bell<W>>(
         &mut self,
@@ -70,6 +73,7 @@ impl<T, W> Core<T, W> {
     ///
     /// A ready poll leaves no ticket. A pending one leaves the ticket of an untold entry that
     /// holds `w`. If memory was refused nothing has changed, the ticket neither.
+    #[cfg(vamorilesh_run)]
     #[inline(always)]
     pub fn poll_recv<B: Bell<W>>(
         &mut self,
@@ -112,6 +116,7 @@ impl<T, W> Core<T, W> {
     ///
     /// A ready poll leaves no ticket. A pending one leaves the ticket of an untold entry that
     /// holds `w`. If memory was refused nothing has changed, the ticket neither.
+    #[cfg(vamorilesh_run)]
     #[inline]
     pub fn poll_next<B: Bell<W>>(
         &mut self,
@@ -155,6 +160,7 @@ impl<T, W> Core<T, W> {
     ///
     /// A ready poll leaves no ticket. A pending one leaves the ticket of an untold entry that
     /// holds `w`. If memory was refused nothing has changed, the ticket neither.
+    #[cfg(vamorilesh_run)]
     #[inline]
     pub fn poll_closed(&mut self, t: &mut Option<Ticket>, w: W) -> Result<Poll<()>, OutOfMemory> {
         let polled = self.finish_closed(t, &mut None);
@@ -179,17 +185,6 @@ impl<T, W> Core<T, W> {
         Poll::Ready(())
     }
 
-    /// Whether one of the group has to wait: a send on an open and full channel, a receive or a
-    /// stream on an open and empty one, a closed operation as long as there is a receiver.
-    #[inline(always)]
-    pub fn must_wait(&self, g: Group) -> bool {
-        match g {
-            Group::Sends => self.is_full() && !self.closed,
-            Group::Receives | Group::Streams => self.is_empty() && !self.closed,
-            Group::Closeds => self.receivers != 0,
-        }
-    }
-
     /// One that can't go on waits: its entry in the group's list waits again, or a new one goes
     /// last. It is untold then, and holds `w`.
     ///
@@ -206,6 +201,7 @@ impl<T, W> Core<T, W> {
     }
 
     // `wait`, without the payloads of before and after.
+    #[cfg(vamorilesh_run)]
     #[inline(always)]
     fn wait_or_fail(&mut self, g: Group, t: &mut Option<Ticket>, w: W) -> Result<(), OutOfMemory> {
         match self.wait(g, t, w) {
@@ -215,25 +211,22 @@ impl<T, W> Core<T, W> {
     }
 
     /// Gives a send's wait up. A notice that it had goes to the next send.
+    #[cfg(vamorilesh_run)]
     #[inline]
     pub fn cancel_send<B: Bell<W>>(&mut self, t: &mut Option<Ticket>, bell: &mut B) {
         self.withdraw(Group::Sends, t, bell);
     }
 
     /// Gives a receive's wait up. A notice that it had goes to the next receive.
+    #[cfg(vamorilesh_run)]
     #[inline]
     pub fn cancel_recv<B: Bell<W>>(&mut self, t: &mut Option<Ticket>, bell: &mut B) {
         self.withdraw(Group::Receives, t, bell);
     }
 
-    /// Gives a stream's wait up. Streams are told together, so that no notice is handed on.
-    #[inline]
-    pub fn cancel_stream(&mut self, t: &mut Option<Ticket>) {
-        self.withdraw(Group::Streams, t, &mut Quiet);
-    }
-
     /// Gives a closed operation's wait up. Closed operations are told together, so that no notice
     /// is handed on.
+    #[cfg(vamorilesh_run)]
     #[inline]
     pub fn cancel_closed(&mut self, t: &mut Option<Ticket>) {
         self.withdraw(Group::Closeds, t, &mut Quiet);
