@@ -45,6 +45,16 @@ impl Log {
     pub fn take(&self) -> Vec<usize> {
         std::mem::take(&mut self.0.lock().unwrap())
     }
+
+    /// Forgets the last name if it is this one, and says whether it was.
+    pub fn forget_last(&self, name: usize) -> bool {
+        let mut names = self.0.lock().unwrap();
+        let is_last = names.last() == Some(&name);
+        if is_last {
+            names.pop();
+        }
+        is_last
+    }
 }
 
 struct Named {

@@ -105,9 +105,18 @@ impl Handles {
         Answer::One(Reply::Done)
     }
 
+    /// Polls an operation. A batch that lets others run has woken itself, and is polled again:
+    /// nobody comes in between here.
     fn poll(&mut self, op: u64) -> Answer {
-        let waker = self.wakers.of(Who::Op(op));
-        self.operations.get_mut(&op).expect("it is live").poll(&waker)
+        let who = Who::Op(op);
+        let waker = self.wakers.of(who);
+        let operation = self.operations.get_mut(&op).expect("it is live");
+        loop {
+            let answer = operation.poll(&waker);
+            if !is_pending_batch(&answer) || !self.wakers.forget_last(who) {
+                return answer;
+            }
+        }
     }
 
     /// Makes a single step, but no poll of an operation.
@@ -209,6 +218,10 @@ impl Handles {
     }
 }
 
+fn is_pending_batch(answer: &Answer) -> bool {
+    matches!(answer, Answer::Received(Poll::Pending, _) | Answer::Sent(Poll::Pending, _))
+}
+
 /// A list that has room for the first few messages, and none for many.
 fn with_room(before: Vec<u64>) -> Vec<u64> {
     let mut list = Vec::with_capacity(4);
@@ -256,6 +269,12 @@ impl Wakers {
         self.whose.push(who);
         self.last.push((who, number, waker.clone()));
         waker
+    }
+
+    /// Forgets the last waking if it was by the last waker of this one, and says whether it was.
+    fn forget_last(&self, who: Who) -> bool {
+        let last = self.last.iter().find(|(last, ..)| *last == who);
+        last.is_some_and(|(_, number, _)| self.log.forget_last(*number))
     }
 
     fn woken(&mut self) -> Vec<(Who, bool)> {
