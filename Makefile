@@ -56,6 +56,7 @@ pages:
 	tools/refused_requests_tests
 	tools/rust_wrong_bodies_tests
 	tools/prove_tests
+	tools/take_tests
 	tools/gate_tests
 
 # What needs no proof either, and takes a minute and a half.

@@ -31,14 +31,17 @@ DRAWN = {
     'tokio': ('#CC79A7', '<path fill="{0}" d="M{1} {2}m-4-4h8v8h-8z"/>'),
 }
 HEAD = Template('''\
-<svg xmlns="http://www.w3.org/2000/svg" width="700" height="$height" viewBox="0 0 700 $height" role="img">
+<svg xmlns="http://www.w3.org/2000/svg" width="$width" height="$height" viewBox="0 0 $width $height" role="img">
 <title>Time of one thread's work, as a ratio to async-channel</title>
 <style>text{font:13px sans-serif;fill:#222}.e{text-anchor:end}.m{text-anchor:middle}
 .b{fill:#fff}.l{stroke:#ccc}.o{stroke:#555;stroke-width:2}
 @media(prefers-color-scheme:dark){text{fill:#ddd}.b{fill:#111}.l{stroke:#444}.o{stroke:#bbb}}</style>
 <rect class="b" width="100%" height="100%" rx="6"/>
 ''')
-LEFT, SCALE, TOP, ROW = 290, 360, 60, 26
+# How far it is from a ratio of 0 to 1, where the first row is, and how high a row and wide a letter.
+SCALE, TOP, ROW, LETTER = 360, 60, 26, 7
+# What is free at both sides, and between a row's name and its ratios.
+EDGE, GAP = 16, 16
 
 
 class Section:
@@ -114,29 +117,42 @@ def plotted():
                 yield row[0], {name: float(cells[name]) for name in DRAWN if cells.get(name)}
 
 
+def legend(x):
+    """The shapes with their names, side by side from this place on."""
+    for name, (color, shape) in DRAWN.items():
+        yield shape.format(color, x, 20) + f'<text x="{x + 12}" y="25">{name}</text>\n'
+        x += LETTER * len(name) + 40
+
+
+def scale(left, bottom):
+    """The lines of the ratios, each with its number, and async-channel's."""
+    for tenths in range(0, 11, 2):
+        x, kind = left + SCALE * tenths // 10, 'o' if tenths == 10 else 'l'
+        label = 'async-channel' if tenths == 10 else tenths / 10
+        yield f'<path class="{kind}" d="M{x} {TOP - 16}V{bottom - 8}"/>'
+        yield f'<text class="m" x="{x}" y="{bottom + 14}">{label}</text>\n'
+
+
+def row_of(work, ratios, left, y):
+    """A row's name, and its ratios from the last to the first."""
+    out = f'<text class="e" x="{left - GAP}" y="{y + 5}">{escape(work)}</text>'
+    for name, ratio in reversed(ratios.items()):
+        color, shape = DRAWN[name]
+        out += shape.format(color, round(left + SCALE * ratio), y)
+    return out + '\n'
+
+
 def picture():
     """The picture in SVG, light or dark as its reader has it; nothing if no row is to be drawn."""
     rows = [*plotted()]
     if not rows:
         return ''
+    left = EDGE + LETTER * max(len(work) for work, _ in rows) + GAP
+    right = left + SCALE + LETTER * len('async-channel') // 2
     bottom = TOP + ROW * len(rows)
-    out = HEAD.substitute(height=bottom + 34)
-    for at, (name, (color, shape)) in enumerate(DRAWN.items()):
-        out += shape.format(color, LEFT + 90 * at, 20)
-        out += f'<text x="{LEFT + 90 * at + 12}" y="25">{name}</text>\n'
-    for tenths in range(0, 11, 2):
-        x, kind = LEFT + SCALE * tenths // 10, 'o' if tenths == 10 else 'l'
-        out += f'<path class="{kind}" d="M{x} {TOP - 16}V{bottom - 8}"/>'
-        label = 'async-channel' if tenths == 10 else tenths / 10
-        out += f'<text class="m" x="{x}" y="{bottom + 14}">{label}</text>\n'
-    for at, (work, ratios) in enumerate(rows):
-        y = TOP + ROW * at
-        out += f'<text class="e" x="{LEFT - 16}" y="{y + 5}">{escape(work)}</text>'
-        for name, ratio in reversed(ratios.items()):
-            color, shape = DRAWN[name]
-            out += shape.format(color, round(LEFT + SCALE * ratio), y)
-        out += '\n'
-    return out + '</svg>\n'
+    drawn = [*legend(left), *scale(left, bottom)]
+    drawn += [row_of(*row, left, TOP + ROW * at) for at, row in enumerate(rows)]
+    return HEAD.substitute(width=right + EDGE, height=bottom + 34) + ''.join(drawn) + '</svg>\n'
 
 
 def faults():

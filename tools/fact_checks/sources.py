@@ -164,3 +164,26 @@ def listed_crates():
             head, _, below = line.partition(':')
             listed[head.split()[0]] = below.split()
     return listed
+
+
+def crates_below():
+    """Each crate with those of the repository that its line of crates.txt names."""
+    listed = listed_crates()
+    return {name: [it for it in names if it in listed] for name, names in listed.items()}
+
+
+def wanted(names, below):
+    """These crates with all that they stand on, each with those right below it."""
+    found, left = {}, [*names]
+    while left:
+        name = left.pop()
+        found[name] = below[name]
+        left += [it for it in below[name] if it not in found]
+    return found
+
+
+def crate_lines(names):
+    """The lines that these crates have in crates.txt."""
+    named = re.compile(rf'({"|".join(names)})\b')
+    lines = (ROOT / 'crates.txt').read_text('utf-8').splitlines(keepends=True)
+    return [*filter(named.match, lines)]
