@@ -1,4 +1,4 @@
-"""The contracts that docs/PROOFS.md and the table of each CALLING.md cite.
+"""The contracts that docs/THEOREMS.md and the table of each CALLING.md cite.
 
 A citation is a call, as `Core::len` or `run_all`; a call with names of its clauses, as
 `Core::try_send: reply, after`; the same of the calls of a type, as `Core::*: rung`, where each
@@ -14,7 +14,7 @@ import re
 from .pages import for_callers
 from .sources import ROOT, Crate, listed_crates
 
-PROOFS = ROOT / 'docs' / 'PROOFS.md'
+THEOREMS = ROOT / 'docs' / 'THEOREMS.md'
 NAMES = re.compile(r'`([^`]+)`')
 CITATION = re.compile(r'[\w:]+(::\*)?(: \w+(, \w+)*)?|(no )?\w+ for \w+')
 
@@ -81,8 +81,8 @@ def is_equivalence(cell, calls):
 
 
 def rows():
-    """Each row or point with citations, of docs/PROOFS.md and of the pages for callers."""
-    for path in [PROOFS, *for_callers()]:
+    """Each row or point with citations, of docs/THEOREMS.md and of the pages for callers."""
+    for path in [THEOREMS, *for_callers()]:
         for row in cited_rows(path.read_text('utf-8')):
             yield path, *row
 

@@ -3,10 +3,13 @@ import re
 
 from .sources import ROOT
 
-BLOCK = re.compile(r'^```(?:rust|antt)\n(.*?)^```$', re.DOTALL | re.MULTILINE)
+BLOCK = re.compile(r'^```(?:rust|antt|rows)\n(.*?)^```$', re.DOTALL | re.MULTILINE)
 LINK = re.compile(r'\]\((?!https?:)([^)#\s]*)#?([^)\s]*)\)')
 # Files of definitions: of a crate, or of the model of a channel.
-DEFINED = re.compile(r'\[(`[A-Z]\w+`(?:(?:, | and )`[A-Z]\w+`)*)(?: in `(\w+)`)?\]')
+DEFINED = re.compile(r'\[(`[A-Z]\w+`(?:(?:, | and )`[A-Z]\w+`)*)(?: in `(\w+)`)?\](?!\()')
+# A definition, with a link to the file where it stands, and how its line begins there.
+NAMED = re.compile(r'\[`(\w+)`\]\(([^)#\s]+\.(?:antt|rt))\)')
+HEAD = r'^ *(?:(?:abbrev|unfoldable|pub|record|data|struct|enum|trait|fn) )+{}\b'
 CRATE = re.compile(r'\b(?:test|example|bench|program)_\w+')
 RUST = ROOT / 'rust' / 'src'
 # What the package of the Rust crate leaves out of the proved source.
@@ -53,8 +56,18 @@ def links():
             yield path, target, anchor
 
 
+def undefined():
+    """The definitions that a page links to a file that hasn't got them."""
+    for path in pages():
+        for name, target in NAMED.findall(path.read_text('utf-8')):
+            file, head = path.parent / target, re.compile(HEAD.format(name), re.MULTILINE)
+            if file.exists() and not head.search(file.read_text('utf-8')):
+                yield f'{path.relative_to(ROOT)}: {target} has no definition of {name}: mend it'
+
+
 def lost():
     """The links, crates and files of definitions that a page names and that aren't there."""
+    yield from undefined()
     for path, target, anchor in links():
         name, there = path.relative_to(ROOT), path.parent / target if target else path
         if not there.exists():
@@ -76,7 +89,7 @@ def lost():
 def faults():
     """The blocks that stand in no source, and what else is named and isn't there."""
     yield from lost()
-    rooms = ('crates/*/src', 'crates/*/specs', 'rust/examples')
+    rooms = ('crates/*/src', 'crates/*/specs', 'crates/*/data', 'rust/examples')
     files = [it for room in rooms for it in ROOT.glob(f'{room}/**/*') if it.is_file()]
     sources = ['\n' + path.read_text('utf-8') for path in files]
     for path, line, text in quotes():
