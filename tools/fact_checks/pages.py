@@ -3,7 +3,7 @@ import re
 
 from .sources import ROOT
 
-BLOCK = re.compile(r'^```(?:rust|antt)\n(.*?)^```$', re.DOTALL | re.MULTILINE)
+BLOCK = re.compile(r'^```(?:rust|antt|rows)\n(.*?)^```$', re.DOTALL | re.MULTILINE)
 LINK = re.compile(r'\]\((?!https?:)([^)#\s]*)#?([^)\s]*)\)')
 # Files of definitions: of a crate, or of the model of a channel.
 DEFINED = re.compile(r'\[(`[A-Z]\w+`(?:(?:, | and )`[A-Z]\w+`)*)(?: in `(\w+)`)?\]')
@@ -76,7 +76,7 @@ def lost():
 def faults():
     """The blocks that stand in no source, and what else is named and isn't there."""
     yield from lost()
-    rooms = ('crates/*/src', 'crates/*/specs', 'rust/examples')
+    rooms = ('crates/*/src', 'crates/*/specs', 'crates/*/data', 'rust/examples')
     files = [it for room in rooms for it in ROOT.glob(f'{room}/**/*') if it.is_file()]
     sources = ['\n' + path.read_text('utf-8') for path in files]
     for path, line, text in quotes():
