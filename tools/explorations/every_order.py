@@ -1,4 +1,4 @@
-"""Every order of a file for chanexplore, by the rules in docs/GUIDE.md, without the proved crates.
+"""Every order of a file for chanexplore, by the rules in docs/MODEL.md, without the proved crates.
 
 It knows the lines that the examples use. A channel is a value that is copied at each turn, so that
 nothing is done twice: another way than that of the program.
@@ -8,7 +8,7 @@ import copy
 
 
 class Channel:
-    """A channel with named handles and operations, as docs/GUIDE.md describes it."""
+    """A channel with named handles and operations, as docs/MODEL.md describes it."""
 
     def __init__(self, first):
         words = first.split(" ")
