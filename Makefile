@@ -5,7 +5,7 @@
 help:
 	@echo 'make run    proves and builds the channel, and runs trysend'
 	@echo 'make tour   the same of chanrun, on examples/tour.chan'
-	@echo 'make try    runs both before any proof, in a minute or two'
+	@echo 'make try    runs trysend and that script before any proof, and prints each call with its reply'
 	@echo 'make test   proves and tests everything over what earlier checks kept'
 	@echo 'make rust   builds and tests the Rust crate'
 	@echo 'make clients runs the tests of Debian'"'"'s crates over async-channel and over the Rust crate'
@@ -35,9 +35,15 @@ tour: kit
 # What a command says beside its output is shown if it fails.
 failing = log=$$(mktemp); $(1) 2> "$$log" || { cat "$$log" >&2; rm "$$log"; exit 1; }; rm "$$log"
 
+# Of trysend's source each call, with the line that it prints. chantrace does so by itself.
+beside = NR > FNR {print call[FNR] " => " $$0; next} \
+    match($$0, /s\.try_send\([0-9]+\)|drop\(r\)/) {call[++calls] = substr($$0, RSTART, RLENGTH)}
+
 try: kit
-	@cd crates/trysend && $(call failing,rt try)
-	@cd crates/program_chanrun && $(call failing,rt try < ../../examples/tour.chan)
+	@cd crates/trysend && $(call failing,{ replies=$$(rt try); }); \
+	    echo "$$replies" | awk '$(beside)' src/main.rt -
+	@echo
+	@cd crates/program_chantrace && $(call failing,rt try < ../../examples/tour.chan)
 
 test: kit
 	tools/gate --kept
