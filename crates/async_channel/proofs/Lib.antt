@@ -1,2 +1,3 @@
 mod Rounds
 mod Left
+mod Freely

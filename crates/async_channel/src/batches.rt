@@ -14,7 +14,7 @@ use crate::many::ROUND_LIMIT;
 use channel_core::{Group, OutOfMemory, SendError, Ticket};
 use futures::Future;
 use futures::task::{Context, Poll};
-use ruled_channel::{Marker, Unruled};
+use ruled_channel::Marker;
 use std::alloc::Global;
 use std::collections::VecDeque;
 use std::marker::Model;
@@ -188,17 +188,8 @@ impl<T: Drop, R: Wait + Clone + Drop> Sender<T, R> {
             ⊎ ((ticket.new ≡ ticket.old) × (from.new.items ≡ from.old.items))) }
     {
         while !from.is_empty() {
-            let ((channel, mut pass), rt) = (self.link.channel(), &self.link.rt);
-            let sent = channel.send_many_or_wait_as::<Unruled, Unruled, _, _, _>(
-                rt,
-                &mut pass,
-                from,
-                ROUND_LIMIT,
-                ticket,
-                marker,
-                cx,
-            )?;
-            match sent {
+            let mut endpoint = self.link.endpoint();
+            match endpoint.poll_send_many(&self.link.rt, from, ROUND_LIMIT, ticket, marker, cx)? {
                 Poll::Ready(Ok(_sent)) => {}
                 Poll::Ready(Err(error)) => return Ok(Poll::Ready(Err(error))),
                 Poll::Pending => return Ok(Poll::Pending),
@@ -273,10 +264,8 @@ impl<T: Drop, R: Wait + Clone + Drop> Receiver<T, R> {
             × (into.new.items ≡ into.old.items)) }
     {
         let most = limit.min(ROUND_LIMIT);
-        let ((channel, mut pass), rt) = (self.link.channel(), &self.link.rt);
-        let polled = channel.recv_many_or_wait_as::<Unruled, Unruled, _, _, _>(
-            rt, &mut pass, into, most, ticket, marker, cx,
-        )?;
+        let mut endpoint = self.link.endpoint();
+        let polled = endpoint.poll_recv_many(&self.link.rt, into, most, ticket, marker, cx)?;
         let Poll::Ready(first) = polled else {
             return Ok(Poll::Pending);
         };
@@ -344,11 +333,10 @@ impl<T: Drop, R: Wait + Clone + Drop> SendMany<'_, T, R> {
     {
         let sender = self.sender;
         if self.ticket.is_some() {
-            let (channel, mut pass) = sender.link.channel();
-            channel.give_up(&sender.link.rt, &mut pass, Group::Sends, &mut self.ticket);
+            sender.link.give_up(Group::Sends, &mut self.ticket);
         }
         self.count -= self.unsent.len();
-        let none = VecDeque::new(sender.link.shared.channel.alloc());
+        let none = VecDeque::new(sender.link.channel.alloc());
         mem::replace(&mut self.unsent, none)
     }
 }
@@ -432,8 +420,7 @@ impl<T: Drop, R: Wait + Clone + Drop> Drop for SendMany<'_, T, R> {
             finished: _,
         } = self;
         if ticket.is_some() {
-            let (channel, mut pass) = sender.link.channel();
-            channel.give_up(&sender.link.rt, &mut pass, Group::Sends, &mut ticket);
+            sender.link.give_up(Group::Sends, &mut ticket);
         }
         Ticket::destroy_none(ticket);
     }
@@ -515,8 +502,7 @@ impl<T: Drop, R: Wait + Clone + Drop> Drop for RecvMany<'_, T, R> {
             finished: _,
         } = self;
         if ticket.is_some() {
-            let (channel, mut pass) = receiver.link.channel();
-            channel.give_up(&receiver.link.rt, &mut pass, Group::Receives, &mut ticket);
+            receiver.link.give_up(Group::Receives, &mut ticket);
         }
         Ticket::destroy_none(ticket);
     }

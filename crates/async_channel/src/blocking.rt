@@ -7,7 +7,6 @@ ghost use Rattle.channel_core.specs.Batches.{moved_count};
 
 use crate::handles::{Receiver, Sender};
 use channel_core::{NoMemory, OutOfMemory, RecvError, SendError, TryRecvError, TrySendError};
-use ruled_channel::Unruled;
 use std::alloc::Global;
 use std::collections::VecDeque;
 use std::sync::Wait;
@@ -37,8 +36,7 @@ impl<T: Drop, R: Wait + Clone + Drop> Sender<T, R> {
         ensures handed_back { IfOk result (λ answer. IfErr answer (λ error. error.0 ≡ msg)) }
         ensures unsent { IfErr result (λ error. error.0 ≡ msg) }
     {
-        let (channel, mut pass) = self.link.channel();
-        channel.send_blocking_as::<Unruled, Unruled, R>(&self.link.rt, &mut pass, msg)
+        self.link.endpoint().send_blocking(&self.link.rt, msg)
     }
 
     /// Sends all messages in `from`, from the front, and blocks its thread until they are in the
@@ -135,8 +133,7 @@ impl<T: Drop, R: Wait + Clone + Drop> Receiver<T, R> {
     /// assert_eq!(rt; r.recv_blocking()?, Err(RecvError));
     /// ```
     pub fn recv_blocking(&self) -> Result<Result<T, RecvError>, OutOfMemory> {
-        let (channel, mut pass) = self.link.channel();
-        channel.recv_blocking_as::<Unruled, Unruled, R>(&self.link.rt, &mut pass)
+        self.link.endpoint().recv_blocking(&self.link.rt)
     }
 
     /// Receives up to `limit` messages, puts them after those in `into`, and blocks its thread until

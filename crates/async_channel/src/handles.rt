@@ -6,7 +6,7 @@ ghost use Rattle.channel_core.specs.Stamps.{next_stamp};
 ghost use Rattle.ruled_channel.specs.Passes.{capacity_of, source_of};
 ghost use Rattle.async_channel.specs.Operations.{AreEndsOf, handle_of};
 
-use crate::link::{Link, Shared};
+use crate::link::Link;
 use crate::tag::Tag;
 use crate::weak::{WeakReceiver, WeakSender};
 use channel_core::{
@@ -54,8 +54,8 @@ impl<T: Drop, R: Wait + Clone + Drop> Model for Sender<T, R> {
 
     ghost view = { λ handle. record {
       tag = handle.tag;
-      source = source_of (arc_value handle.link.shared).channel;
-      capacity = capacity_of (arc_value handle.link.shared).channel;
+      source = source_of (arc_value handle.link.channel);
+      capacity = capacity_of (arc_value handle.link.channel);
     } };
 }
 
@@ -100,8 +100,8 @@ impl<T: Drop, R: Wait + Clone + Drop> Model for Receiver<T, R> {
 
     ghost view = { λ handle. record {
       tag = handle.tag;
-      source = source_of (arc_value handle.link.shared).channel;
-      capacity = capacity_of (arc_value handle.link.shared).channel;
+      source = source_of (arc_value handle.link.channel);
+      capacity = capacity_of (arc_value handle.link.channel);
       ticket = handle.ticket;
     } };
 }
@@ -179,7 +179,7 @@ pub fn unbounded<T: Drop, R: Wait + Clone + Drop>(
 // be refused.
 fn ends<T: Drop, R: Wait + Clone + Drop>(
     rt: &R,
-    channel: RuledChannel<T, (), Unruled>,
+    channel: RuledChannel<T, Unruled>,
     maker: &mut StampMaker,
 ) -> Result<(Sender<T, R>, Receiver<T, R>), MakeError>
     requires { IsSome maker.old }
@@ -198,14 +198,14 @@ fn ends<T: Drop, R: Wait + Clone + Drop>(
 // Two links to one new channel.
 fn links<T: Drop, R: Wait + Clone + Drop>(
     rt: &R,
-    channel: RuledChannel<T, (), Unruled>,
+    channel: RuledChannel<T, Unruled>,
 ) -> Result<(Link<T, R>, Link<T, R>), OutOfMemory>
-    ensures one { IfOk result (λ links. arc_value links.0.shared ≡ arc_value links.1.shared) }
-    ensures given { IfOk result (λ links. (arc_value links.0.shared).channel ≡ channel) }
+    ensures one { IfOk result (λ links. arc_value links.0.channel ≡ arc_value links.1.channel) }
+    ensures given { IfOk result (λ links. arc_value links.0.channel ≡ channel) }
 {
     let alloc = channel.alloc();
     let link = Link {
-        shared: Arc::new(alloc, Shared { channel }).map_err(|_| OutOfMemory)?,
+        channel: Arc::new(alloc, channel).map_err(|_| OutOfMemory)?,
         rt: rt.clone()?,
     };
     let other = link.try_clone()?;
@@ -235,8 +235,7 @@ impl<T: Drop, R: Wait + Clone + Drop> Sender<T, R> {
             message_of error ≡ msg)) }
         ensures unsent { IfErr result (λ error. error.0 ≡ msg) }
     {
-        let (channel, mut pass) = self.link.channel();
-        channel.try_send_as::<Unruled, Unruled, R>(&self.link.rt, &mut pass, msg)
+        self.link.endpoint().try_send(&self.link.rt, msg)
     }
 
     /// Sends a message into the channel, whatever it holds.
@@ -260,8 +259,7 @@ impl<T: Drop, R: Wait + Clone + Drop> Sender<T, R> {
         ensures handed_back { IfOk result (λ answer. IfErr answer (λ error. error.0 ≡ msg)) }
         ensures unsent { IfErr result (λ error. error.0 ≡ msg) }
     {
-        let (channel, mut pass) = self.link.channel();
-        channel.force_send_as::<Unruled, Unruled, R>(&self.link.rt, &mut pass, msg)
+        self.link.endpoint().force_send(&self.link.rt, msg)
     }
 
     /// Closes the channel, and answers whether this call closed it.
@@ -370,8 +368,7 @@ impl<T: Drop, R: Wait + Clone + Drop> Sender<T, R> {
         ensures { IfOk result (λ sender. sender ≡ self.now) }
     {
         let link = self.link.try_clone()?;
-        let (channel, mut pass) = self.link.channel();
-        if !channel.add_sender_as::<Unruled, R>(&self.link.rt, &mut pass) {
+        if !self.link.endpoint().add_sender(&self.link.rt) {
             return Err(CloneError::TooMany);
         }
         Ok(Sender {
@@ -409,8 +406,7 @@ impl<T: Drop, R: Wait + Clone + Drop> Sender<T, R> {
 impl<T: Drop, R: Wait + Clone + Drop> Drop for Sender<T, R> {
     fn drop(self) {
         let Self { tag: _, link } = self;
-        let (channel, mut pass) = link.channel();
-        channel.drop_sender_as::<Unruled, R>(&link.rt, &mut pass);
+        link.endpoint().drop_sender(&link.rt);
     }
 }
 
@@ -427,8 +423,8 @@ impl<T: Drop, R: Wait + Clone + Drop> Receiver<T, R> {
     pub(crate) fn new(tag: Tag, link: Link<T, R>) -> Receiver<T, R>
         ensures { result ≡ record {
           tag = tag;
-          source = source_of (arc_value link.shared).channel;
-          capacity = capacity_of (arc_value link.shared).channel;
+          source = source_of (arc_value link.channel);
+          capacity = capacity_of (arc_value link.channel);
           ticket = None;
         } }
     {
@@ -458,8 +454,7 @@ impl<T: Drop, R: Wait + Clone + Drop> Receiver<T, R> {
     /// ```
     #[inline(always)]
     pub fn try_recv(&self) -> Result<T, TryRecvError> {
-        let (channel, mut pass) = self.link.channel();
-        channel.try_recv_as::<Unruled, Unruled, Unruled, R>(&self.link.rt, &mut pass)
+        self.link.endpoint().try_recv(&self.link.rt)
     }
 
     /// Closes the channel, and answers whether this call closed it.
@@ -581,8 +576,7 @@ impl<T: Drop, R: Wait + Clone + Drop> Receiver<T, R> {
         ensures { IfOk result (λ receiver. receiver ≡ record self.now { ticket = None }) }
     {
         let link = self.link.try_clone()?;
-        let (channel, mut pass) = self.link.channel();
-        if !channel.add_receiver_as::<Unruled, R>(&self.link.rt, &mut pass) {
+        if !self.link.endpoint().add_receiver(&self.link.rt) {
             return Err(CloneError::TooMany);
         }
         Ok(Receiver::new(self.tag, link))
@@ -621,8 +615,7 @@ impl<T: Drop, R: Wait + Clone + Drop> Drop for Receiver<T, R> {
             mut ticket,
             marker: _,
         } = self;
-        let (channel, mut pass) = link.channel();
-        channel.drop_receiver_with_as::<Unruled, R>(&link.rt, &mut pass, &mut ticket);
+        link.endpoint().drop_receiver_with(&link.rt, &mut ticket);
         Ticket::destroy_none(ticket);
     }
 }

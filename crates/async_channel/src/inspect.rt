@@ -30,6 +30,5 @@ pub fn who_waits<T: Drop, R: Wait + Clone + Drop>(
 ) -> Waiters
     ensures { result.told ≤ result.waiting }
 {
-    let (channel, mut pass) = handle.link.channel();
-    channel.who_waits(&handle.link.rt, &mut pass, group)
+    handle.link.endpoint().who_waits(&handle.link.rt, group)
 }

@@ -8,7 +8,6 @@ ghost use Rattle.channel_core.specs.Batches.{moved_count};
 
 use crate::handles::{Receiver, Sender};
 use channel_core::{OutOfMemory, TryRecvError, TrySendError};
-use ruled_channel::Unruled;
 use std::alloc::Global;
 use std::collections::VecDeque;
 use std::sync::Wait;
@@ -88,8 +87,8 @@ impl<T: Drop, R: Wait + Clone + Drop> Sender<T, R> {
         ensures rest { from.new.items ≡ drop (moved_count result) from.old.items }
         ensures none { result ≡ Ok (Ok 0) → from.old.items ≡ [] }
     {
-        let (channel, mut pass) = self.link.channel();
-        channel.try_send_many_as::<Unruled, Unruled, _>(&self.link.rt, &mut pass, from, ROUND_LIMIT)
+        let link = &self.link;
+        link.endpoint().try_send_many(&link.rt, from, ROUND_LIMIT)
     }
 }
 
@@ -154,8 +153,7 @@ impl<T: Drop, R: Wait + Clone + Drop> Receiver<T, R> {
         ensures count { length into.new.items ≡ length into.old.items + moved_count result }
         ensures none { result ≡ Ok (Ok 0) → limit ≡ 0 }
     {
-        let (channel, mut pass) = self.link.channel();
-        let (rt, most) = (&self.link.rt, limit.min(ROUND_LIMIT));
-        channel.try_recv_many_as::<Unruled, Unruled, Unruled, _>(rt, &mut pass, into, most)
+        let (link, most) = (&self.link, limit.min(ROUND_LIMIT));
+        link.endpoint().try_recv_many(&link.rt, into, most)
     }
 }

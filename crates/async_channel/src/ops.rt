@@ -10,10 +10,10 @@ ghost use Rattle.channel_core.specs.declared.errors.OutOfMemory.{OutOfMemory};
 
 use crate::handles::{Receiver, Sender};
 use crate::owned::OwnedOrRef;
-use channel_core::{Group, NoMemory, OutOfMemory, RecvError, SendError, Ticket, TrySendError};
+use channel_core::{Group, OutOfMemory, RecvError, SendError, Ticket};
 use futures::Future;
 use futures::task::{Context, Poll};
-use ruled_channel::{Mark, Marker, Unruled, Waiter};
+use ruled_channel::{Mark, Marker, Waiter};
 use std::marker::Model;
 use std::sync::Wait;
 
@@ -228,7 +228,7 @@ impl<'a, T: Drop, R: Wait + Clone + Drop> Send<'a, T, R> {
         ensures registered { OnOk result (Covers cx.new (λ source. source ≡ self.old.source)) }
         ensures keeps { Keeps cx.old cx.new }
     {
-        let source = self.sender.get().link.shared.channel.source();
+        let source = self.sender.get().link.channel.source();
         let mark = self.marker.mark((), None, source, cx);
         let is_made = !matches!(&mark, Mark::Task(None));
         self.marker.keep(Some(mark));
@@ -275,26 +275,19 @@ impl<T: Drop, R: Wait + Clone + Drop> Future for Send<'_, T, R> {
         ensures holds { OnPending result (IsSome self.old.message → IsSome self.new.ticket) }
         ensures rests { OnPending result (self.old.message ≡ None → self.new ≡ self.old) }
     {
-        let Some(message) = self.message.take() else {
+        if self.message.is_none() {
             return match self.rest(cx) {
                 Ok(()) => Poll::Pending,
                 Err(OutOfMemory) => Poll::Ready(Err(OutOfMemory)),
             };
-        };
+        }
         let link = &self.sender.get().link;
-        let (channel, mut pass) = link.channel();
-        let (p, t, m) = (&mut pass, &mut self.ticket, &mut self.marker);
-        match channel.send_or_wait_as::<Unruled, Unruled, _, _, _>(&link.rt, p, message, t, m, cx) {
-            Ok(Ok(())) => Poll::Ready(Ok(Ok(()))),
-            Ok(Err(TrySendError::Closed(back))) => Poll::Ready(Ok(Err(SendError(back)))),
-            Ok(Err(TrySendError::Full(back))) => {
-                self.message = Some(back);
-                Poll::Pending
-            }
-            Err(NoMemory(back)) => {
-                self.message = Some(back);
-                Poll::Ready(Err(OutOfMemory))
-            }
+        let (message, ticket, marker) = (&mut self.message, &mut self.ticket, &mut self.marker);
+        let mut endpoint = link.endpoint();
+        match endpoint.poll_send(&link.rt, message, ticket, marker, cx) {
+            Ok(Poll::Ready(sent)) => Poll::Ready(Ok(sent)),
+            Ok(Poll::Pending) => Poll::Pending,
+            Err(OutOfMemory) => Poll::Ready(Err(OutOfMemory)),
         }
     }
 }
@@ -365,9 +358,8 @@ impl<T: Drop, R: Wait + Clone + Drop> Future for Recv<'_, T, R> {
         ensures holds { OnPending result (IsSome self.new.ticket) }
     {
         let link = &self.receiver.get().link;
-        let (channel, mut pass) = link.channel();
-        let (p, t, m) = (&mut pass, &mut self.ticket, &mut self.marker);
-        match channel.recv_or_wait_as::<Unruled, Unruled, _, _, _>(&link.rt, p, t, m, cx) {
+        let (ticket, marker) = (&mut self.ticket, &mut self.marker);
+        match link.endpoint().poll_recv(&link.rt, ticket, marker, cx) {
             Ok(Poll::Ready(answer)) => {
                 self.finished = true;
                 Poll::Ready(Ok(answer))
@@ -446,9 +438,8 @@ impl<T: Drop, R: Wait + Clone + Drop> Future for Closed<'_, T, R> {
         ensures holds { OnPending result (IsSome self.new.ticket) }
     {
         let link = &self.sender.get().link;
-        let (channel, mut pass) = link.channel();
-        let (p, t, m) = (&mut pass, &mut self.ticket, &mut self.marker);
-        match channel.closed_or_wait(&link.rt, p, t, m, cx) {
+        let (ticket, marker) = (&mut self.ticket, &mut self.marker);
+        match link.endpoint().poll_closed(&link.rt, ticket, marker, cx) {
             Ok(Poll::Ready(())) => {
                 self.finished = true;
                 Poll::Ready(Ok(()))
@@ -471,9 +462,7 @@ impl<T: Drop, R: Wait + Clone + Drop> Drop for Closed<'_, T, R> {
             finished: _,
         } = self;
         if ticket.is_some() {
-            let link = &sender.get().link;
-            let (channel, mut pass) = link.channel();
-            channel.give_up(&link.rt, &mut pass, Group::Closeds, &mut ticket);
+            sender.get().link.give_up(Group::Closeds, &mut ticket);
         }
         Ticket::destroy_none(ticket);
     }

@@ -31,10 +31,8 @@ impl<T: Drop, R: Wait + Clone + Drop> OwnedOrRef<'_, Sender<T, R>> {
     // one that doesn't wait moves nothing.
     #[inline(never)]
     pub(crate) fn give_up_send(self, ticket: Ticket) {
-        let link = &self.get().link;
-        let (channel, mut pass) = link.channel();
         let mut ticket = Some(ticket);
-        channel.give_up(&link.rt, &mut pass, Group::Sends, &mut ticket);
+        self.get().link.give_up(Group::Sends, &mut ticket);
         Ticket::destroy_none(ticket);
     }
 }
@@ -43,10 +41,8 @@ impl<T: Drop, R: Wait + Clone + Drop> OwnedOrRef<'_, Receiver<T, R>> {
     // Takes the entry of a receive that waits out of its list, out of line.
     #[inline(never)]
     pub(crate) fn give_up_recv(self, ticket: Ticket) {
-        let link = &self.get().link;
-        let (channel, mut pass) = link.channel();
         let mut ticket = Some(ticket);
-        channel.give_up(&link.rt, &mut pass, Group::Receives, &mut ticket);
+        self.get().link.give_up(Group::Receives, &mut ticket);
         Ticket::destroy_none(ticket);
     }
 }

@@ -10,7 +10,6 @@ use crate::handles::Receiver;
 use channel_core::OutOfMemory;
 use futures::Stream;
 use futures::task::{Context, Poll};
-use ruled_channel::Unruled;
 use std::sync::Wait;
 
 /// The messages of a channel, as this receiver gets them. The stream ends when the channel is
@@ -43,15 +42,8 @@ impl<T: Drop, R: Wait + Clone + Drop> Stream for Receiver<T, R> {
         ensures holds { OnPending result (IsSome self.new.ticket) }
     {
         let link = &self.link;
-        let (channel, mut pass) = link.channel();
-        let polled = channel.next_or_wait_as::<Unruled, Unruled, _, _, _>(
-            &link.rt,
-            &mut pass,
-            &mut self.ticket,
-            &mut self.marker,
-            cx,
-        );
-        match polled {
+        let (ticket, marker) = (&mut self.ticket, &mut self.marker);
+        match link.endpoint().poll_next(&link.rt, ticket, marker, cx) {
             Ok(Poll::Ready(item)) => Poll::Ready(item.map(Ok)),
             Ok(Poll::Pending) => Poll::Pending,
             Err(OutOfMemory) => Poll::Ready(Some(Err(OutOfMemory))),

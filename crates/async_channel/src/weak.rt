@@ -6,7 +6,6 @@ use crate::handles::{Receiver, Sender};
 use crate::link::Link;
 use crate::tag::Tag;
 use channel_core::{CloneError, OutOfMemory, Upgrade};
-use ruled_channel::Unruled;
 use std::fmt;
 use std::marker::Model;
 use std::sync::Wait;
@@ -41,8 +40,8 @@ impl<T, R> Model for WeakSender<T, R> {
 
     ghost view = { λ handle. record {
       tag = handle.tag;
-      source = source_of (arc_value handle.link.shared).channel;
-      capacity = capacity_of (arc_value handle.link.shared).channel;
+      source = source_of (arc_value handle.link.channel);
+      capacity = capacity_of (arc_value handle.link.channel);
     } };
 }
 
@@ -76,8 +75,8 @@ impl<T, R> Model for WeakReceiver<T, R> {
 
     ghost view = { λ handle. record {
       tag = handle.tag;
-      source = source_of (arc_value handle.link.shared).channel;
-      capacity = capacity_of (arc_value handle.link.shared).channel;
+      source = source_of (arc_value handle.link.channel);
+      capacity = capacity_of (arc_value handle.link.channel);
     } };
 }
 
@@ -99,8 +98,7 @@ impl<T: Drop, R: Wait + Clone + Drop> WeakSender<T, R> {
         ensures { IfOk result (λ upgraded. IfSome upgraded (λ sender. sender ≡ self.now)) }
     {
         let link = self.link.try_clone()?;
-        let (channel, mut pass) = self.link.channel();
-        match channel.upgrade_sender_as::<Unruled, R>(&self.link.rt, &mut pass) {
+        match self.link.endpoint().upgrade_sender(&self.link.rt) {
             Upgrade::Closed => Ok(None),
             Upgrade::TooMany => Err(CloneError::TooMany),
             Upgrade::Raised => Ok(Some(Sender {
@@ -162,8 +160,7 @@ impl<T: Drop, R: Wait + Clone + Drop> WeakReceiver<T, R> {
             (λ upgraded. IfSome upgraded (λ receiver. receiver ≡ receiver_at self.now)) }
     {
         let link = self.link.try_clone()?;
-        let (channel, mut pass) = self.link.channel();
-        match channel.upgrade_receiver_as::<Unruled, R>(&self.link.rt, &mut pass) {
+        match self.link.endpoint().upgrade_receiver(&self.link.rt) {
             Upgrade::Closed => Ok(None),
             Upgrade::TooMany => Err(CloneError::TooMany),
             Upgrade::Raised => Ok(Some(Receiver::new(self.tag, link))),

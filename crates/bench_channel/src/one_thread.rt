@@ -63,8 +63,8 @@ where
     R: Wait + AllocGlobal + Clock + Print,
     requires { 0 < capacity }
 {
-    let (channel, pass) = ruled_channel::bounded_with(rt.alloc(), capacity)?;
-    let port = Ruled::new(rt, &channel, pass);
+    let (channel, _pass) = ruled_channel::bounded_with(rt.alloc(), capacity)?;
+    let port = Ruled::new(rt, &channel);
     pair(rt, form, (work, ", ruled_channel"), port)
 }
 

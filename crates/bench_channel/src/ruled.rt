@@ -1,13 +1,13 @@
 //! Channels under the rule that asks nothing: of `ruled_channel`, and the kit's `bounded_with`.
 //!
-//! Each thread has a port: both ends, and a pass of its own.
+//! Each thread has a port: both ends, and an endpoint or a pass of its own.
 ghost use Rattle.std.specs.Prelude.{◌<◌};
 
 use crate::peers::Peer;
 use crate::report::{Form, row};
 use anyhow::Result;
 use crossbeam_channel::protocol::Free;
-use ruled_channel::{Split, Unruled};
+use ruled_channel::{Endpoint, Split, Unruled};
 use std::alloc::AllocGlobal;
 use std::marker::Model;
 use std::rt::Clock;
@@ -16,7 +16,7 @@ use std::thread::{Threads, join};
 use std::time::Instant;
 
 /// A channel of `ruled_channel`.
-pub type Channel = ruled_channel::RuledChannel<u64, (), Unruled>;
+pub type Channel = ruled_channel::RuledChannel<u64, Unruled>;
 
 /// The sender of the kit's channel.
 pub type KitSender = crossbeam_channel::RuledSender<u64, (), Free>;
@@ -46,69 +46,38 @@ trait Port {
 #[derive(Drop)]
 pub struct Ruled<'a, R: Wait> {
     rt: &'a R,
-    channel: &'a Channel,
-    pass: ruled_channel::Pass<u64, ()>,
-}
-
-/// Its pass is of its channel.
-impl<'a, R: Wait> Model for Ruled<'a, R> {
-    ghost use Rattle.ruled_channel.specs.Passes.{IsPassOf};
-
-    ghost Value = { Unit {0} };
-
-    ghost view = { λ _. tt };
-
-    ghost invariant = { λ port. IsPassOf port.channel.now port.pass };
+    endpoint: Endpoint<'a, u64, Unruled>,
 }
 
 impl<'a, R: Wait> Ruled<'a, R> {
-    ghost use Rattle.ruled_channel.specs.Passes.{IsPassOf};
-
-    /// The channel with this pass.
-    pub fn new(rt: &'a R, channel: &'a Channel, pass: ruled_channel::Pass<u64, ()>) -> Ruled<'a, R>
-        requires { IsPassOf channel.now pass }
-    {
-        Ruled { rt, channel, pass }
-    }
-
-    fn other(&mut self) -> Ruled<'a, R> {
-        let pass = self.channel.another::<Halves>(&mut self.pass);
-        Ruled::new(self.rt, self.channel, pass)
+    /// One more port of the channel.
+    pub fn new(rt: &'a R, channel: &'a Channel) -> Ruled<'a, R> {
+        Ruled {
+            rt,
+            endpoint: Endpoint::new(channel, channel.pass()),
+        }
     }
 }
 
 impl<R: Wait> Peer for Ruled<'_, R> {
     #[inline]
     fn send(&mut self, number: u64) {
-        let pass = &mut self.pass;
-        let _ = self
-            .channel
-            .try_send_as::<Unruled, Unruled, R>(self.rt, pass, number);
+        let _ = self.endpoint.try_send(self.rt, number);
     }
 
     #[inline]
     fn receive(&mut self) -> u64 {
-        let pass = &mut self.pass;
-        self.channel
-            .try_recv_as::<Unruled, Unruled, Unruled, R>(self.rt, pass)
-            .unwrap_or(0)
+        self.endpoint.try_recv(self.rt).unwrap_or(0)
     }
 }
 
 impl<R: Wait> Port for Ruled<'_, R> {
     fn put(&mut self, number: u64) {
-        let pass = &mut self.pass;
-        let _ = self
-            .channel
-            .send_blocking_as::<Unruled, Unruled, R>(self.rt, pass, number);
+        let _ = self.endpoint.send_blocking(self.rt, number);
     }
 
     fn take(&mut self) -> u64 {
-        let pass = &mut self.pass;
-        let got = self
-            .channel
-            .recv_blocking_as::<Unruled, Unruled, R>(self.rt, pass);
-        match got {
+        match self.endpoint.recv_blocking(self.rt) {
             Ok(Ok(number)) => number,
             _ => 0,
         }
@@ -240,10 +209,9 @@ where
     R: Threads + Wait + AllocGlobal + Clock + Print + Send + Sync,
     requires { 0 < capacity }
 {
-    let (channel, pass) = ruled_channel::bounded_with(rt.alloc(), capacity)?;
-    let mut port = Ruled::new(rt, &channel, pass);
-    let other = port.other();
-    between(rt, form, (work, ", ruled_channel"), (port, other), count)
+    let (channel, _pass) = ruled_channel::bounded_with(rt.alloc(), capacity)?;
+    let ports = (Ruled::new(rt, &channel), Ruled::new(rt, &channel));
+    between(rt, form, (work, ", ruled_channel"), ports, count)
 }
 
 fn kit_single<R>(rt: &R, form: Form<'_>, work: &str, capacity: usize, count: u64) -> Result<()>

@@ -1,12 +1,14 @@
 -- What a worker has received and sent.
-use Rattle.std.specs.Prelude.{◌≡◌, ℕ, [], true}
-use Rattle.ruled_channel_rules.specs.declared.handles.Channel.{Channel}
-use Rattle.ruled_channel_rules.specs.Handles.{IsSenderOf, IsReceiverOf, sent_by, got_by, has_ended}
+use Rattle.std.specs.Prelude.{◌≡◌, [], true}
+use Rattle.ruled_channel_rules.specs.Handles.{sender_channel, receiver_channel, sent_by, got_by, has_ended}
 use Rattle.example_relay.specs.declared.pool.Worker.{Worker}
 use Rattle.example_relay.specs.Answers.{answers_to}
 
-abbrev pub IsWorkerOf : Channel ℕ → Channel (ℕ × ℕ) → Worker → Type 0
-IsWorkerOf numbers answers w = IsReceiverOf numbers w.receiver × IsSenderOf answers w.sender
+-- it receives from the same channel, and sends into the same one
+abbrev pub IsSameWorker : Worker → Worker → Type 0
+IsSameWorker old new =
+    (receiver_channel new.receiver ≡ receiver_channel old.receiver)
+    × (sender_channel new.sender ≡ sender_channel old.sender)
 
 -- it has done nothing yet
 abbrev pub IsNew : Worker → Type 0

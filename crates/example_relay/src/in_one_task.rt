@@ -1,13 +1,12 @@
 //! One executor polls both: the one future sends and closes, the other receives until the end.
 ghost use Rattle.std.specs.Prelude.{◌≡◌, IfOk, true};
-ghost use Rattle.ruled_channel_rules.specs.Handles.{IsSenderOf, IsReceiverOf};
-ghost use Rattle.ruled_channel_rules.specs.SendingEach.{TellsSentEach};
-ghost use Rattle.ruled_channel_rules.specs.Collecting.{TellsCollected};
+ghost use Rattle.ruled_channel_rules.specs.SendEach.{TellsSentEach};
+ghost use Rattle.ruled_channel_rules.specs.Collect.{TellsCollected};
 
 use anyhow::Error;
 use futures::executor::block_on;
 use futures::future::join;
-use ruled_channel_rules::{Channel, NoMemory, OutOfMemory, Receiver, SendError, Sender, bounded};
+use ruled_channel_rules::{Hub, NoMemory, OutOfMemory, Receiver, SendError, Sender, bounded};
 use std::alloc::{AllocGlobal, Global};
 use std::collections::VecDeque;
 use std::random::RandomSource;
@@ -16,31 +15,29 @@ use std::sync::Wait;
 /// How many numbers may be on their way.
 const CAPACITY: usize = 4;
 
-type SentEach<T> = (
-    Sender<T>,
+type SentEach<'c, T> = (
+    Sender<'c, T>,
     VecDeque<T>,
     Result<Result<(), SendError<T>>, NoMemory<T>>,
 );
 
-type Collected<T> = (Receiver<T>, Vec<T>, Result<(), OutOfMemory>);
+type Collected<'c, T> = (Receiver<'c, T>, Vec<T>, Result<(), OutOfMemory>);
 
 // Sends all and closes, while it receives until the end.
 fn send_and_receive<'r, 'c, R>(
     rt: &'r R,
-    line: &'c Channel<u32>,
-    sender: Sender<u32>,
-    receiver: Receiver<u32>,
+    sender: Sender<'c, u32>,
+    receiver: Receiver<'c, u32>,
     messages: VecDeque<u32>,
     list: Vec<u32>,
-) -> Result<(SentEach<u32>, Collected<u32>), Error>
+) -> Result<(SentEach<'c, u32>, Collected<'c, u32>), Error>
 where
     R: Wait + RandomSource + AllocGlobal,
-    requires { IsSenderOf line.now sender × IsReceiverOf line.now receiver }
-    ensures sent { IfOk result (λ both. TellsSentEach line.now sender messages.items true both.0) }
-    ensures got { IfOk result (λ both. TellsCollected line.now receiver list.items both.1) }
+    ensures sent { IfOk result (λ both. TellsSentEach sender.entry messages.items true both.0) }
+    ensures got { IfOk result (λ both. TellsCollected receiver.entry list.items both.1) }
 {
-    let send = sender.send_each_and_close(rt, line, messages);
-    let receive = receiver.collect(rt, line, list);
+    let send = sender.send_each_and_close(rt, messages);
+    let receive = receiver.collect(rt, list);
     Ok(block_on(rt, join(send, receive))?)
 }
 
@@ -50,13 +47,14 @@ where
     R: Wait + RandomSource + AllocGlobal,
     ensures { IfOk result (λ copy. copy.items ≡ all.items) }
 {
-    let (channel, mut hub) = bounded(alloc, CAPACITY)?;
-    let (sender, receiver) = (hub.sender(&channel), hub.receiver(&channel));
+    let (channel, pass) = bounded(alloc, CAPACITY)?;
+    let mut hub = Hub::new(&channel, pass);
+    let (sender, receiver) = (hub.sender(), hub.receiver());
     let (messages, list) = (VecDeque::from(all), Vec::new(alloc));
-    let (sent, got) = send_and_receive(rt, &channel, sender, receiver, messages, list)?;
+    let (sent, got) = send_and_receive(rt, sender, receiver, messages, list)?;
     let ((sender, _, sent), (receiver, copy, received)) = (sent, got);
     received?;
-    hub.settle_pair(rt, &channel, sender, receiver);
+    hub.settle_pair(rt, sender, receiver);
     let Ok(Ok(())) = sent else {
         return Err(OutOfMemory.into());
     };

@@ -1,25 +1,26 @@
 //! The channels of a map.
 ghost use Rattle.std.specs.Prelude.{◌≡◌, ◌↔◌, ◌<◌, None, Some, Err, IfOk, OnOk, OnErr};
 ghost use Rattle.channel_core.specs.Stamps.{next_stamp};
-ghost use Rattle.ruled_channel_rules.specs.Handles.{IsHubOf, capacity_of, known};
+ghost use Rattle.ruled_channel.specs.Passes.{IsPassOf, capacity_of, view_of_pass};
 ghost use Rattle.ruled_channel_rules.specs.Whole.{hub_log};
 
 use channel_core::{MakeError, StampMaker};
-use ruled_channel_rules::{Channel, Hub, bounded, unbounded};
+use ruled_channel_rules::{Channel, Pass, Whole, bounded, unbounded};
 use std::alloc::Global;
 
-/// A channel that holds at most `cap` messages, for which a stamp is taken.
+/// A channel that holds at most `cap` messages, for which a stamp is taken, and the pass of its hub.
 pub fn bounded_line<T: Drop>(
     alloc: Global,
     cap: usize,
     maker: &mut StampMaker,
-) -> Result<(Channel<T>, Hub<T>), MakeError>
+) -> Result<(Channel<T>, Pass<T, Whole>), MakeError>
     requires { 0 < cap }
     ensures spent { (result ≡ Err MakeError.NoStamps) ↔ (maker.old ≡ None) }
     ensures unchanged { OnErr result (maker.new ≡ maker.old) }
     ensures rises { OnOk result (maker.new ≡ next_stamp maker.old) }
     ensures capacity { IfOk result (λ made. capacity_of made.0 ≡ Some cap) }
-    ensures own { IfOk result (λ made. IsHubOf made.0 made.1 × (known made.1 ≡ hub_log 0 0)) }
+    ensures own { IfOk result (λ made. IsPassOf made.0 made.1
+        × (view_of_pass made.1 ≡ hub_log 0 0)) }
 {
     if maker.is_spent() {
         return Err(MakeError::NoStamps);
@@ -31,16 +32,17 @@ pub fn bounded_line<T: Drop>(
     Ok(made)
 }
 
-/// A channel without a capacity, for which a stamp is taken.
+/// A channel without a capacity, for which a stamp is taken, and the pass of its hub.
 pub fn unbounded_line<T: Drop>(
     alloc: Global,
     maker: &mut StampMaker,
-) -> Result<(Channel<T>, Hub<T>), MakeError>
+) -> Result<(Channel<T>, Pass<T, Whole>), MakeError>
     ensures spent { (result ≡ Err MakeError.NoStamps) ↔ (maker.old ≡ None) }
     ensures unchanged { OnErr result (maker.new ≡ maker.old) }
     ensures rises { OnOk result (maker.new ≡ next_stamp maker.old) }
     ensures capacity { IfOk result (λ made. capacity_of made.0 ≡ None) }
-    ensures own { IfOk result (λ made. IsHubOf made.0 made.1 × (known made.1 ≡ hub_log 0 0)) }
+    ensures own { IfOk result (λ made. IsPassOf made.0 made.1
+        × (view_of_pass made.1 ≡ hub_log 0 0)) }
 {
     if maker.is_spent() {
         return Err(MakeError::NoStamps);

@@ -1,7 +1,8 @@
 //! The map of a list, by many threads.
 ghost use Rattle.std.specs.Prelude.{◌≡◌, ◌≢◌, ◌<◌, ◌≤◌, ◌+◌, ◌-◌, ◌^◌, ◌/◌, ◌⊎◌, ℕ, min, max, [], map, IsOk, IfOk, IfErr, OnOk, Err, None, Some};
 ghost use Rattle.channel_core.specs.Stamps.{next_stamp};
-ghost use Rattle.ruled_channel_rules.specs.Handles.{capacity_of, known};
+ghost use Rattle.ruled_channel.specs.Passes.{capacity_of};
+ghost use Rattle.ruled_channel_rules.specs.Handles.{known};
 ghost use Rattle.ruled_channel_rules.specs.Whole.{hub_log};
 ghost use Rattle.parallel_map.specs.Stamps.{behind_two, DrewTwoAtMost};
 ghost use Rattle.parallel_map.specs.Workers.{AreHubsOf};
@@ -11,6 +12,7 @@ use crate::job::{Gate, Job};
 use crate::lines::{bounded_line, unbounded_line};
 use crate::workers::{self, Hubs, Task};
 use channel_core::StampMaker;
+use ruled_channel_rules::Hub;
 use std::alloc::Global;
 use std::sync::Wait;
 use std::thread;
@@ -41,7 +43,7 @@ fn chunk_size(count: usize, workers: usize, largest: usize) -> usize
 fn answered<A, B, J, G, R>(
     rt: &R,
     task: &Task<'_, A, B, J, G>,
-    hubs: Hubs<B>,
+    hubs: Hubs<'_, B>,
     count: usize,
 ) -> Result<Vec<B>, MapError>
 where
@@ -185,10 +187,6 @@ where
     }
     let (places, jobs) = bounded_line(alloc, cap, maker)?;
     let (chunks, results) = unbounded_line(alloc, maker)?;
-    let hubs = Hubs {
-        places: jobs,
-        chunks: results,
-    };
     let count = workers.min(inputs.len());
     let task = Task {
         places,
@@ -199,6 +197,10 @@ where
         inputs,
         size: chunk_size(inputs.len(), workers, largest),
         most_out: cap.saturating_add(count),
+    };
+    let hubs = Hubs {
+        places: Hub::new(&task.places, jobs),
+        chunks: Hub::new(&task.chunks, results),
     };
     answered(rt, &task, hubs, count)
 }

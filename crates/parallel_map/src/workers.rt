@@ -10,10 +10,10 @@
 //! once all ends are back the caller has had the chunks of all answers, each once.
 ghost use Rattle.std.specs.Prelude.{◌≡◌, ◌+◌, ◌^◌, ◌<◌, ◌≤◌, ◌⊎◌, [], ◌∷◌, ◌++◌, All, length, take, drop, map, min, vec_len, true, false, IsTrue, IfOk, IfErr, IfSome, IsSome, OnOk, OnErr, Err};
 ghost use Rattle.std.specs.Vec.{vec_capacity};
-ghost use Rattle.ruled_channel_rules.specs.Handles.{IsSenderOf, IsReceiverOf, sent_by, got_by, has_ended, sender_closed, receiver_closed, known};
+ghost use Rattle.ruled_channel_rules.specs.Handles.{sent_by, got_by, has_ended, sender_closed, receiver_closed, known};
 ghost use Rattle.ruled_channel_rules.specs.Whole.{hub_log, together, sender_log, receiver_log};
 ghost use Rattle.parallel_map.specs.Chunks.{chunk_at, AreStartsOf};
-ghost use Rattle.parallel_map.specs.Workers.{AreEndsOf, AreNew, AreDone, AreHubsOf, AreFresh, AreBack, AreAllDone, IsCollectorOf};
+ghost use Rattle.parallel_map.specs.Workers.{AreEndsOf, AreNew, AreDone, AreHubsOf, AreFresh, AreBack, AreAllDone, IsCollectorOf, IsSenderOf};
 
 use crate::chunk::Chunk;
 use crate::error::MapError;
@@ -57,27 +57,27 @@ impl<A, B: Drop, J, G> Drop for Task<'_, A, B, J, G> {
 
 /// Those who make the ends of both channels.
 #[derive(Drop)]
-pub struct Hubs<B: Drop> {
-    pub places: Hub<usize>,
-    pub chunks: Hub<Chunk<B>>,
+pub struct Hubs<'c, B: Drop> {
+    pub places: Hub<'c, usize>,
+    pub chunks: Hub<'c, Chunk<B>>,
 }
 
 // A worker's ends of both channels.
 #[derive(Drop)]
-struct Ends<B: Drop> {
-    places: Receiver<usize>,
-    chunks: Sender<Chunk<B>>,
+struct Ends<'c, B: Drop> {
+    places: Receiver<'c, usize>,
+    chunks: Sender<'c, Chunk<B>>,
 }
 
 // Who takes chunks back, and what it has put together of them.
 #[derive(Drop)]
-struct Collector<B: Drop> {
-    receiver: Receiver<Chunk<B>>,
+struct Collector<'c, B: Drop> {
+    receiver: Receiver<'c, Chunk<B>>,
     joined: Joined<B>,
 }
 
 // What a worker hands back: its ends, and whether it worked until no more places came.
-type Worked<B> = (Ends<B>, bool);
+type Worked<'c, B> = (Ends<'c, B>, bool);
 
 // The chunk of inputs that begins at a place: as many as the size says, or as are left.
 fn part_at<A>(inputs: &[A], from: usize, size: usize) -> &[A]
@@ -102,7 +102,11 @@ fn answer<A, B: Drop, J: Job<A, B>, G: Gate>(
 
 // Works at chunks until no more places come. It answers false if memory was refused: then both
 // channels are closed, so that nobody waits to send the next place or to receive a chunk.
-fn work<A, B, J, G, R>(rt: &R, task: &Task<'_, A, B, J, G>, mut ends: Ends<B>) -> Worked<B>
+fn work<'c, A, B, J, G, R>(
+    rt: &R,
+    task: &Task<'_, A, B, J, G>,
+    mut ends: Ends<'c, B>,
+) -> Worked<'c, B>
 where
     B: Drop,
     J: Job<A, B>,
@@ -113,17 +117,18 @@ where
     ensures own { AreEndsOf task.now.places task.now.chunks result.0.places result.0.chunks }
     ensures done { IsTrue result.1 → AreDone (map J.answer task.now.inputs.now) task.now.size
         result.0.places result.0.chunks }
-    ensures open { IsTrue result.1 → sender_closed result.0.chunks ≡ sender_closed ends.chunks }
+    ensures open { IsTrue result.1 → sender_closed result.0.chunks
+        ≡ sender_closed ends.entry.chunks }
     ensures gave_up { result.1 ≡ false → (receiver_closed result.0.places ≡ true)
         × (sender_closed result.0.chunks ≡ true) }
 {
     for _ in rt.forever() {
-        match ends.places.recv_blocking(rt, &task.places) {
+        match ends.places.recv_blocking(rt) {
             Ok(Ok(from)) => {
                 let Ok(chunk) = answer(task, from) else {
                     break;
                 };
-                let Ok(Ok(())) = ends.chunks.send_blocking(rt, &task.chunks, chunk) else {
+                let Ok(Ok(())) = ends.chunks.send_blocking(rt, chunk) else {
                     break;
                 };
             }
@@ -131,8 +136,8 @@ where
             Err(_) => break,
         }
     }
-    ends.places.close(rt, &task.places);
-    ends.chunks.close(rt, &task.chunks);
+    ends.places.close(rt);
+    ends.chunks.close(rt);
     (ends, false)
 }
 
@@ -147,7 +152,8 @@ impl<A, B: Drop, J: Job<A, B>, G> Drop for Hired<'_, '_, A, B, J, G> {
     }
 }
 
-impl<'s, 'a, A, B: Drop, J: Job<A, B>, G> Promise<(Ends<B>, bool)> for Hired<'s, 'a, A, B, J, G> {
+impl<'s, 'a, A, B: Drop, J: Job<A, B>, G> Promise<(Ends<'s, B>, bool)>
+    for Hired<'s, 'a, A, B, J, G> {
     ghost use Rattle.std.specs.Prelude.{map, IsTrue};
     ghost use Rattle.parallel_map.specs.Workers.{AreEndsOf, AreDone};
 
@@ -162,8 +168,8 @@ fn start<'s, 'a: 's, E, A, B, J, G, R>(
     scope: &'s Scope<'s, E>,
     rt: &'s R,
     task: &'s Task<'a, A, B, J, G>,
-    ends: Ends<B>,
-) -> Result<PromisedHandle<Worked<B>, Hired<'s, 'a, A, B, J, G>>, MapError>
+    ends: Ends<'s, B>,
+) -> Result<PromisedHandle<Worked<'s, B>, Hired<'s, 'a, A, B, J, G>>, MapError>
 where
     A: Sync + 'a,
     B: Drop + Send + 'a,
@@ -177,7 +183,7 @@ where
 {
     let started = scope.spawn_with(
         Hired { task },
-        move || -> Worked<B>
+        move || -> Worked<'_, B>
             requires own { AreEndsOf task.now.places task.now.chunks ends.places ends.chunks }
             requires new { AreNew ends.places ends.chunks }
             ensures own { AreEndsOf task.entry.now.places task.entry.now.chunks
@@ -198,9 +204,9 @@ fn start_all<'s, 'a: 's, E, A, B, J, G, R>(
     scope: &'s Scope<'s, E>,
     rt: &'s R,
     task: &'s Task<'a, A, B, J, G>,
-    hubs: &mut Hubs<B>,
+    hubs: &mut Hubs<'s, B>,
     count: usize,
-    workers: &mut Vec<PromisedHandle<Worked<B>, Hired<'s, 'a, A, B, J, G>>>,
+    workers: &mut Vec<PromisedHandle<Worked<'s, B>, Hired<'s, 'a, A, B, J, G>>>,
 ) -> Result<(), MapError>
 where
     A: Sync + 'a,
@@ -221,8 +227,8 @@ where
 {
     for _turn in 0..count {
         let ends = Ends {
-            places: hubs.places.receiver(&task.places),
-            chunks: hubs.chunks.sender(&task.chunks),
+            places: hubs.places.receiver(),
+            chunks: hubs.chunks.sender(),
         };
         let worker = start(scope, rt, task, ends)?;
         if workers.push(worker).is_err() {
@@ -236,7 +242,7 @@ where
 fn take_chunk<A, B: Drop, J, G, R: Wait>(
     rt: &R,
     task: &Task<'_, A, B, J, G>,
-    collector: &mut Collector<B>,
+    collector: &mut Collector<'_, B>,
 ) -> Result<bool, OutOfMemory>
     requires own { IsCollectorOf task.now.chunks collector.old }
     ensures own { OnOk result (IsCollectorOf task.now.chunks collector.new) }
@@ -245,7 +251,7 @@ fn take_chunk<A, B: Drop, J, G, R: Wait>(
     ensures ended { IfOk result (λ came.
         came ≡ false → has_ended collector.new.receiver ≡ true) }
 {
-    let Ok(chunk) = collector.receiver.recv_blocking(rt, &task.chunks)? else {
+    let Ok(chunk) = collector.receiver.recv_blocking(rt)? else {
         return Ok(false);
     };
     match collector.joined.put(chunk) {
@@ -258,7 +264,7 @@ fn take_chunk<A, B: Drop, J, G, R: Wait>(
 fn take_chunks<A, B: Drop, J, G, R: Wait>(
     rt: &R,
     task: &Task<'_, A, B, J, G>,
-    collector: &mut Collector<B>,
+    collector: &mut Collector<'_, B>,
     count: usize,
 ) -> bool
     requires own { IsCollectorOf task.now.chunks collector.old }
@@ -279,8 +285,8 @@ fn take_chunks<A, B: Drop, J, G, R: Wait>(
 fn send_place<A, B: Drop, J, G, R: Wait>(
     rt: &R,
     task: &Task<'_, A, B, J, G>,
-    feeder: &mut Sender<usize>,
-    collector: &mut Collector<B>,
+    feeder: &mut Sender<'_, usize>,
+    collector: &mut Collector<'_, B>,
     from: usize,
     before: usize,
 ) -> Option<usize>
@@ -302,7 +308,7 @@ fn send_place<A, B: Drop, J, G, R: Wait>(
         };
         out -= 1;
     }
-    let Ok(Ok(())) = feeder.send_blocking(rt, &task.places, from) else {
+    let Ok(Ok(())) = feeder.send_blocking(rt, from) else {
         return None;
     };
     Some(out + 1)
@@ -313,8 +319,8 @@ fn send_place<A, B: Drop, J, G, R: Wait>(
 fn send_places<A, B: Drop, J, G, R: Wait>(
     rt: &R,
     task: &Task<'_, A, B, J, G>,
-    feeder: &mut Sender<usize>,
-    collector: &mut Collector<B>,
+    feeder: &mut Sender<'_, usize>,
+    collector: &mut Collector<'_, B>,
 ) -> Option<usize>
     requires own { IsSenderOf task.now.places feeder.old
         × IsCollectorOf task.now.chunks collector.old }
@@ -342,8 +348,8 @@ fn send_places<A, B: Drop, J, G, R: Wait>(
 fn feed<A, B: Drop, J, G, R: Wait>(
     rt: &R,
     task: &Task<'_, A, B, J, G>,
-    feeder: &mut Sender<usize>,
-    collector: &mut Collector<B>,
+    feeder: &mut Sender<'_, usize>,
+    collector: &mut Collector<'_, B>,
     are_started: bool,
 ) -> bool
     requires own { IsSenderOf task.now.places feeder.old
@@ -359,11 +365,11 @@ fn feed<A, B: Drop, J, G, R: Wait>(
     ensures closed { sender_closed feeder.new ≡ true }
 {
     if !are_started {
-        feeder.close(rt, &task.places);
+        feeder.close(rt);
         return false;
     }
     let out = send_places(rt, task, feeder, collector);
-    feeder.close(rt, &task.places);
+    feeder.close(rt);
     match out {
         Some(count) => take_chunks(rt, task, collector, count),
         None => false,
@@ -371,19 +377,23 @@ fn feed<A, B: Drop, J, G, R: Wait>(
 }
 
 // Takes the ends of a worker back.
-fn take_back<A, B: Drop, J, G>(task: &Task<'_, A, B, J, G>, hubs: &mut Hubs<B>, ends: Ends<B>)
+fn take_back<A, B: Drop, J, G>(
+    task: &Task<'_, A, B, J, G>,
+    hubs: &mut Hubs<'_, B>,
+    ends: Ends<'_, B>,
+)
     requires own { AreHubsOf task.now.places task.now.chunks hubs.old.places hubs.old.chunks }
     requires ends { AreEndsOf task.now.places task.now.chunks ends.places ends.chunks }
     ensures own { AreHubsOf task.now.places task.now.chunks hubs.new.places hubs.new.chunks }
     ensures places { known hubs.new.places ≡ together (known hubs.old.places)
-        (receiver_log (receiver_closed ends.places) (has_ended ends.places)
-        (got_by ends.places)) }
+        (receiver_log (receiver_closed ends.entry.places) (has_ended ends.entry.places)
+        (got_by ends.entry.places)) }
     ensures chunks { known hubs.new.chunks ≡ together (known hubs.old.chunks)
-        (sender_log (sender_closed ends.chunks) (sent_by ends.chunks)) }
+        (sender_log (sender_closed ends.entry.chunks) (sent_by ends.entry.chunks)) }
 {
     let Ends { places, chunks } = ends;
-    hubs.places.take_receiver(&task.places, places);
-    hubs.chunks.take_sender(&task.chunks, chunks);
+    hubs.places.take_receiver(places);
+    hubs.chunks.take_sender(chunks);
 }
 
 // Waits for all workers to end, and takes their ends back. It answers whether each worked until no
@@ -391,8 +401,8 @@ fn take_back<A, B: Drop, J, G>(task: &Task<'_, A, B, J, G>, hubs: &mut Hubs<B>, 
 fn join_all<'s, 'a: 's, A, B: Drop, J: Job<A, B>, G, R: Threads>(
     rt: &R,
     task: &'s Task<'a, A, B, J, G>,
-    hubs: &mut Hubs<B>,
-    workers: Vec<PromisedHandle<Worked<B>, Hired<'s, 'a, A, B, J, G>>>,
+    hubs: &mut Hubs<'_, B>,
+    workers: Vec<PromisedHandle<Worked<'s, B>, Hired<'s, 'a, A, B, J, G>>>,
 ) -> bool
     requires own { AreHubsOf task.now.places task.now.chunks hubs.old.places hubs.old.chunks }
     requires promised { All (λ worker. worker.promise.task.now ≡ task.now) workers.items }
@@ -416,13 +426,13 @@ fn join_all<'s, 'a: 's, A, B: Drop, J: Job<A, B>, G, R: Threads>(
 fn end<A, B: Drop, J, G, R: Wait>(
     rt: &R,
     task: &Task<'_, A, B, J, G>,
-    collector: &mut Collector<B>,
+    collector: &mut Collector<'_, B>,
 ) -> Result<(), OutOfMemory>
     requires own { IsCollectorOf task.now.chunks collector.old }
     ensures own { OnOk result (IsCollectorOf task.now.chunks collector.new) }
     ensures ended { OnOk result (has_ended collector.new.receiver ≡ true) }
 {
-    collector.receiver.close(rt, &task.chunks);
+    collector.receiver.close(rt);
     for _ in rt.forever() {
         let Ok(came) = take_chunk(rt, task, collector) else {
             break;
@@ -439,9 +449,9 @@ fn end<A, B: Drop, J, G, R: Wait>(
 fn collect<A, B: Drop, J: Job<A, B>, G, R: Wait>(
     rt: &R,
     task: &Task<'_, A, B, J, G>,
-    hubs: &mut Hubs<B>,
-    feeder: Sender<usize>,
-    mut collector: Collector<B>,
+    hubs: &mut Hubs<'_, B>,
+    feeder: Sender<'_, usize>,
+    mut collector: Collector<'_, B>,
 ) -> Result<Vec<B>, OutOfMemory>
     requires own { AreHubsOf task.now.places task.now.chunks hubs.old.places hubs.old.chunks }
     requires feeder { IsSenderOf task.now.places feeder }
@@ -461,10 +471,10 @@ fn collect<A, B: Drop, J: Job<A, B>, G, R: Wait>(
         answers,
         early: _early,
     } = joined;
-    hubs.places.take_sender(&task.places, feeder);
-    hubs.places.settle(rt, &task.places);
-    hubs.chunks.take_receiver(&task.chunks, receiver);
-    hubs.chunks.settle(rt, &task.chunks);
+    hubs.places.take_sender(feeder);
+    hubs.places.settle(rt);
+    hubs.chunks.take_receiver(receiver);
+    hubs.chunks.settle(rt);
     Ok(answers)
 }
 
@@ -473,10 +483,10 @@ fn collect<A, B: Drop, J: Job<A, B>, G, R: Wait>(
 fn finish<'s, 'a: 's, A, B: Drop, J: Job<A, B>, G, R: Wait + Threads>(
     rt: &R,
     task: &'s Task<'a, A, B, J, G>,
-    hubs: &mut Hubs<B>,
-    mut feeder: Sender<usize>,
-    mut collector: Collector<B>,
-    workers: Vec<PromisedHandle<Worked<B>, Hired<'s, 'a, A, B, J, G>>>,
+    hubs: &mut Hubs<'_, B>,
+    mut feeder: Sender<'_, usize>,
+    mut collector: Collector<'_, B>,
+    workers: Vec<PromisedHandle<Worked<'s, B>, Hired<'s, 'a, A, B, J, G>>>,
     started: Result<(), MapError>,
 ) -> Result<Vec<B>, MapError>
     requires own { AreHubsOf task.now.places task.now.chunks hubs.old.places hubs.old.chunks }
@@ -510,7 +520,7 @@ pub fn run<'s, 'a: 's, E, A, B, J, G, R>(
     scope: &'s Scope<'s, E>,
     rt: &'s R,
     task: &'s Task<'a, A, B, J, G>,
-    mut hubs: Hubs<B>,
+    mut hubs: Hubs<'s, B>,
     count: usize,
 ) -> Result<Vec<B>, MapError>
 where
@@ -533,8 +543,8 @@ where
     let Ok(joined) = Joined::new(task.alloc, task.inputs.len()) else {
         return Err(MapError::OutOfMemory);
     };
-    let feeder = hubs.places.sender(&task.places);
-    let receiver = hubs.chunks.receiver(&task.chunks);
+    let feeder = hubs.places.sender();
+    let receiver = hubs.chunks.receiver();
     let collector = Collector { receiver, joined };
     let started = start_all(scope, rt, task, &mut hubs, count, &mut workers);
     finish(rt, task, &mut hubs, feeder, collector, workers, started)

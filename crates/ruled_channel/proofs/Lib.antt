@@ -1,12 +1,11 @@
 pub mod Views
-pub mod Many
-pub mod Answered
-pub mod Steps
-mod Told
+mod Turns
 mod InMutex
-mod Taken
-pub mod Same
-pub mod Dropped
+mod Answered
 pub mod Logging
 mod Made
+mod Forced
 mod Waits
+mod Sends
+mod Receives
+mod Polled

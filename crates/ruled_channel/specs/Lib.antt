@@ -11,10 +11,10 @@ pub mod Rule
 pub mod Guarded
 pub mod Passes
 pub mod Steps
-pub mod Receiving
-pub mod RecvAs
-pub mod Sending
-pub mod SendAs
-pub mod Closing
-pub mod UntilClosed
+pub mod Endpoints
+pub mod Forced
 pub mod Batches
+pub mod Futures
+pub mod SendFuture
+pub mod RecvFuture
+pub mod ClosedFuture

@@ -1,123 +1,163 @@
--- What a caller of a ruled channel shows of each step.
--- `holds state views` is the caller's rule, at the channel's key: of what the channel is, and of
--- what each pass knows.
--- Each pass has a number, and `views` at that number is its view.
-use Rattle.std.specs.Prelude.{◌≡◌, ⊤, ℕ, zero, suc, Bool, true, not, ◌&&◌, List, [], ◌∷◌, ◌++◌, slice_set, Option, Some, None}
+-- From what each event of a channel comes, what it leaves, and what a rule promises of them.
+use Rattle.std.specs.Prelude.{◌≡◌, ◌≤◌, ℕ, ◌-◌, ◌==◌, ◌&&◌, Bool, not, List, [], ◌∷◌, ◌++◌, drop, take, map, length, slice_set, true, false}
 use mathlib.Core.Option.{some}
 use lib.ListN.{get_elem?}
-use Rattle.channel_core.specs.declared.state.Upgrade.TheVariants.{Raised}
+use Rattle.channel_core.specs.Queue.{is_full}
+use Rattle.channel_core.specs.declared.state.Upgrade.{Upgrade}
+use Rattle.channel_core.specs.declared.state.Upgrade.TheVariants.{Raised, Closed as IsClosed, TooMany}
 use Rattle.channel_core.specs.Counts.{may_add, upgrade_answer}
+use Rattle.ruled_channel.specs.declared.protocol.Event.{Event}
+use Rattle.ruled_channel.specs.declared.protocol.Event.TheVariants.{Sent, Displaced, Received, FoundEnd, Closed, SenderAdded, ReceiverAdded, SenderRaised, ReceiverRaised, SenderDropped, ReceiverDropped}
 use Rattle.ruled_channel.specs.State.{State, HasPlace, IsFull, IsOver, holding, joined, closed_now, sender_more, receiver_more, sender_less, receiver_less}
 
-module _ {T V : Type 0} (holds : State T → List V → Type 0) where
-  -- whatever there is that the step may be made from, and whatever the others know, the rule stays
-  -- by the step, and this pass's view becomes some w
-  abbrev pub Allows : (State T → Type 0) → (State T → State T) → ℕ → V → (State T → V → Type 0)
+abbrev is_raised : Upgrade → Bool
+is_raised Raised = true
+is_raised IsClosed = false
+is_raised TooMany = false
+
+module _ {T : Type 0} where
+  -- whether the channel is closed by the end of its last sender, or of its last receiver
+  abbrev pub last_sender_closes : State T → Bool
+  last_sender_closes state = (state.senders == 1) && not state.closed
+
+  abbrev pub last_receiver_closes : State T → Bool
+  last_receiver_closes state = (state.receivers == 1) && not state.closed
+
+  -- from what an event comes
+  abbrev pub Comes : Event T → State T → Type 0
+  Comes (Sent m) state = HasPlace state
+  Comes (Displaced d m) state = IsFull state × (rest : List T) × (state.messages ≡ d ∷ rest)
+  Comes (Received m) state = (rest : List T) × (state.messages ≡ m ∷ rest)
+  Comes FoundEnd state = IsOver state
+  Comes (Closed has_closed) state = has_closed ≡ not state.closed
+  Comes SenderAdded state = may_add state.senders ≡ true
+  Comes ReceiverAdded state = may_add state.receivers ≡ true
+  Comes SenderRaised state = upgrade_answer state.closed state.senders ≡ Raised
+  Comes ReceiverRaised state = upgrade_answer state.closed state.receivers ≡ Raised
+  Comes (SenderDropped has_closed) state = has_closed ≡ last_sender_closes state
+  Comes (ReceiverDropped has_closed) state = has_closed ≡ last_receiver_closes state
+
+  -- what it leaves
+  abbrev pub left_by : Event T → State T → State T
+  left_by (Sent m) state = joined m state
+  left_by (Displaced d m) state = holding (drop 1 state.messages ++ m ∷ []) state
+  left_by (Received m) state = holding (drop 1 state.messages) state
+  left_by FoundEnd state = state
+  left_by (Closed has_closed) state = closed_now state
+  left_by SenderAdded state = sender_more state
+  left_by ReceiverAdded state = receiver_more state
+  left_by SenderRaised state = sender_more state
+  left_by ReceiverRaised state = receiver_more state
+  left_by (SenderDropped has_closed) state = sender_less state
+  left_by (ReceiverDropped has_closed) state = receiver_less state
+
+  -- ### The events of each step, by what it found and by what it made of that
+
+  abbrev pub sent_events : State T → State T → List (Event T)
+  sent_events found made = map Sent (drop (length found.messages) made.messages)
+
+  -- at a full channel
+  abbrev pub displacing : List T → List T → List (Event T)
+  displacing [] made = []
+  displacing (d ∷ rest) made = map (Displaced d) (drop (length rest) made)
+
+  abbrev pub forced_of : Bool → Bool → State T → State T → List (Event T)
+  forced_of true full found made = []
+  forced_of false true found made = displacing found.messages made.messages
+  forced_of false false found made = sent_events found made
+
+  abbrev pub forced_events : State T → State T → List (Event T)
+  forced_events found made = forced_of found.closed (is_full found.capacity found.messages) found made
+
+  abbrev pub received_of : List T → Bool → ℕ → List (Event T)
+  received_of (m ∷ rest) closed left = map Received (take (length (m ∷ rest) - left) (m ∷ rest))
+  received_of [] true left = FoundEnd ∷ []
+  received_of [] false left = []
+
+  abbrev pub received_events : State T → State T → List (Event T)
+  received_events found made = received_of found.messages found.closed (length made.messages)
+
+  abbrev pub closed_events : State T → State T → List (Event T)
+  closed_events found made = Closed (not found.closed) ∷ []
+
+  -- one event if this is so, and else none
+  abbrev one_if : Bool → Event T → List (Event T)
+  one_if true event = event ∷ []
+  one_if false event = []
+
+  abbrev pub senders_added : State T → State T → List (Event T)
+  senders_added found made = one_if (may_add found.senders) SenderAdded
+
+  abbrev pub receivers_added : State T → State T → List (Event T)
+  receivers_added found made = one_if (may_add found.receivers) ReceiverAdded
+
+  abbrev pub raised_senders : State T → State T → List (Event T)
+  raised_senders found made =
+      one_if (is_raised (upgrade_answer found.closed found.senders)) SenderRaised
+
+  abbrev pub raised_receivers : State T → State T → List (Event T)
+  raised_receivers found made =
+      one_if (is_raised (upgrade_answer found.closed found.receivers)) ReceiverRaised
+
+  abbrev pub sender_dropped_events : State T → State T → List (Event T)
+  sender_dropped_events found made = SenderDropped (last_sender_closes found) ∷ []
+
+  abbrev pub receiver_dropped_events : State T → State T → List (Event T)
+  receiver_dropped_events found made = ReceiverDropped (last_receiver_closes found) ∷ []
+
+  -- it made these events of what it found, one after the other
+  abbrev pub Makes : List (Event T) → State T → State T → Type 0
+  Makes [] found made = made ≡ found
+  Makes (event ∷ rest) found made = Comes event found × Makes rest (left_by event found) made
+
+  -- a receive may take any message, and may find the end
+  abbrev pub MayReceive : (Event T → Type 0) → Type 0
+  MayReceive may = ((m : T) → may (Received m)) × may FoundEnd
+
+module _ {T V : Type 0} where
+  -- The rule stays by each event that a pass may make, whatever the others know, and the view of
+  -- the pass becomes some w.
+  abbrev pub Keeps : (State T → List V → Type 0) → (V → Event T → Type 0)
+      → (V → Event T → V → Type 0) → Type 0
+  Keeps holds may tells =
+      (state : State T) (views : List V) (pass : ℕ) (v : V) (event : Event T)
+      → may v event → Comes event state → holds state views → get_elem? views pass ≡ some v
+      → (w : V) × holds (left_by event state) (slice_set views pass w) × tells v event w
+
+  -- each may be made after those before it, whatever view these left
+  abbrev pub MayEach : (V → Event T → Type 0) → (V → Event T → V → Type 0) → V → List (Event T)
       → Type 0
-  Allows May step pass v then =
-      (state : State T) (views : List V) → May state → holds state views
-      → get_elem? views pass ≡ some v
-      → (w : V) × holds (step state) (slice_set views pass w) × then state w
+  MayEach may tells v [] = Unit {0}
+  MayEach may tells v (event ∷ []) = may v event
+  MayEach may tells v (event ∷ next ∷ rest) =
+      may v event × ((w : V) → tells v event w → MayEach may tells w (next ∷ rest))
 
-  -- m joins at the back of an open channel with room
-  abbrev pub Sends : ℕ → V → T → (V → T → V → Type 0) → Type 0
-  Sends pass v m then = Allows HasPlace (joined m) pass v (λ _ w. then v m w)
+  -- v becomes w by what each tells, one after the other
+  abbrev pub Tells : (V → Event T → V → Type 0) → V → List (Event T) → V → Type 0
+  Tells tells v [] w = w ≡ v
+  Tells tells v (event ∷ []) w = tells v event w
+  Tells tells v (event ∷ next ∷ rest) w = (u : V) × tells v event u × Tells tells u (next ∷ rest) w
 
-  -- an open and full channel gives d, at its front, for m, at its back
-  abbrev pub Displaces : ℕ → V → T → (V → Option T → T → V → Type 0) → Type 0
-  Displaces pass v m then =
-      (d : T) (rest : List T)
-      → Allows (λ state. IsFull state × (state.messages ≡ d ∷ rest)) (holding (rest ++ m ∷ []))
-      pass v (λ _ w. then v (Some d) m w)
+  -- the rule held of what there was, and of views among which was this one
+  abbrev pub Fits : (State T → List V → Type 0) → V → State T → Type 0
+  Fits holds v state =
+      (pass : ℕ) × (views : List V) × holds state views × (get_elem? views pass ≡ some v)
 
-  -- a send that is forced does the one or the other
-  abbrev pub Forces : ℕ → V → T → (V → Option T → T → V → Type 0) → Type 0
-  Forces pass v m then = Sends pass v m (λ u x w. then u None x w) × Displaces pass v m then
-
-  -- a message leaves at the front
-  abbrev pub Receives : ℕ → V → (V → T → V → Type 0) → Type 0
-  Receives pass v then =
-      (m : T) (rest : List T)
-      → Allows (λ state. state.messages ≡ m ∷ rest) (holding rest) pass v (λ _ w. then v m w)
-
-  -- each of these messages is sent after those before it, whatever view these left
-  abbrev pub SendsMany : ℕ → V → List T → (V → T → V → Type 0) → Type 0
-  SendsMany pass v [] then = ⊤
-  SendsMany pass v (m ∷ rest) then =
-      Sends pass v m then × ((w : V) → then v m w → SendsMany pass w rest then)
-
-  -- so many messages leave at the front, one after the other, likewise
-  abbrev pub ReceivesMany : ℕ → V → ℕ → (V → T → V → Type 0) → Type 0
-  ReceivesMany pass v zero then = ⊤
-  ReceivesMany pass v (suc count) then =
-      Receives pass v then × ((m : T) (w : V) → then v m w → ReceivesMany pass w count then)
-
-  -- a receive finds the channel closed and empty
-  abbrev pub Ends : ℕ → V → (V → V → Type 0) → Type 0
-  Ends pass v then = Allows IsOver (λ state. state) pass v (λ _ w. then v w)
-
-  -- a step that may close the channel; `then` is told whether it did
-  abbrev pub Shuts : (State T → State T) → ℕ → V → (V → Bool → V → Type 0) → Type 0
-  Shuts step pass v then =
-      Allows (λ _. ⊤) step pass v
-      (λ state w. then v ((step state).closed && not state.closed) w)
-
-  abbrev pub Closes : ℕ → V → (V → Bool → V → Type 0) → Type 0
-  Closes = Shuts closed_now
-
-  -- a sender is given up, or a receiver
-  abbrev pub DropsSender : ℕ → V → (V → Bool → V → Type 0) → Type 0
-  DropsSender = Shuts sender_less
-
-  abbrev pub DropsReceiver : ℕ → V → (V → Bool → V → Type 0) → Type 0
-  DropsReceiver = Shuts receiver_less
-
-  -- one more sender is counted: a copy of one, or one that is raised
-  abbrev pub AddsSender : ℕ → V → (V → V → Type 0) → Type 0
-  AddsSender pass v then =
-      Allows (λ state. may_add state.senders ≡ true) sender_more pass v (λ _ w. then v w)
-
-  abbrev pub RaisesSender : ℕ → V → (V → V → Type 0) → Type 0
-  RaisesSender pass v then =
-      Allows (λ state. upgrade_answer state.closed state.senders ≡ Raised) sender_more pass v
-      (λ _ w. then v w)
-
-  -- one more receiver, likewise
-  abbrev pub AddsReceiver : ℕ → V → (V → V → Type 0) → Type 0
-  AddsReceiver pass v then =
-      Allows (λ state. may_add state.receivers ≡ true) receiver_more pass v (λ _ w. then v w)
-
-  abbrev pub RaisesReceiver : ℕ → V → (V → V → Type 0) → Type 0
-  RaisesReceiver pass v then =
-      Allows (λ state. upgrade_answer state.closed state.receivers ≡ Raised) receiver_more pass v
-      (λ _ w. then v w)
-
-  -- this pass's view is cut in two, and a new pass has the second
-  abbrev pub Forks : ℕ → V → V → V → Type 0
-  Forks pass v left right =
+  -- this view is cut in two, and a new pass has the second
+  abbrev pub Forks : (State T → List V → Type 0) → ℕ → V → V → V → Type 0
+  Forks holds pass v left right =
       (state : State T) (views : List V) → holds state views → get_elem? views pass ≡ some v
       → holds state (slice_set views pass left ++ right ∷ [])
 
   -- this pass takes in the view w of another, which is spent
-  abbrev pub Merges : ℕ → V → ℕ → V → V → V → Type 0
-  Merges pass v other w both spent =
+  abbrev pub Merges : (State T → List V → Type 0) → ℕ → V → ℕ → V → V → V → Type 0
+  Merges holds pass v other w both spent =
       (state : State T) (views : List V) → holds state views → get_elem? views pass ≡ some v
       → ¬ (other ≡ pass) → get_elem? (slice_set views pass both) other ≡ some w
       → holds state (slice_set (slice_set views pass both) other spent)
 
-  -- what the rule tells this pass of what there is
-  abbrev pub Learns : ℕ → V → (State T → Type 0) → Type 0
-  Learns pass v fact =
-      (state : State T) (views : List V) → holds state views → get_elem? views pass ≡ some v
-      → fact state
-
--- v becomes w by what each of these messages tells, one after the other
-abbrev pub TellsEach : {T V : Type 0} → (V → T → V → Type 0) → V → List T → V → Type 0
-TellsEach then v [] w = w ≡ v
-TellsEach {T} {V} then v (m ∷ rest) w = (u : V) × then v m u × TellsEach then u rest w
-
--- this view stood among those of all passes, and the rule held, at some key
-abbrev pub Fitted : {T V K : Type 0} → (K → State T → List V → Type 0) → V → State T → Type 0
-Fitted {T} {V} {K} holds v state =
-    (key : K) × (pass : ℕ) × (views : List V) × holds key state views
-    × (get_elem? views pass ≡ some v)
+  -- so many receives may be made, one after the other, or the end be found
+  abbrev pub MayReceiveMany : (V → Event T → Type 0) → (V → Event T → V → Type 0) → V → ℕ → Type 0
+  MayReceiveMany may tells v limit =
+      ((messages : List T) → length messages ≤ limit → MayEach may tells v (map Received messages))
+      × may v FoundEnd

@@ -1,23 +1,24 @@
-//! Many messages in one step under the lock: steps of the rule, one after the other.
-ghost use Rattle.std.specs.Prelude.{◌≡◌, ◌⊎◌, ◌+◌, ◌++◌, ◌<◌, ◌≤◌, ◌∷◌, [], drop, length, take, slice_get, None, Ok, IfErr, IfOk, IsSome, OnOk, OnErr};
+//! Many messages in one step under the lock: events of the rule, one after the other.
+ghost use Rattle.std.specs.Prelude.{◌≡◌, ◌⊎◌, ◌+◌, ◌++◌, ◌<◌, ◌≤◌, ◌∷◌, [], drop, length, map, take, slice_get, Err, None, Ok, IfErr, IfOk, IsSome, OnOk, OnErr};
 ghost use Rattle.std.specs.Vec.{vec_len, vec_capacity};
 ghost use Rattle.std.specs.VecDeque.{deque_len, deque_capacity};
 ghost use Rattle.futures.specs.declared.task.Poll.TheVariants.{Pending};
 ghost use Rattle.futures.specs.Poll.{IfReady};
+ghost use Rattle.channel_core.specs.declared.errors.TryRecvError.TheVariants.{Empty, Closed as Ended};
 ghost use Rattle.channel_core.specs.Tables.{OnReady, OnWait, recv_poll, send_poll, try_recv_answer, try_send_answer};
 ghost use Rattle.channel_core.specs.Batches.{CanSendNoMore, counted, moved_count, received_many, sent_many, taken_count};
 ghost use Rattle.channel_core.specs.Channel.{GrowsWithMessages, RecvWaits, SendWaits, is_channel_full, oldest, unchanged};
 ghost use Rattle.ruled_channel.specs.declared.mark.Mark.{Mark};
-ghost use Rattle.ruled_channel.specs.State.{IsClosed, IsEmpty, IsFull, IsUnbounded};
-ghost use Rattle.ruled_channel.specs.Rule.{Ends, Fitted, Learns, ReceivesMany, SendsMany, TellsEach};
-ghost use Rattle.ruled_channel.specs.Passes.{FindsNone, IsPassOf, IsSamePass, LearnedOf, Refuses, WantsToSend, key_of, number, source_of, view};
-ghost use Rattle.ruled_channel.specs.Steps.{HasMade, found, made, woken};
+ghost use Rattle.ruled_channel.specs.declared.protocol.Event.TheVariants.{Sent, Received, FoundEnd};
+ghost use Rattle.ruled_channel.specs.State.{state_of};
+ghost use Rattle.ruled_channel.specs.Rule.{Fits, MayEach, MayReceiveMany, Tells};
+ghost use Rattle.ruled_channel.specs.Passes.{source_of};
 ghost use Rattle.ruled_channel.specs.Batches.{counted_poll, counted_send, polled_count, polled_receives, polled_sends};
 
 use crate::channel::RuledChannel;
+use crate::endpoint::Endpoint;
+use crate::events::{Receives, Sends};
 use crate::mark::{Mark, Waiter};
-use crate::outcomes::{AtEnd, Lesson, Received, ReceivedManyOrKept, Seen, Sent, SentManyOrKept};
-use crate::pass::Pass;
 use crate::protocol::Protocol;
 use crate::ringer::Ringer;
 use channel_core::{Core, OutOfMemory, RecvError, SendError, Ticket, TryRecvError, TrySendError};
@@ -27,10 +28,11 @@ use std::collections::VecDeque;
 use std::sync::Wait;
 
 // ## Under the lock
-impl<T: Drop, V, P: Protocol<T, V>> RuledChannel<T, V, P> {
+
+impl<T: Drop, P: Protocol<T>> RuledChannel<T, P> {
     // Polls a receive of up to `limit` messages. The room for those that are there is asked for
     // first.
-    fn poll_recv_many<C, W: Waiter<C>>(
+    pub(crate) fn poll_recv_many<C, W: Waiter<C>>(
         &self,
         core: &mut Core<T, Mark>,
         into: &mut Vec<T>,
@@ -78,7 +80,7 @@ impl<T: Drop, V, P: Protocol<T, V>> RuledChannel<T, V, P> {
 
     // Polls a send of the messages in `from`, up to `limit` of them, from the front. What isn't
     // sent stays there.
-    fn poll_send_many<C, W: Waiter<C>>(
+    pub(crate) fn poll_send_many<C, W: Waiter<C>>(
         &self,
         core: &mut Core<T, Mark>,
         from: &mut VecDeque<T, Global>,
@@ -248,7 +250,10 @@ fn take_front<T: Drop>(from: &mut VecDeque<T, Global>) -> T
 }
 
 // ## With the lock
-impl<T: Drop, V, P: Protocol<T, V>> RuledChannel<T, V, P> {
+
+impl<T: Drop, P: Protocol<T>> Endpoint<'_, T, P> {
+    ghost use Rattle.ruled_channel.specs.Endpoints.{HasMade, IsSame, found, key, made, source, view, woken};
+
     /// Sends messages from the front of `from` in one step, as many as fit, up to `limit`. The rest
     /// stays there. The rule has to allow a send of each in `from` after those before it.
     ///
@@ -256,46 +261,40 @@ impl<T: Drop, V, P: Protocol<T, V>> RuledChannel<T, V, P> {
     /// outer error says that memory was refused for the first message.
     ///
     /// ```
-    /// let (channel, mut pass) = bounded_with::<u64, (), Unruled>(rt.alloc(), 1)?;
+    /// let (channel, pass) = bounded_with::<u64, Unruled>(rt.alloc(), 1)?;
+    /// let mut endpoint = Endpoint::new(&channel, pass);
     /// let mut from = VecDeque::new(rt.alloc());
     /// from.push_back(5)?;
     /// from.push_back(6)?;
-    /// let sent =
-    ///     channel.try_send_many_as::<Unruled, Unruled, _>(&rt, &mut pass, &mut from, 2)?;
-    /// assert_eq!(rt; sent, Ok(1));
+    /// assert_eq!(rt; endpoint.try_send_many(&rt, &mut from, 2)?, Ok(1));
     /// ```
-    pub fn try_send_many_as<M: Sent<T, V>, L: Lesson<T, V>, R: Wait>(
-        &self,
-        rt: &R,
-        pass: &mut Pass<T, V>,
+    pub fn try_send_many(
+        &mut self,
+        rt: &impl Wait,
         from: &mut VecDeque<T, Global>,
         limit: usize,
     ) -> Result<Result<usize, TrySendError<()>>, OutOfMemory>
-        requires own { IsPassOf self.now pass.old }
-        requires rule { SendsMany (P.holds (key_of self.now)) (number pass.old) (view pass.old)
-            from.old.items M.then }
-        requires lesson { Learns (P.holds (key_of self.now)) (number pass.old) (view pass.old)
-            (L.fact (view pass.old)) }
-        ensures own { IsPassOf self.now pass.new × IsSamePass pass.old pass.new }
-        ensures sent { TellsEach M.then (view pass.old) (take (moved_count result) from.old.items)
-            (view pass.new) }
-        ensures refused { IfOk result (λ answer. IfErr answer (Refuses (L.fact (view pass.old)))) }
-        ensures memory { OnErr result (LearnedOf IsUnbounded (L.fact (view pass.old))) }
-        ensures limit { moved_count result ≤ limit }
-        ensures within { moved_count result ≤ length from.old.items }
+        requires may { MayEach (P.may (key self.old)) P.tells (view self.old)
+            (map Sent from.old.items) }
+        ensures same { IsSame self.old self.new }
+        ensures count { (moved_count result ≤ limit) × (moved_count result ≤ length from.old.items) }
         ensures rest { from.new.items ≡ drop (moved_count result) from.old.items }
         ensures reply { IfOk result (λ answer. answer ≡ counted (moved_count result)
-            (try_send_answer (found pass.new).closed (is_channel_full (found pass.new)) tt)) }
-        ensures step { HasMade (sent_many (take (moved_count result) from.old.items)) pass.new }
-        ensures stops { moved_count result < limit → CanSendNoMore from.new.items (made pass.new) }
-        ensures wanted { OnErr result (GrowsWithMessages (found pass.new)) }
+            (try_send_answer (found self.new).closed (is_channel_full (found self.new)) tt)) }
+        ensures step { HasMade (sent_many (take (moved_count result) from.old.items)) self.new }
+        ensures stops { moved_count result < limit → CanSendNoMore from.new.items (made self.new) }
+        ensures sent { Tells P.tells (view self.old)
+            (map Sent (take (moved_count result) from.old.items)) (view self.new) }
+        ensures fits { Fits (P.holds (key self.old)) (view self.old) (state_of (found self.new)) }
+        ensures wanted { OnErr result (GrowsWithMessages (found self.new)) }
         ensures none { result ≡ Ok (Ok 0) → (limit ≡ 0) ⊎ (from.old.items ≡ []) }
     {
-        let held = self.lock(rt, pass);
+        let channel = self.channel;
+        let held = channel.lock(rt, &mut self.pass);
         let mut bell = Ringer::new();
-        let core = pass.lock.value_mut(&self.mutex, &held);
+        let core = self.pass.lock.value_mut(&channel.mutex, &held);
         let sent = send_round(core, from, limit, &mut bell);
-        self.give_back::<SentManyOrKept<M, L>>(pass, held, bell);
+        channel.give_back::<Sends>(&mut self.pass, held, bell);
         sent
     }
 
@@ -307,126 +306,109 @@ impl<T: Drop, V, P: Protocol<T, V>> RuledChannel<T, V, P> {
     /// the first message is taken.
     ///
     /// ```
-    /// let (channel, mut pass) = bounded_with::<u64, (), Unruled>(rt.alloc(), 1)?;
-    /// let sent = channel.try_send_as::<Unruled, Unruled, _>(&rt, &mut pass, 5)?;
-    /// assert_eq!(rt; sent, Ok(()));
+    /// let (channel, pass) = bounded_with::<u64, Unruled>(rt.alloc(), 1)?;
+    /// let mut endpoint = Endpoint::new(&channel, pass);
+    /// assert_eq!(rt; endpoint.try_send(&rt, 5)?, Ok(()));
     /// let mut into = Vec::new(rt.alloc());
-    /// let got = channel
-    ///     .try_recv_many_as::<Unruled, Unruled, Unruled, _>(&rt, &mut pass, &mut into, 2)?;
-    /// assert_eq!(rt; got, Ok(1));
+    /// assert_eq!(rt; endpoint.try_recv_many(&rt, &mut into, 2)?, Ok(1));
     /// ```
-    pub fn try_recv_many_as<M: Received<T, V>, E: AtEnd<V>, L: Lesson<T, V>, R: Wait>(
-        &self,
-        rt: &R,
-        pass: &mut Pass<T, V>,
+    pub fn try_recv_many(
+        &mut self,
+        rt: &impl Wait,
         into: &mut Vec<T>,
         limit: usize,
     ) -> Result<Result<usize, TryRecvError>, OutOfMemory>
-        requires own { IsPassOf self.now pass.old }
-        requires rule { ReceivesMany (P.holds (key_of self.now)) (number pass.old) (view pass.old)
-            limit M.then }
-        requires end { Ends (P.holds (key_of self.now)) (number pass.old) (view pass.old) E.then }
-        requires lesson { Learns (P.holds (key_of self.now)) (number pass.old) (view pass.old)
-            (L.fact (view pass.old)) }
-        ensures own { IsPassOf self.now pass.new × IsSamePass pass.old pass.new }
-        ensures received { IfOk result (λ answer. IfOk answer (λ count. TellsEach M.then
-            (view pass.old) (take count (found pass.new).messages) (view pass.new))) }
-        ensures refused { IfOk result (λ answer. IfErr answer (FindsNone E.then
-            (L.fact (view pass.old)) (view pass.old) (view pass.new))) }
-        ensures memory { OnErr result (view pass.new ≡ view pass.old) }
-        ensures limit { moved_count result ≤ limit }
-        ensures kept { take (length into.old.items) into.new.items ≡ into.old.items }
-        ensures count { length into.new.items ≡ length into.old.items + moved_count result }
-        ensures reply { IfOk result (λ answer. answer
-            ≡ counted (taken_count limit (found pass.new))
-            (try_recv_answer (oldest (found pass.new)) (found pass.new).closed)) }
+        requires may { MayReceiveMany (P.may (key self.old)) P.tells (view self.old) limit }
+        ensures same { IsSame self.old self.new }
+        ensures count { (moved_count result ≤ limit)
+            × (length into.new.items ≡ length into.old.items + moved_count result) }
         ensures taken { into.new.items
-            ≡ into.old.items ++ take (moved_count result) (found pass.new).messages }
-        ensures step { HasMade (received_many (moved_count result)) pass.new }
+            ≡ into.old.items ++ take (moved_count result) (found self.new).messages }
+        ensures reply { IfOk result (λ answer. answer
+            ≡ counted (taken_count limit (found self.new))
+            (try_recv_answer (oldest (found self.new)) (found self.new).closed)) }
+        ensures step { HasMade (received_many (moved_count result)) self.new }
+        ensures received { IfOk result (λ answer. OnOk answer (Tells P.tells (view self.old)
+            (map Received (take (moved_count result) (found self.new).messages))
+            (view self.new))) }
+        ensures end { result ≡ Ok (Err Ended) → P.tells (view self.old) FoundEnd (view self.new) }
+        ensures empty { result ≡ Ok (Err Empty) → view self.new ≡ view self.old }
+        ensures fits { Fits (P.holds (key self.old)) (view self.old) (state_of (found self.new)) }
+        ensures memory { OnErr result (view self.new ≡ view self.old) }
         ensures wanted { OnErr result (vec_capacity into.old
-            < vec_len into.old + taken_count limit (found pass.new)) }
+            < vec_len into.old + taken_count limit (found self.new)) }
     {
-        let held = self.lock(rt, pass);
+        let channel = self.channel;
+        let held = channel.lock(rt, &mut self.pass);
         let mut bell = Ringer::new();
-        let core = pass.lock.value_mut(&self.mutex, &held);
+        let core = self.pass.lock.value_mut(&channel.mutex, &held);
         let taken = take_round(core, into, limit, &mut bell);
-        self.give_back::<ReceivedManyOrKept<M, E, L>>(pass, held, bell);
+        channel.give_back::<Receives>(&mut self.pass, held, bell);
         taken
     }
 
     /// Polls a send of many: what fits of `from` goes in, from the front and up to `limit`, and if
     /// nothing does a mark is left in the list of sends.
     ///
-    /// It is for who keeps the ticket and the waiter, as `send_or_wait_as` is.
+    /// It is for who keeps the ticket and the waiter, as `poll_send` is.
     ///
     /// ```
-    /// let (channel, mut pass) = bounded_with::<u64, (), Unruled>(rt.alloc(), 1)?;
+    /// let (channel, pass) = bounded_with::<u64, Unruled>(rt.alloc(), 1)?;
+    /// let mut endpoint = Endpoint::new(&channel, pass);
     /// let mut from = VecDeque::new(rt.alloc());
     /// from.push_back(5)?;
     /// let (mut ticket, mut sleeper) = (None, Sleeper::new());
-    /// let polled = channel
-    ///     .send_many_or_wait_as::<Unruled, Unruled, _, _, _>(
-    ///         &rt, &mut pass, &mut from, 2, &mut ticket, &mut sleeper, &mut (),
-    ///     );
+    /// let polled =
+    ///     endpoint.poll_send_many(&rt, &mut from, 2, &mut ticket, &mut sleeper, &mut ());
     /// assert_eq!(rt; polled, Ok(Poll::Ready(Ok(1))));
     /// Ticket::destroy_none(ticket);
     /// ```
-    pub fn send_many_or_wait_as<M, L, R, C, W>(
-        &self,
-        rt: &R,
-        pass: &mut Pass<T, V>,
+    pub fn poll_send_many<X, W: Waiter<X>>(
+        &mut self,
+        rt: &impl Wait,
         from: &mut VecDeque<T, Global>,
         limit: usize,
         ticket: &mut Option<Ticket>,
         waiter: &mut W,
-        cx: &mut C,
+        cx: &mut X,
     ) -> Result<Poll<Result<usize, SendError<()>>>, OutOfMemory>
-    where
-        M: Sent<T, V>,
-        L: Lesson<T, V>,
-        R: Wait,
-        W: Waiter<C>,
-        requires own { IsPassOf self.now pass.old }
-        requires rule { SendsMany (P.holds (key_of self.now)) (number pass.old) (view pass.old)
-            from.old.items M.then }
-        requires lesson { Learns (P.holds (key_of self.now)) (number pass.old) (view pass.old)
-            (L.fact (view pass.old)) }
         requires some { 0 < length from.old.items }
         requires limited { 0 < limit }
-        ensures own { IsPassOf self.now pass.new × IsSamePass pass.old pass.new }
-        ensures sent { TellsEach M.then (view pass.old) (take (polled_count result) from.old.items)
-            (view pass.new) }
-        ensures refused { IfOk result (λ poll. IfReady poll (λ sent. OnErr sent
-            (LearnedOf IsClosed (L.fact (view pass.old))))) }
-        ensures full { OnWait result (LearnedOf IsFull (L.fact (view pass.old))) }
-        ensures memory { OnErr result (WantsToSend (L.fact (view pass.old))) }
+        requires may { MayEach (P.may (key self.old)) P.tells (view self.old)
+            (map Sent from.old.items) }
+        ensures same { IsSame self.old self.new }
+        ensures count { (polled_count result ≤ limit)
+            × (polled_count result ≤ length from.old.items) }
         ensures sends { IfOk result (λ poll. IfReady poll (λ sent. OnOk sent
             (0 < polled_count result))) }
-        ensures limit { polled_count result ≤ limit }
-        ensures within { polled_count result ≤ length from.old.items }
         ensures rest { from.new.items ≡ drop (polled_count result) from.old.items }
         ensures reply { IfOk result (λ poll. poll ≡ counted_send (polled_count result)
-            (send_poll (slice_get from.old.items 0) (found pass.new).closed
-            (is_channel_full (found pass.new)))) }
+            (send_poll (slice_get from.old.items 0) (found self.new).closed
+            (is_channel_full (found self.new)))) }
         ensures step { OnReady result ((ticket.new ≡ None)
             × HasMade (polled_sends ticket.old (take (polled_count result) from.old.items))
-            pass.new) }
+            self.new) }
         ensures stops { IfOk result (λ poll. IfReady poll (λ sent. OnOk sent
-            (polled_count result < limit → CanSendNoMore from.new.items (made pass.new)))) }
-        ensures waits { OnWait result ((w : Mark) × W.waits_by cx.new (source_of self.now) w
+            (polled_count result < limit → CanSendNoMore from.new.items (made self.new)))) }
+        ensures sent { Tells P.tells (view self.old)
+            (map Sent (take (polled_count result) from.old.items)) (view self.new) }
+        ensures fits { Fits (P.holds (key self.old)) (view self.old) (state_of (found self.new)) }
+
+        ensures waits { OnWait result ((w : Mark) × W.waits_by cx.new (source self.new) w
             × IsSome ticket.new × SendWaits (slice_get from.old.items 0) ticket.old
-            (found pass.new) w ticket.new (made pass.new) × (woken pass.new ≡ [])) }
+            (found self.new) w ticket.new (made self.new) × (woken self.new ≡ [])) }
         ensures keeps { W.keeps cx.old cx.new }
-        ensures unpolled { OnErr result ((ticket.new ≡ ticket.old) × HasMade unchanged pass.new) }
-        ensures wanted { OnErr result (GrowsWithMessages (found pass.new)
-            ⊎ (send_poll (slice_get from.old.items 0) (found pass.new).closed
-            (is_channel_full (found pass.new)) ≡ Pending)) }
+        ensures unpolled { OnErr result ((ticket.new ≡ ticket.old) × HasMade unchanged self.new) }
+        ensures wanted { OnErr result (GrowsWithMessages (found self.new)
+            ⊎ (send_poll (slice_get from.old.items 0) (found self.new).closed
+            (is_channel_full (found self.new)) ≡ Pending)) }
     {
-        let held = self.lock(rt, pass);
+        let channel = self.channel;
+        let held = channel.lock(rt, &mut self.pass);
         let mut bell = Ringer::new();
-        let core = pass.lock.value_mut(&self.mutex, &held);
-        let polled = self.poll_send_many(core, from, limit, ticket, waiter, cx, &mut bell);
-        self.give_back::<SentManyOrKept<M, L>>(pass, held, bell);
+        let core = self.pass.lock.value_mut(&channel.mutex, &held);
+        let polled = channel.poll_send_many(core, from, limit, ticket, waiter, cx, &mut bell);
+        channel.give_back::<Sends>(&mut self.pass, held, bell);
         polled
     }
 
@@ -434,77 +416,66 @@ impl<T: Drop, V, P: Protocol<T, V>> RuledChannel<T, V, P> {
     /// in the list of receives. The room for what is there is asked for before the first message is
     /// taken.
     ///
-    /// It is for who keeps the ticket and the waiter, as `recv_or_wait_as` is.
+    /// It is for who keeps the ticket and the waiter, as `poll_recv` is.
     ///
     /// ```
-    /// let (channel, mut pass) = bounded_with::<u64, (), Unruled>(rt.alloc(), 1)?;
-    /// let sent = channel.try_send_as::<Unruled, Unruled, _>(&rt, &mut pass, 5)?;
-    /// assert_eq!(rt; sent, Ok(()));
+    /// let (channel, pass) = bounded_with::<u64, Unruled>(rt.alloc(), 1)?;
+    /// let mut endpoint = Endpoint::new(&channel, pass);
+    /// assert_eq!(rt; endpoint.try_send(&rt, 5)?, Ok(()));
     /// let mut into = Vec::new(rt.alloc());
     /// let (mut ticket, mut sleeper) = (None, Sleeper::new());
-    /// let polled = channel
-    ///     .recv_many_or_wait_as::<Unruled, Unruled, _, _, _>(
-    ///         &rt, &mut pass, &mut into, 2, &mut ticket, &mut sleeper, &mut (),
-    ///     );
+    /// let polled =
+    ///     endpoint.poll_recv_many(&rt, &mut into, 2, &mut ticket, &mut sleeper, &mut ());
     /// assert_eq!(rt; polled, Ok(Poll::Ready(1)));
     /// Ticket::destroy_none(ticket);
     /// ```
-    pub fn recv_many_or_wait_as<M, E, R, C, W>(
-        &self,
-        rt: &R,
-        pass: &mut Pass<T, V>,
+    pub fn poll_recv_many<X, W: Waiter<X>>(
+        &mut self,
+        rt: &impl Wait,
         into: &mut Vec<T>,
         limit: usize,
         ticket: &mut Option<Ticket>,
         waiter: &mut W,
-        cx: &mut C,
+        cx: &mut X,
     ) -> Result<Poll<usize>, OutOfMemory>
-    where
-        M: Received<T, V>,
-        E: AtEnd<V>,
-        R: Wait,
-        W: Waiter<C>,
-        requires own { IsPassOf self.now pass.old }
-        requires rule { ReceivesMany (P.holds (key_of self.now)) (number pass.old) (view pass.old)
-            limit M.then }
-        requires end { Ends (P.holds (key_of self.now)) (number pass.old) (view pass.old) E.then }
         requires limited { 0 < limit }
-        ensures own { IsPassOf self.now pass.new × IsSamePass pass.old pass.new }
-        ensures received { IfOk result (λ poll. IfReady poll (λ count. 0 < count → TellsEach M.then
-            (view pass.old) (take count (found pass.new).messages) (view pass.new))) }
-        ensures end { IfOk result (λ poll. IfReady poll (λ count. count ≡ 0
-            → E.then (view pass.old) (view pass.new))) }
-        ensures empty { OnWait result ((view pass.new ≡ view pass.old)
-            × LearnedOf IsEmpty (Fitted P.holds (view pass.old))) }
-        ensures memory { OnErr result (view pass.new ≡ view pass.old) }
-        ensures limit { IfOk result (λ poll. IfReady poll (λ count. count ≤ limit)) }
-        ensures kept { take (length into.old.items) into.new.items ≡ into.old.items }
-        ensures count { IfOk result (λ poll. IfReady poll (λ count. length into.new.items
-            ≡ length into.old.items + count)) }
-        ensures reply { IfOk result (λ poll. poll
-            ≡ counted_poll (taken_count limit (found pass.new))
-            (recv_poll (oldest (found pass.new)) (found pass.new).closed)) }
+        requires may { MayReceiveMany (P.may (key self.old)) P.tells (view self.old) limit }
+        ensures same { IsSame self.old self.new }
+        ensures count { IfOk result (λ poll. IfReady poll (λ count. (count ≤ limit)
+            × (length into.new.items ≡ length into.old.items + count))) }
         ensures taken { OnReady result (into.new.items ≡ into.old.items
-            ++ take (taken_count limit (found pass.new)) (found pass.new).messages) }
+            ++ take (taken_count limit (found self.new)) (found self.new).messages) }
+        ensures reply { IfOk result (λ poll. poll
+            ≡ counted_poll (taken_count limit (found self.new))
+            (recv_poll (oldest (found self.new)) (found self.new).closed)) }
         ensures step { OnReady result ((ticket.new ≡ None)
             × HasMade (λ channel. polled_receives ticket.old (taken_count limit channel) channel)
-            pass.new) }
-        ensures untouched { OnWait result (into.new.items ≡ into.old.items) }
-        ensures waits { OnWait result ((w : Mark) × W.waits_by cx.new (source_of self.now) w
-            × IsSome ticket.new × RecvWaits ticket.old (found pass.new) w ticket.new (made pass.new)
-            × (woken pass.new ≡ [])) }
+            self.new) }
+        ensures received { IfOk result (λ poll. IfReady poll (λ count. 0 < count
+            → Tells P.tells (view self.old) (map Received (take count (found self.new).messages))
+            (view self.new))) }
+        ensures end { IfOk result (λ poll. IfReady poll (λ count. count ≡ 0
+            → P.tells (view self.old) FoundEnd (view self.new))) }
+        ensures fits { Fits (P.holds (key self.old)) (view self.old) (state_of (found self.new)) }
+
+        ensures waits { OnWait result ((w : Mark) × W.waits_by cx.new (source self.new) w
+            × IsSome ticket.new × RecvWaits ticket.old (found self.new) w ticket.new (made self.new)
+            × (woken self.new ≡ []) × (into.new.items ≡ into.old.items)
+            × (view self.new ≡ view self.old)) }
         ensures keeps { W.keeps cx.old cx.new }
         ensures unpolled { OnErr result ((into.new.items ≡ into.old.items)
-            × (ticket.new ≡ ticket.old) × HasMade unchanged pass.new) }
+            × (ticket.new ≡ ticket.old) × HasMade unchanged self.new
+            × (view self.new ≡ view self.old)) }
         ensures wanted { OnErr result
-            ((recv_poll (oldest (found pass.new)) (found pass.new).closed ≡ Pending)
-            ⊎ (vec_capacity into.old < vec_len into.old + taken_count limit (found pass.new))) }
+            ((recv_poll (oldest (found self.new)) (found self.new).closed ≡ Pending)
+            ⊎ (vec_capacity into.old < vec_len into.old + taken_count limit (found self.new))) }
     {
-        let held = self.lock(rt, pass);
+        let channel = self.channel;
+        let held = channel.lock(rt, &mut self.pass);
         let mut bell = Ringer::new();
-        let core = pass.lock.value_mut(&self.mutex, &held);
-        let polled = self.poll_recv_many(core, into, limit, ticket, waiter, cx, &mut bell);
-        self.give_back::<ReceivedManyOrKept<M, E, Seen<P>>>(pass, held, bell);
+        let core = self.pass.lock.value_mut(&channel.mutex, &held);
+        let polled = channel.poll_recv_many(core, into, limit, ticket, waiter, cx, &mut bell);
+        channel.give_back::<Receives>(&mut self.pass, held, bell);
         polled
     }
 }

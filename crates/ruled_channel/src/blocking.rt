@@ -3,15 +3,13 @@
 //! A blocking call looks a few times, and pauses in between. Who can't go on then leaves its mark in
 //! the core's list, under the lock, and sleeps until just this mark is rung.
 ghost use Rattle.std.specs.Prelude.{◌≡◌, IfOk, IfErr, OnErr};
-ghost use Rattle.ruled_channel.specs.State.{IsClosed, IsEmpty};
-ghost use Rattle.ruled_channel.specs.Rule.{Sends, Receives, Ends, Learns, Fitted};
-ghost use Rattle.ruled_channel.specs.Passes.{IsPassOf, IsSamePass, LearnedOf, WantsToSend, key_of, number, view};
-ghost use Rattle.ruled_channel.specs.Steps.{HasMadeWith, HasReceived, HasSent, receive_given_up, send_given_up};
+ghost use Rattle.ruled_channel.specs.declared.protocol.Event.TheVariants.{Sent, Received, FoundEnd};
+ghost use Rattle.ruled_channel.specs.State.{state_of};
+ghost use Rattle.ruled_channel.specs.Rule.{Fits, MayReceive};
+ghost use Rattle.ruled_channel.specs.Steps.{receive_given_up, send_given_up};
 
-use crate::channel::RuledChannel;
+use crate::endpoint::Endpoint;
 use crate::mark::Sleeper;
-use crate::outcomes::{AtEnd, Lesson, Received, Seen, Sent};
-use crate::pass::Pass;
 use crate::protocol::Protocol;
 use channel_core::{
     Group, NoMemory, OutOfMemory, RecvError, SendError, Ticket, TryRecvError, TrySendError,
@@ -39,66 +37,58 @@ fn pause_between_looks() {
     }
 }
 
-impl<T: Drop, V, P: Protocol<T, V>> RuledChannel<T, V, P> {
+impl<T: Drop, P: Protocol<T>> Endpoint<'_, T, P> {
+    ghost use Rattle.ruled_channel.specs.Endpoints.{HasMadeWith, HasReceived, HasSent, IsSame, found, key, view};
+
     /// Puts a message last, and blocks its thread while the channel is full. A closed channel hands
     /// it back. The outer error, with the message, says that memory was refused: to an unbounded
     /// channel, or when the call began to wait at a full one.
     ///
     /// ```
-    /// let (channel, mut pass) = bounded_with::<u64, (), Unruled>(rt.alloc(), 1)?;
-    /// let sent = channel.send_blocking_as::<Unruled, Unruled, _>(&rt, &mut pass, 5)?;
-    /// assert_eq!(rt; sent, Ok(()));
-    /// let got = channel.recv_blocking_as::<Unruled, Unruled, _>(&rt, &mut pass)?;
-    /// assert_eq!(rt; got, Ok(5));
+    /// let (channel, pass) = bounded_with::<u64, Unruled>(rt.alloc(), 1)?;
+    /// let mut endpoint = Endpoint::new(&channel, pass);
+    /// assert_eq!(rt; endpoint.send_blocking(&rt, 5)?, Ok(()));
+    /// assert_eq!(rt; endpoint.recv_blocking(&rt)?, Ok(5));
     /// ```
-    #[tactic(auto, using(crate::proofs::Same::sends_same, crate::proofs::Same::learns_same, crate::proofs::Made::has_sent, crate::proofs::Made::has_sent_at_once, crate::proofs::Made::is_turned_back, crate::proofs::Made::is_turned_back_at_once, crate::proofs::Made::leaves_sends))]
-    pub fn send_blocking_as<M: Sent<T, V>, L: Lesson<T, V>, R: Wait>(
-        &self,
-        rt: &R,
-        pass: &mut Pass<T, V>,
+    #[tactic(auto, using(crate::proofs::Made::has_polled_send, crate::proofs::Made::has_sent_at_once, crate::proofs::Made::is_turned_back_at_once, crate::proofs::Made::leaves_sends))]
+    pub fn send_blocking(
+        &mut self,
+        rt: &impl Wait,
         message: T,
     ) -> Result<Result<(), SendError<T>>, NoMemory<T>>
-        requires own { IsPassOf self.now pass.old }
-        requires rule { Sends (P.holds (key_of self.now)) (number pass.old) (view pass.old) message
-            M.then }
-        requires lesson { Learns (P.holds (key_of self.now)) (number pass.old) (view pass.old)
-            (L.fact (view pass.old)) }
-        ensures own { IsPassOf self.now pass.new × IsSamePass pass.old pass.new }
+        requires may { P.may (key self.old) (view self.old) (Sent message) }
+        ensures same { IsSame self.old self.new }
+        ensures step { IfOk result (λ answer. HasSent message answer self.new) }
         ensures sent { IfOk result (λ answer. IfOk answer
-            (λ _. M.then (view pass.old) message (view pass.new))) }
+            (λ _. P.tells (view self.old) (Sent message) (view self.new))) }
         ensures refused { IfOk result (λ answer. IfErr answer
-            (λ error. (error.0 ≡ message) × (view pass.new ≡ view pass.old)
-            × LearnedOf IsClosed (L.fact (view pass.old)))) }
+            (λ error. (error.0 ≡ message) × (view self.new ≡ view self.old))) }
+        ensures fits { IfOk result (λ _. Fits (P.holds (key self.old)) (view self.old)
+            (state_of (found self.new))) }
         ensures memory { IfErr result
-            (λ error. (error.0 ≡ message) × (view pass.new ≡ view pass.old)
-            × WantsToSend (L.fact (view pass.old))) }
-        ensures step { IfOk result (λ answer. HasSent message answer pass.new) }
-        ensures given_up { OnErr result (HasMadeWith send_given_up pass.new) }
+            (λ error. (error.0 ≡ message) × (view self.new ≡ view self.old)) }
+        ensures given_up { OnErr result (HasMadeWith send_given_up self.new) }
     {
         let mut waiting = message;
         for _look in 0..LOOKS {
-            match self.try_send_as::<M, L, R>(rt, pass, waiting)? {
+            match self.try_send(rt, waiting)? {
                 Ok(()) => return Ok(Ok(())),
                 Err(TrySendError::Closed(back)) => return Ok(Err(SendError(back))),
                 Err(TrySendError::Full(back)) => waiting = back,
             }
             pause_between_looks();
         }
-        let (mut ticket, mut sleeper) = (None, Sleeper::new());
+        let (mut waiting, mut ticket, mut sleeper) = (Some(waiting), None, Sleeper::new());
         for _turn in rt.forever() {
-            let (t, waiter, cx) = (&mut ticket, &mut sleeper, &mut ());
-            let polled = self.send_or_wait_as::<M, L, R, _, _>(rt, pass, waiting, t, waiter, cx);
-            let sent = match polled {
-                Ok(Ok(())) => Ok(Ok(())),
-                Ok(Err(TrySendError::Closed(back))) => Ok(Err(SendError(back))),
-                Ok(Err(TrySendError::Full(back))) => {
-                    waiting = back;
+            let sent = match self.poll_send(rt, &mut waiting, &mut ticket, &mut sleeper, &mut ()) {
+                Ok(Poll::Ready(answer)) => Ok(answer),
+                Ok(Poll::Pending) => {
                     sleeper.sleep(rt);
                     continue;
                 }
-                Err(refused) => {
-                    self.give_up(rt, pass, Group::Sends, &mut ticket);
-                    Err(refused)
+                Err(OutOfMemory) => {
+                    self.give_up(rt, Group::Sends, &mut ticket);
+                    Err(NoMemory(waiting.unwrap()))
                 }
             };
             Ticket::destroy_none(ticket);
@@ -111,33 +101,27 @@ impl<T: Drop, V, P: Protocol<T, V>> RuledChannel<T, V, P> {
     /// outer error says that memory was refused when the call began to wait.
     ///
     /// ```
-    /// let (channel, mut pass) = bounded_with::<u64, (), Unruled>(rt.alloc(), 1)?;
-    /// assert!(rt; channel.close_as::<Unruled, _>(&rt, &mut pass));
-    /// let end = channel.recv_blocking_as::<Unruled, Unruled, _>(&rt, &mut pass)?;
-    /// assert_eq!(rt; end, Err(RecvError));
+    /// let (channel, pass) = bounded_with::<u64, Unruled>(rt.alloc(), 1)?;
+    /// let mut endpoint = Endpoint::new(&channel, pass);
+    /// assert!(rt; endpoint.close(&rt));
+    /// assert_eq!(rt; endpoint.recv_blocking(&rt)?, Err(RecvError));
     /// ```
-    #[tactic(auto, using(crate::proofs::Same::receives_same, crate::proofs::Same::ends_same, crate::proofs::Made::has_received, crate::proofs::Made::has_ended))]
-    pub fn recv_blocking_as<M: Received<T, V>, E: AtEnd<V>, R: Wait>(
-        &self,
-        rt: &R,
-        pass: &mut Pass<T, V>,
-    ) -> Result<Result<T, RecvError>, OutOfMemory>
-        requires own { IsPassOf self.now pass.old }
-        requires rule { Receives (P.holds (key_of self.now)) (number pass.old) (view pass.old)
-            M.then }
-        requires end { Ends (P.holds (key_of self.now)) (number pass.old) (view pass.old) E.then }
-        ensures own { IsPassOf self.now pass.new × IsSamePass pass.old pass.new }
+    #[tactic(auto, using(crate::proofs::Made::has_received, crate::proofs::Made::has_ended, crate::proofs::Made::has_polled_receive))]
+    pub fn recv_blocking(&mut self, rt: &impl Wait) -> Result<Result<T, RecvError>, OutOfMemory>
+        requires may { MayReceive (P.may (key self.old) (view self.old)) }
+        ensures same { IsSame self.old self.new }
+        ensures step { IfOk result (λ answer. HasReceived answer self.new) }
         ensures received { IfOk result (λ answer. IfOk answer
-            (λ message. M.then (view pass.old) message (view pass.new))) }
-        ensures end { IfOk result (λ answer. IfErr answer
-            (λ _. E.then (view pass.old) (view pass.new))) }
-        ensures memory { OnErr result ((view pass.new ≡ view pass.old)
-            × LearnedOf IsEmpty (Fitted P.holds (view pass.old))) }
-        ensures step { IfOk result (λ answer. HasReceived answer pass.new) }
-        ensures given_up { OnErr result (HasMadeWith receive_given_up pass.new) }
+            (λ message. P.tells (view self.old) (Received message) (view self.new))) }
+        ensures end { IfOk result (λ answer. OnErr answer
+            (P.tells (view self.old) FoundEnd (view self.new))) }
+        ensures fits { IfOk result (λ _. Fits (P.holds (key self.old)) (view self.old)
+            (state_of (found self.new))) }
+        ensures memory { OnErr result (view self.new ≡ view self.old) }
+        ensures given_up { OnErr result (HasMadeWith receive_given_up self.new) }
     {
         for _look in 0..LOOKS {
-            match self.try_recv_as::<M, E, Seen<P>, R>(rt, pass) {
+            match self.try_recv(rt) {
                 Ok(message) => return Ok(Ok(message)),
                 Err(TryRecvError::Closed) => return Ok(Err(RecvError)),
                 Err(TryRecvError::Empty) => pause_between_looks(),
@@ -145,16 +129,14 @@ impl<T: Drop, V, P: Protocol<T, V>> RuledChannel<T, V, P> {
         }
         let (mut ticket, mut sleeper) = (None, Sleeper::new());
         for _turn in rt.forever() {
-            let (t, waiter, cx) = (&mut ticket, &mut sleeper, &mut ());
-            let polled = self.recv_or_wait_as::<M, E, R, _, _>(rt, pass, t, waiter, cx);
-            let received = match polled {
+            let received = match self.poll_recv(rt, &mut ticket, &mut sleeper, &mut ()) {
                 Ok(Poll::Ready(answer)) => Ok(answer),
                 Ok(Poll::Pending) => {
                     sleeper.sleep(rt);
                     continue;
                 }
                 Err(OutOfMemory) => {
-                    self.give_up(rt, pass, Group::Receives, &mut ticket);
+                    self.give_up(rt, Group::Receives, &mut ticket);
                     Err(OutOfMemory)
                 }
             };

@@ -1,26 +1,23 @@
-//! Looks at the channel. Others may have changed it before the answer is read.
+//! What is in a channel, and who waits there.
 ghost use Rattle.std.specs.Prelude.{◌≡◌, ◌≤◌, length};
-ghost use Rattle.event_list.specs.Waiting.{keys, told_count};
 ghost use Rattle.channel_core.specs.Channel.{list_of, unchanged};
+ghost use Rattle.event_list.specs.Waiting.{keys, told_count};
 ghost use Rattle.ruled_channel.specs.State.{state_of};
-ghost use Rattle.ruled_channel.specs.Rule.{Learns};
-ghost use Rattle.ruled_channel.specs.Passes.{IsPassOf, IsSamePass, key_of, number, view};
-ghost use Rattle.ruled_channel.specs.Steps.{HasMade, found, status_of};
+ghost use Rattle.ruled_channel.specs.Rule.{Fits};
+ghost use Rattle.ruled_channel.specs.Steps.{status_of};
 
-use crate::channel::RuledChannel;
-use crate::outcomes::{Kept, Lesson};
-use crate::pass::Pass;
+use crate::endpoint::Endpoint;
+use crate::events::Looks;
 use crate::protocol::Protocol;
 use crate::ringer::Ringer;
 use channel_core::Group;
-use ruled_mutex::Unruled;
 use std::sync::Wait;
 
 /// What there was in a channel at one moment.
 ///
 /// ```
-/// let (channel, mut pass) = bounded_with::<u64, (), Unruled>(rt.alloc(), 4)?;
-/// let status = channel.learn_as::<Unruled, _>(&rt, &mut pass);
+/// let (channel, pass) = bounded_with::<u64, Unruled>(rt.alloc(), 4)?;
+/// let status = Endpoint::new(&channel, pass).status(&rt);
 /// assert!(rt; !status.is_closed && !status.is_full);
 /// assert_eq!(rt; (status.len, status.sender_count, status.receiver_count), (0, 1, 1));
 /// ```
@@ -41,8 +38,8 @@ pub struct Status {
 /// How many operations or blocked calls wait for the same, and how many of them are told.
 ///
 /// ```
-/// let (channel, mut pass) = bounded_with::<u64, (), Unruled>(rt.alloc(), 4)?;
-/// let waiters = channel.who_waits(&rt, &mut pass, Group::Receives);
+/// let (channel, pass) = bounded_with::<u64, Unruled>(rt.alloc(), 4)?;
+/// let waiters = Endpoint::new(&channel, pass).who_waits(&rt, Group::Receives);
 /// assert_eq!(rt; waiters, Waiters { waiting: 0, told: 0 });
 /// ```
 #[derive(Clone, Copy, Debug, PartialEq, Eq)]
@@ -53,28 +50,28 @@ pub struct Waiters {
     pub told: usize,
 }
 
-impl<T: Drop, V, P: Protocol<T, V>> RuledChannel<T, V, P> {
-    /// Looks at the channel, and learns what the rule says of what is there at that moment.
+impl<T: Drop, P: Protocol<T>> Endpoint<'_, T, P> {
+    ghost use Rattle.ruled_channel.specs.Endpoints.{HasMade, IsSame, found, key, view};
+
+    /// Looks at the channel. The rule held of what is there at that moment.
     ///
     /// ```
-    /// let (channel, mut pass) = bounded_with::<u64, (), Unruled>(rt.alloc(), 1)?;
-    /// let sent = channel.try_send_as::<Unruled, Unruled, _>(&rt, &mut pass, 5)?;
-    /// assert_eq!(rt; sent, Ok(()));
-    /// assert!(rt; channel.learn_as::<Unruled, _>(&rt, &mut pass).is_full);
+    /// let (channel, pass) = bounded_with::<u64, Unruled>(rt.alloc(), 1)?;
+    /// let mut endpoint = Endpoint::new(&channel, pass);
+    /// assert_eq!(rt; endpoint.try_send(&rt, 5)?, Ok(()));
+    /// assert!(rt; endpoint.status(&rt).is_full);
     /// ```
     #[inline]
-    pub fn learn_as<L: Lesson<T, V>, R: Wait>(&self, rt: &R, pass: &mut Pass<T, V>) -> Status
-        requires own { IsPassOf self.now pass.old }
-        requires rule { Learns (P.holds (key_of self.now)) (number pass.old) (view pass.old)
-            (L.fact (view pass.old)) }
-        ensures own { IsPassOf self.now pass.new × IsSamePass pass.old pass.new }
-        ensures same { view pass.new ≡ view pass.old }
-        ensures learned { L.fact (view pass.old) (state_of (found pass.new)) }
-        ensures reply { result ≡ status_of (found pass.new) }
-        ensures step { HasMade unchanged pass.new }
+    pub fn status(&mut self, rt: &impl Wait) -> Status
+        ensures same { IsSame self.old self.new × (view self.new ≡ view self.old) }
+        ensures reply { result ≡ status_of (found self.new) }
+        ensures step { HasMade unchanged self.new }
+        ensures fits { Fits (P.holds (key self.old)) (view self.old)
+            (state_of (found self.new)) }
     {
-        let held = self.lock(rt, pass);
-        let core = pass.lock.value_mut(&self.mutex, &held);
+        let channel = self.channel;
+        let held = channel.lock(rt, &mut self.pass);
+        let core = self.pass.lock.value_mut(&channel.mutex, &held);
         let status = Status {
             is_closed: core.is_closed(),
             is_full: core.is_full(),
@@ -82,32 +79,32 @@ impl<T: Drop, V, P: Protocol<T, V>> RuledChannel<T, V, P> {
             sender_count: core.sender_count(),
             receiver_count: core.receiver_count(),
         };
-        self.give_back::<Kept<L>>(pass, held, Ringer::new());
+        channel.give_back::<Looks>(&mut self.pass, held, Ringer::new());
         status
     }
 
     /// Who waits in the group.
     ///
     /// ```
-    /// let (channel, mut pass) = bounded_with::<u64, (), Unruled>(rt.alloc(), 4)?;
-    /// assert_eq!(rt; channel.who_waits(&rt, &mut pass, Group::Sends).waiting, 0);
+    /// let (channel, pass) = bounded_with::<u64, Unruled>(rt.alloc(), 4)?;
+    /// let mut endpoint = Endpoint::new(&channel, pass);
+    /// assert_eq!(rt; endpoint.who_waits(&rt, Group::Sends).waiting, 0);
     /// ```
-    pub fn who_waits<R: Wait>(&self, rt: &R, pass: &mut Pass<T, V>, group: Group) -> Waiters
-        requires { IsPassOf self.now pass.old }
-        ensures own { IsPassOf self.now pass.new × IsSamePass pass.old pass.new }
-        ensures same { view pass.new ≡ view pass.old }
+    pub fn who_waits(&mut self, rt: &impl Wait, group: Group) -> Waiters
+        ensures same { IsSame self.old self.new × (view self.new ≡ view self.old) }
         ensures told { result.told ≤ result.waiting }
-        ensures reply { (result.waiting ≡ length (keys (list_of group (found pass.new))))
-            × (result.told ≡ told_count (list_of group (found pass.new))) }
-        ensures step { HasMade unchanged pass.new }
+        ensures reply { (result.waiting ≡ length (keys (list_of group (found self.new))))
+            × (result.told ≡ told_count (list_of group (found self.new))) }
+        ensures step { HasMade unchanged self.new }
     {
-        let held = self.lock(rt, pass);
-        let core = pass.lock.value_mut(&self.mutex, &held);
+        let channel = self.channel;
+        let held = channel.lock(rt, &mut self.pass);
+        let core = self.pass.lock.value_mut(&channel.mutex, &held);
         let waiters = Waiters {
             waiting: core.waiting(group),
             told: core.told(group),
         };
-        self.give_back::<Kept<Unruled>>(pass, held, Ringer::new());
+        channel.give_back::<Looks>(&mut self.pass, held, Ringer::new());
         waiters
     }
 }

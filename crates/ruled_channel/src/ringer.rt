@@ -52,10 +52,10 @@ impl Ringer {
     /// Wakes the first one, once the lock was given back. The answer is who was woken in all, the
     /// first one last.
     #[inline(always)]
-    pub(crate) fn wake_after<T: Drop, V, P: Protocol<T, V>>(
+    pub(crate) fn wake_after<T: Drop, P: Protocol<T>>(
         self,
-        _channel: &RuledChannel<T, V, P>,
-        _pass: &Pass<T, V>,
+        _channel: &RuledChannel<T, P>,
+        _pass: &Pass<T, P>,
     ) -> Woken
         requires free { IsFree _channel.now _pass.now }
         ensures { result ≡ in_turn_of_waking self }

@@ -1,8 +1,5 @@
-pub mod Merging
-pub mod Keeps
 pub mod Settled
 pub mod Stages
-pub mod Forced
-pub mod GivenUp
-pub mod Received
 pub mod Lists
+mod Roles
+mod Collects

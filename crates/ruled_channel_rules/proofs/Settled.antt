@@ -5,7 +5,7 @@ use Rattle.std.proofs.lemmas.List.{append-nil}
 use Rattle.ruled_channel_rules.specs.declared.log.Log.{Log}
 use Rattle.ruled_channel_rules.specs.Merged.{IsMergeOf, HaveArrived, AllArrived}
 use Rattle.ruled_channel_rules.specs.Whole.{hub_log, sender_log, receiver_log, together}
-use Rattle.ruled_channel_rules.proofs.Merging.{alone, to_one, to_one_but}
+use Rattle.ruled_channel_rules.specs.Merging.{alone, to_one, to_one_but}
 
 module _ {T : Type 0} where
   -- the one sender comes back

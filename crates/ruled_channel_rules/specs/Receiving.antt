@@ -1,66 +1,47 @@
--- What a receive keeps while it waits, and what it gives.
-use Rattle.std.specs.Prelude.{◌≡◌, true, List, [], ◌∷◌, ◌++◌, Option, Result, IsSomeAnd, IfOk, IfErr}
-use Rattle.channel_core.specs.Channel.{Channel as CoreChannel, Change}
+-- What a receive as a future gives, and what a receive of several messages does.
+use Rattle.std.specs.Prelude.{◌≡◌, ℕ, true, List, [], ◌∷◌, ◌++◌, Option, Some, None, Result, IsSomeAnd, IfOk, IfSome, OnErr}
+use Rattle.channel_core.specs.Channel.{RecvWaits}
 use Rattle.channel_core.specs.declared.errors.OutOfMemory.{OutOfMemory}
 use Rattle.channel_core.specs.declared.errors.RecvError.{RecvError}
-use Rattle.channel_core.specs.declared.errors.TryRecvError.{TryRecvError}
-use Rattle.channel_core.specs.declared.errors.TryRecvError.TheVariants.{Empty, Closed}
-use Rattle.ruled_channel.specs.declared.channel.RuledChannel.{RuledChannel}
 use Rattle.ruled_channel.specs.declared.mark.Mark.{Mark}
-use Rattle.ruled_channel.specs.declared.pass.Pass.{Pass}
-use Rattle.ruled_channel.specs.Steps.{HasMade as HasPassMade, HasMadeWith, HasReceived as HasPassReceived, receive_given_up}
-use Rattle.ruled_channel_rules.specs.declared.log.Log.{Log}
-use Rattle.ruled_channel_rules.specs.declared.log.Whole.{Whole}
-use Rattle.ruled_channel_rules.specs.declared.handles.Channel.{Channel}
-use Rattle.ruled_channel_rules.specs.declared.handles.Receiver.{Receiver}
-use Rattle.ruled_channel_rules.specs.Handles.{IsReceiverOf, got_by, receiver_closed, has_ended}
+use Rattle.ruled_channel.specs.Endpoints.{channel, found, made, view, woken}
+use Rattle.ruled_channel_rules.specs.declared.receiver.Receiver.{Receiver}
+use Rattle.ruled_channel_rules.specs.Whole.{first}
+use Rattle.ruled_channel_rules.specs.Handles.{ReceiverGot, got_by, has_ended, receiver_channel, receiver_closed}
+use Rattle.ruled_channel_rules.specs.Roles.{WholeEndpoint}
 
 module _ {T : Type 0} where
-  -- a receiver that has got nothing more, knows nothing more, and has closed nothing
-  abbrev pub IsAsItWas : Receiver T → Receiver T → Type 0
-  IsAsItWas old new =
-      (got_by new ≡ got_by old) × (receiver_closed new ≡ receiver_closed old)
-      × (has_ended new ≡ has_ended old)
-
-  -- what a receive knows that found no message
-  abbrev pub FoundNone : Receiver T → Receiver T → TryRecvError → Type 0
-  FoundNone old new Empty = IsAsItWas old new
-  FoundNone old new Closed = (got_by new ≡ got_by old) × (has_ended new ≡ true)
-
-  -- its last step was this one of the channel that it found, and all whom that rings were woken
-  abbrev pub HasMade : (CoreChannel T Mark → Change T Mark) → Receiver T → Type 0
-  HasMade step r = HasPassMade step r.pass
-
-  -- that was a receive, and this its answer
-  abbrev pub HasReceived : Result T RecvError → Receiver T → Type 0
-  HasReceived answer r = HasPassReceived answer r.pass
-
-  -- by that it left the list in which it waited, if it did, and its notice went on
-  abbrev pub HasGivenUp : Receiver T → Type 0
-  HasGivenUp r = HasMadeWith receive_given_up r.pass
-
   -- what a receiver has got more is what a list has more at its end
   abbrev pub HasAdded : Receiver T → List T → Receiver T → List T → Type 0
   HasAdded old before new after =
       (came : List T) × (after ≡ before ++ came) × (got_by new ≡ got_by old ++ came)
 
+  -- what its receiver has got
+  abbrev pub got_at : WholeEndpoint T → List T
+  got_at e = first (view e).got
+
   -- The receiver comes back, and has got the message, or has found the channel closed and empty. If
   -- memory was refused, it is as it was. It has closed nothing.
-  abbrev pub TellsReceived : Channel T → Receiver T
+  abbrev pub TellsReceived : Option (WholeEndpoint T)
       → Receiver T × Result (Result T RecvError) OutOfMemory → Type 0
-  TellsReceived channel r out =
-      IsReceiverOf channel out.0
-      × IfOk out.1 (λ answer. HasReceived answer out.0
-      × IfOk answer (λ message. got_by out.0 ≡ got_by r ++ message ∷ [])
-      × IfErr answer (λ _. (got_by out.0 ≡ got_by r) × (has_ended out.0 ≡ true)))
-      × IfErr out.1 (λ _. IsAsItWas r out.0)
-      × (receiver_closed out.0 ≡ receiver_closed r)
+  TellsReceived held out =
+      IfSome held (λ e. (receiver_channel out.0 ≡ channel e)
+      × IfOk out.1 (λ answer. ReceiverGot answer out.0
+      × IfOk answer (λ message. got_by out.0 ≡ got_at e ++ message ∷ [])
+      × OnErr answer ((got_by out.0 ≡ got_at e) × (has_ended out.0 ≡ true)))
+      × OnErr out.1 ((got_by out.0 ≡ got_at e) × (has_ended out.0 ≡ (view e).ended))
+      × (receiver_closed out.0 ≡ (view e).closed))
 
-  -- The receive below is one at this channel, and keeps the pass of this receiver, which is as it
-  -- was.
-  abbrev pub MayReceive : Channel T → Receiver T → RuledChannel T (Log T) Whole (Unit {0})
-      → Option (Pass T (Log T)) → Type 0
-  MayReceive channel r below pass =
-      (below ≡ channel.ruled)
-      × IsSomeAnd pass (λ p. IsReceiverOf channel (record { pass = p })
-      × IsAsItWas r (record { pass = p }))
+  -- It left a mark in the channel's list, in an entry that is new or was its own. Nothing else
+  -- changed, and nobody was woken.
+  abbrev pub HasWaited : Option ℕ → Option (WholeEndpoint T) → Option ℕ → Type 0
+  HasWaited before held after =
+      IfSome held (λ e. (w : Mark)
+      × RecvWaits before (found e) w after (made e) × (woken e ≡ []))
+
+  -- the receiver that was there comes back as it was
+  abbrev pub ReceiverIsBack : Option (WholeEndpoint T) → Option (Receiver T) → Type 0
+  ReceiverIsBack None back = back ≡ None
+  ReceiverIsBack (Some e) back =
+      IsSomeAnd back (λ b. (receiver_channel b ≡ channel e) × (got_by b ≡ got_at e)
+      × (has_ended b ≡ (view e).ended) × (receiver_closed b ≡ (view e).closed))

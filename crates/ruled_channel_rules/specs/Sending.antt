@@ -1,59 +1,42 @@
--- When a send may be polled, and what it gives.
-use Rattle.std.specs.Prelude.{◌≡◌, [], ◌∷◌, ◌++◌, Option, Result, IfOk, IfErr}
-use Rattle.channel_core.specs.Channel.{Channel as CoreChannel, Change}
+-- When a send as a future may be polled, and what it gives.
+use Rattle.std.specs.Prelude.{◌≡◌, ℕ, [], ◌∷◌, ◌++◌, List, Option, Some, None, Result, IsSomeAnd, IfOk, IfErr, IfSome, OnOk}
+use Rattle.channel_core.specs.Channel.{SendWaits}
 use Rattle.channel_core.specs.declared.errors.NoMemory.{NoMemory}
 use Rattle.channel_core.specs.declared.errors.SendError.{SendError}
-use Rattle.ruled_channel.specs.declared.channel.RuledChannel.{RuledChannel}
 use Rattle.ruled_channel.specs.declared.mark.Mark.{Mark}
-use Rattle.ruled_channel.specs.declared.pass.Pass.{Pass}
-use Rattle.ruled_channel.specs.Sending.{MaySend as MayPoll, GivesSent}
-use Rattle.ruled_channel.specs.Steps.{HasMade as HasPassMade, HasMadeWith, HasSent as HasPassSent, send_given_up}
-use Rattle.ruled_channel_rules.specs.declared.log.Log.{Log}
-use Rattle.ruled_channel_rules.specs.declared.handles.Channel.{Channel}
-use Rattle.ruled_channel_rules.specs.declared.handles.Sender.{Sender}
-use Rattle.ruled_channel_rules.specs.Whole.{IsWhole, with_sent}
-use Rattle.ruled_channel_rules.specs.Handles.{IsSenderOf, sent_by, sender_closed}
+use Rattle.ruled_channel.specs.Endpoints.{channel, found, made, view, woken}
+use Rattle.ruled_channel_rules.specs.declared.sender.Sender.{Sender}
+use Rattle.ruled_channel_rules.specs.Roles.{WholeEndpoint}
+use Rattle.ruled_channel_rules.specs.Whole.{first}
+use Rattle.ruled_channel_rules.specs.Handles.{SenderSent, sender_channel, sender_closed, sent_by}
 
 module _ {T : Type 0} where
-  -- a sender that has sent nothing more, and has closed nothing
-  abbrev pub IsAsItWas : Sender T → Sender T → Type 0
-  IsAsItWas old new = (sent_by new ≡ sent_by old) × (sender_closed new ≡ sender_closed old)
-
-  -- its last step was this one of the channel that it found, and all whom that rings were woken
-  abbrev pub HasMade : (CoreChannel T Mark → Change T Mark) → Sender T → Type 0
-  HasMade step s = HasPassMade step s.pass
-
-  -- that was a send of the message, and this its answer
-  abbrev pub HasSent : T → Result (Unit {0}) (SendError T) → Sender T → Type 0
-  HasSent m answer s = HasPassSent m answer s.pass
-
-  -- by that it left the list in which it waited, if it did, and its notice went on
-  abbrev pub HasGivenUp : Sender T → Type 0
-  HasGivenUp s = HasMadeWith send_given_up s.pass
+  -- what its sender has sent
+  abbrev pub sent_at : WholeEndpoint T → List T
+  sent_at e = first (view e).sent
 
   -- The sender comes back, and has sent the message; or it has not, and the message comes back too.
   -- It has closed nothing.
-  abbrev pub TellsSent : Channel T → Sender T → T
+  abbrev pub TellsSent : Option (WholeEndpoint T × T)
       → Sender T × Result (Result (Unit {0}) (SendError T)) (NoMemory T) → Type 0
-  TellsSent channel s m out =
-      IsSenderOf channel out.0
-      × IfOk out.1 (λ answer. HasSent m answer out.0
-      × IfOk answer (λ _. sent_by out.0 ≡ sent_by s ++ m ∷ [])
-      × IfErr answer (λ error. (error.0 ≡ m) × (sent_by out.0 ≡ sent_by s)))
-      × IfErr out.1 (λ error. (error.0 ≡ m) × (sent_by out.0 ≡ sent_by s))
-      × (sender_closed out.0 ≡ sender_closed s)
+  TellsSent parts out =
+      IfSome parts (λ h. (sender_channel out.0 ≡ channel h.0)
+      × IfOk out.1 (λ answer. SenderSent h.1 answer out.0
+      × OnOk answer (sent_by out.0 ≡ sent_at h.0 ++ h.1 ∷ [])
+      × IfErr answer (λ error. (error.0 ≡ h.1) × (sent_by out.0 ≡ sent_at h.0)))
+      × IfErr out.1 (λ error. (error.0 ≡ h.1) × (sent_by out.0 ≡ sent_at h.0))
+      × (sender_closed out.0 ≡ (view h.0).closed))
 
-  module _ {P : Type 0} where
-    -- what the send below gives
-    abbrev pub Gives : RuledChannel T (Log T) P (Unit {0}) → Option (Pass T (Log T) × T)
-        → Pass T (Log T) × Result (Result (Unit {0}) (SendError T)) (NoMemory T)
-        → Type 0
-    Gives = GivesSent (λ v m w. w ≡ with_sent v m) (λ _ _. Unit {0})
+  -- It left a mark in the channel's list, in an entry that is new or was its own. Nothing else
+  -- changed, and nobody was woken.
+  abbrev pub HasWaited : Option ℕ → Option (WholeEndpoint T × T) → Option ℕ → Type 0
+  HasWaited before parts after =
+      IfSome parts (λ h. (w : Mark)
+      × SendWaits (Some h.1) before (found h.0) w after (made h.0) × (woken h.0 ≡ []))
 
-    -- The send below may be polled, and whatever it gives is a send of this message by this sender.
-    abbrev pub MaySend : Channel T → Sender T → T → RuledChannel T (Log T) P (Unit {0})
-        → Option (Pass T (Log T) × T) → Type 0
-    MaySend channel s m below parts =
-        MayPoll (λ _. IsWhole) (λ v m w. w ≡ with_sent v m) (λ _ _. Unit {0}) below parts
-        × ((x : Pass T (Log T) × Result (Result (Unit {0}) (SendError T)) (NoMemory T))
-        → Gives below parts x → TellsSent channel s m (record { pass = x.0 }, x.1))
+  -- what was there comes back: the sender as it was, and the message
+  abbrev pub SenderIsBack : Option (WholeEndpoint T × T) → Option (Sender T × T) → Type 0
+  SenderIsBack None back = back ≡ None
+  SenderIsBack (Some h) back =
+      IsSomeAnd back (λ b. (sender_channel b.0 ≡ channel h.0) × (sent_by b.0 ≡ sent_at h.0)
+      × (sender_closed b.0 ≡ (view h.0).closed) × (b.1 ≡ h.1))

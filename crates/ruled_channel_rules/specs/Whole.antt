@@ -1,10 +1,12 @@
 -- The rule: what was sent is what was got and then what the channel holds, and it is closed exactly
 -- if one of the handles has closed it. Each sender and each receiver knows its own part, and who made
 -- them knows how many there are.
-use Rattle.std.specs.Prelude.{◌≡◌, ℕ, ◌+◌, Bool, ◌||◌, true, false, List, [], ◌∷◌, ◌++◌, length, Option, Some, None}
+use Rattle.std.specs.Prelude.{◌≡◌, ℕ, ◌+◌, Bool, ◌||◌, true, false, List, [], ◌∷◌, ◌++◌, length}
 use Rattle.std.specs.List.{flat_map, list_any}
 use mathlib.Core.Option.{some}
 use lib.ListN.{get_elem?}
+use Rattle.ruled_channel.specs.declared.protocol.Event.{Event}
+use Rattle.ruled_channel.specs.declared.protocol.Event.TheVariants.{Sent, Displaced, Received, FoundEnd, Closed}
 use Rattle.ruled_channel.specs.State.{State}
 use Rattle.ruled_channel_rules.specs.declared.log.Log.{Log}
 use Rattle.ruled_channel_rules.specs.Merged.{IsMergeOf}
@@ -59,11 +61,6 @@ module _ {T : Type 0} where
   abbrev pub with_got : Log T → T → Log T
   with_got v m = record v { got = more v.got m }
 
-  -- a send that is forced gets the message that it displaces
-  abbrev pub with_forced : Log T → Option T → T → Log T
-  with_forced v None m = with_sent v m
-  with_forced v (Some displaced) m = with_sent (with_got v displaced) m
-
   abbrev pub with_closed : Log T → Log T
   with_closed v = record v { closed = true }
 
@@ -103,3 +100,35 @@ module _ {T : Type 0} where
     sent = v.sent ++ w.sent;
     got = v.got ++ w.got;
   }
+
+  -- what the only sender has sent that a view speaks for, or what the only receiver has got
+  abbrev pub first : List (List T) → List T
+  first [] = []
+  first (xs ∷ more) = xs
+
+  -- ### What each may do
+
+  -- it speaks for one at least
+  abbrev pub SpeaksFor : List (List T) → Type 0
+  SpeaksFor lists = (first : List T) × (others : List (List T)) × (lists ≡ first ∷ others)
+
+  -- Who speaks for a sender may send, and who speaks for a receiver may receive; a forced send, which
+  -- gets what it displaces, is for who speaks for both. Each may close, and find the end.
+  abbrev pub MayWhole : Log T → Event T → Type 0
+  MayWhole v (Sent m) = SpeaksFor v.sent
+  MayWhole v (Displaced displaced m) = SpeaksFor v.sent × SpeaksFor v.got
+  MayWhole v (Received m) = SpeaksFor v.got
+  MayWhole v FoundEnd = Unit {0}
+  MayWhole v (Closed has_closed) = Unit {0}
+  MayWhole v counted = ⊥
+
+  -- What it makes of the view. Who has closed, or found the end, closes no open channel.
+  abbrev pub tells : Log T → Event T → Log T → Type 0
+  tells v (Sent m) w = w ≡ with_sent v m
+  tells v (Displaced displaced m) w = w ≡ with_sent (with_got v displaced) m
+  tells v (Received m) w = w ≡ with_got v m
+  tells v FoundEnd w = w ≡ with_end v
+  tells v (Closed has_closed) w =
+      (w ≡ with_closed v) × (v.closed ≡ true → has_closed ≡ false)
+      × (v.ended ≡ true → has_closed ≡ false)
+  tells v counted w = w ≡ v

@@ -9,20 +9,26 @@
 //! Calls that wait block their thread, or are futures, which own their handle and give it back:
 //! [`Sender::send`], [`Sender::send_each`], [`Receiver::recv`] and [`Receiver::collect`].
 //!
-//! Handles have no bytes, and a call is told its channel. Dropping a handle closes nothing; without
-//! it the hub can't settle.
+//! A handle borrows its channel. Dropping a handle closes nothing; without it the hub can't settle.
 //!
 //! What no contract says: that a call returns, or that somebody closes the channel.
 #![tactic(auto)]
 
-mod forcing;
-mod handles;
+mod force_sender;
+mod hub;
 mod log;
+mod receiver;
 mod receiving;
+mod sender;
 mod sending;
 
-pub use forcing::ForceSender;
-pub use handles::{Channel, Hub, Receiver, Sender, bounded, unbounded};
+pub use force_sender::ForceSender;
+pub use hub::{Channel, Hub, bounded, unbounded};
+pub use log::Whole;
+pub use receiver::Receiver;
 pub use receiving::{Collect, Recv};
-pub use ruled_channel::{NoMemory, OutOfMemory, RecvError, SendError, TryRecvError, TrySendError};
+pub use ruled_channel::{
+    NoMemory, OutOfMemory, Pass, RecvError, SendError, TryRecvError, TrySendError,
+};
+pub use sender::Sender;
 pub use sending::{Send, SendEach};

@@ -1,12 +1,12 @@
-//! The rule, and what each step tells.
-ghost use Rattle.std.specs.Prelude.{◌≡◌, [], true, false};
-ghost use Rattle.ruled_channel_rules.specs.Merged.{HaveArrived, AllArrived};
-ghost use Rattle.ruled_channel_rules.specs.Whole.{IsWhole, hub_log, sender_log, receiver_log, spent_log, with_sent, with_got, with_forced, with_closed, with_end, one_sender_more, one_receiver_more, one_force_sender_more, force_sender_log, together};
+//! The rule, and how a view is cut and joined.
+ghost use Rattle.std.specs.Prelude.{[], false};
+ghost use Rattle.ruled_channel_rules.specs.Keeps.{keeps};
+ghost use Rattle.ruled_channel_rules.specs.Whole.{IsWhole, MayWhole, tells, hub_log, sender_log, receiver_log, spent_log, one_sender_more, one_receiver_more, one_force_sender_more, force_sender_log, together};
 
-use ruled_channel::{AtEnd, Forced, HasClosed, Join, Lesson, Protocol, Received, Sent, Split};
+use ruled_channel::{Join, Protocol, Split};
 use std::collections::LinkedList;
 
-/// What a pass knows. No value of it is made.
+/// What an endpoint knows. No value of it is made.
 pub struct Log<T> {
     /// Whether it makes the senders and the receivers.
     pub makes: bool,
@@ -25,38 +25,20 @@ pub struct Log<T> {
 /// What was sent is what was got and then what the channel holds.
 pub struct Whole;
 
-impl<T> Protocol<T, Log<T>> for Whole {
+impl<T> Protocol<T> for Whole {
     type Key = ();
+
+    type View = Log<T>;
 
     ghost holds = { λ _. IsWhole };
 
     ghost first = { λ _. hub_log 0 0 };
-}
 
-impl<T> Sent<T, Log<T>> for Whole {
-    ghost then = { λ v m w. w ≡ with_sent v m };
-}
+    ghost may = { λ _. MayWhole };
 
-impl<T> Forced<T, Log<T>> for Whole {
-    ghost then = { λ v displaced m w. w ≡ with_forced v displaced m };
-}
+    ghost tells = { tells };
 
-impl<T> Received<T, Log<T>> for Whole {
-    ghost then = { λ v m w. w ≡ with_got v m };
-}
-
-impl<T> AtEnd<Log<T>> for Whole {
-    ghost then = { λ v w. w ≡ with_end v };
-}
-
-impl<T> HasClosed<Log<T>> for Whole {
-    ghost then = { λ v has_closed w. (w ≡ with_closed v)
-        × (v.closed ≡ true → has_closed ≡ false) × (v.ended ≡ true → has_closed ≡ false) };
-}
-
-impl<T> Lesson<T, Log<T>> for Whole {
-    ghost fact = { λ v state. HaveArrived v.sent v.got state.messages
-        × (v.ended ≡ true → AllArrived v.sent v.got) };
+    ghost keeps = { λ _. keeps };
 }
 
 impl<T> Join<Log<T>> for Whole {

@@ -1,9 +1,8 @@
 //! Calls by name that block until another thread makes its own. Who is refused memory when it
 //! begins to wait is told so.
-ghost use Rattle.ruled_channel_rules.specs.Handles.{IsHubOf, IsReceiverOf, IsSenderOf};
 
 use anyhow::{Result, anyhow};
-use ruled_channel_rules::{Channel, Hub, NoMemory, OutOfMemory, Receiver, Sender, bounded};
+use ruled_channel_rules::{Hub, NoMemory, OutOfMemory, Receiver, Sender, bounded};
 use std::alloc::{AllocGlobal, Global};
 use std::rt::Clock;
 use std::sync::Wait;
@@ -22,10 +21,8 @@ pub enum Call {
 /// Who shares a channel.
 #[derive(Drop)]
 struct Party<'c> {
-    channel: &'c Channel<u64>,
-    sender: Sender<u64>,
-    receiver: Receiver<u64>,
-    ghost owns: { IsSenderOf channel.now sender × IsReceiverOf channel.now receiver },
+    sender: Sender<'c, u64>,
+    receiver: Receiver<'c, u64>,
 }
 
 /// Gives others so much time that they sleep.
@@ -34,15 +31,10 @@ pub fn give_time(rt: &impl Clock) {
 }
 
 impl<'c> Party<'c> {
-    fn new(channel: &'c Channel<u64>, hub: &mut Hub<u64>) -> Party<'c>
-        requires { IsHubOf channel.now hub.old }
-        ensures { IsHubOf channel.now hub.new }
-    {
-        let (sender, receiver) = (hub.sender(channel), hub.receiver(channel));
+    fn new(hub: &mut Hub<'c, u64>) -> Party<'c> {
         Party {
-            channel,
-            sender,
-            receiver,
+            sender: hub.sender(),
+            receiver: hub.receiver(),
         }
     }
 
@@ -52,15 +44,15 @@ impl<'c> Party<'c> {
         let mut all = Vec::new(alloc);
         for again in 0..2 {
             let is_done = match call {
-                Call::Send => match self.sender.send_blocking(rt, self.channel, 1) {
+                Call::Send => match self.sender.send_blocking(rt, 1) {
                     Err(NoMemory(_)) => false,
                     sent => return (sent == Ok(Ok(()))).then_some(again),
                 },
-                Call::Receive => match self.receiver.recv_blocking(rt, self.channel) {
+                Call::Receive => match self.receiver.recv_blocking(rt) {
                     Err(OutOfMemory) => false,
                     got => return (got == Ok(Ok(1))).then_some(again),
                 },
-                Call::ReceiveMany => self.receiver.recv_all(rt, self.channel, &mut all).is_ok(),
+                Call::ReceiveMany => self.receiver.recv_all(rt, &mut all).is_ok(),
             };
             if is_done {
                 return Some(again);
@@ -72,8 +64,8 @@ impl<'c> Party<'c> {
     /// Tells a send that is blocked, or a receive.
     fn tell<R: Wait>(&mut self, rt: &R, call: Call) -> bool {
         match call {
-            Call::Send => self.receiver.try_recv(rt, self.channel).is_ok(),
-            _ => self.sender.try_send(rt, self.channel, 1) == Ok(Ok(())),
+            Call::Send => self.receiver.try_recv(rt).is_ok(),
+            _ => self.sender.try_send(rt, 1) == Ok(Ok(())),
         }
     }
 
@@ -82,13 +74,13 @@ impl<'c> Party<'c> {
         give_time(rt);
         let _in_vain = self.tell(rt, call);
         match call {
-            Call::Send => drop(self.sender.try_send(rt, self.channel, 1)),
-            _ => drop(self.receiver.try_recv(rt, self.channel)),
+            Call::Send => drop(self.sender.try_send(rt, 1)),
+            _ => drop(self.receiver.try_recv(rt)),
         }
         give_time(rt);
         let is_told = self.tell(rt, call);
         if let Call::ReceiveMany = call {
-            self.sender.close(rt, self.channel);
+            self.sender.close(rt);
         }
         is_told
     }
@@ -101,9 +93,9 @@ pub fn make_call<R>(rt: &R, call: Call) -> Result<usize>
 where
     R: Threads + Wait + Sync + Clock + AllocGlobal,
 {
-    let (channel, mut hub) = bounded(rt.alloc(), 1)?;
-    let mut one = Party::new(&channel, &mut hub);
-    let mut other = Party::new(&channel, &mut hub);
+    let (channel, pass) = bounded(rt.alloc(), 1)?;
+    let mut hub = Hub::new(&channel, pass);
+    let (mut one, mut other) = (Party::new(&mut hub), Party::new(&mut hub));
     if let Call::Send = call {
         // It sends what fills the channel.
         let _is_full = other.tell(rt, Call::Receive);

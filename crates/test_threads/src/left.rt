@@ -9,7 +9,7 @@ use async_channel::{
 use futures::Future;
 use futures::task::Poll;
 use futures::test::MockTask;
-use ruled_channel::{Unruled, bounded_with};
+use ruled_channel::{Endpoint, Unruled, bounded_with};
 use std::alloc::{AllocError, AllocGlobal, Global};
 use std::collections::VecDeque;
 use std::process::Abort;
@@ -365,9 +365,9 @@ fn a_refused_channel_leaves_nothing(rt: HostRuntime) {
 #[test]
 fn a_dropped_send_leaves_no_message(rt: HostRuntime) {
     let message = Arc::new(rt.alloc(), 7u32).expect(&rt, "memory");
-    let made = bounded_with::<Arc<u32>, (), Unruled>(rt.alloc(), 2_000_000);
+    let made = bounded_with::<Arc<u32>, Unruled>(rt.alloc(), 2_000_000);
     let (channel, pass) = made.expect(&rt, "a channel");
     let copy = Arc::try_clone(&message).expect(&rt, "a copy");
-    drop(channel.send_as::<Unruled, Unruled, _>(&rt, pass, copy));
+    drop(Endpoint::new(&channel, pass).send(&rt, copy));
     assert_eq!(rt; Arc::strong_count(&message), 1);
 }

@@ -1,10 +1,9 @@
 //! Whole lists, sent and received by handles under the rule by name.
-ghost use Rattle.ruled_channel_rules.specs.Handles.{IsHubOf, IsSenderOf, IsReceiverOf};
 
 use crate::waiting::new_task;
 use futures::executor::block_on;
 use futures::task::Poll;
-use ruled_channel_rules::{Channel, Hub, OutOfMemory, SendError, bounded, unbounded};
+use ruled_channel_rules::{Hub, OutOfMemory, SendError, bounded, unbounded};
 use std::alloc::{AllocGlobal, Global};
 use std::collections::VecDeque;
 use std::process::Abort;
@@ -28,28 +27,21 @@ fn numbers<R: AllocGlobal + Abort>(rt: &R, count: u32) -> Vec<u32> {
 fn relay<R: Threads + Wait + Sync>(
     rt: &R,
     alloc: Global,
-    channel: &Channel<u32>,
-    hub: &mut Hub<u32>,
+    hub: &mut Hub<'_, u32>,
     mut list: VecDeque<u32>,
-) -> Relayed
-    requires { IsHubOf channel.now hub.old }
-{
-    let mut sender = hub.sender(channel);
-    let mut receiver = hub.receiver(channel);
+) -> Relayed {
+    let mut sender = hub.sender();
+    let mut receiver = hub.receiver();
     join(
         rt,
-        move || -> bool
-            requires { IsSenderOf channel.now sender }
-        {
-            let sent = sender.send_all(rt, channel, &mut list);
-            sender.close(rt, channel);
+        move || {
+            let sent = sender.send_all(rt, &mut list);
+            sender.close(rt);
             matches!(&sent, Ok(Ok(())))
         },
-        move || -> Result<Vec<u32>, OutOfMemory>
-            requires { IsReceiverOf channel.now receiver }
-        {
+        move || -> Result<Vec<u32>, OutOfMemory> {
             let mut all = Vec::new(alloc);
-            receiver.recv_all(rt, channel, &mut all)?;
+            receiver.recv_all(rt, &mut all)?;
             Ok(all)
         },
     )
@@ -59,8 +51,9 @@ fn relay<R: Threads + Wait + Sync>(
 fn two_threads_relay_a_list(rt: HostRuntime) {
     for (capacity, count) in [(1, 0), (1, 1000), (MANY, MANY)] {
         let (list, messages) = (numbers(&rt, count), VecDeque::from(numbers(&rt, count)));
-        let (channel, mut hub) = bounded(rt.alloc(), capacity as usize).expect(&rt, "a channel");
-        let (all_sent, all) = relay(&rt, rt.alloc(), &channel, &mut hub, messages);
+        let (channel, pass) = bounded(rt.alloc(), capacity as usize).expect(&rt, "a channel");
+        let mut hub = Hub::new(&channel, pass);
+        let (all_sent, all) = relay(&rt, rt.alloc(), &mut hub, messages);
         assert!(rt; all_sent);
         assert!(rt; all.is_ok_and(|all| all.as_slice() == list.as_slice()));
     }
@@ -68,10 +61,11 @@ fn two_threads_relay_a_list(rt: HostRuntime) {
 
 #[test]
 fn a_blocked_send_says_that_it_found_the_channel_closed(rt: HostRuntime) {
-    let (line, mut hub) = bounded(rt.alloc(), 1).expect(&rt, "a channel");
-    let mut sender = hub.sender(&line);
-    assert!(rt; sender.close(&rt, &line));
-    assert_eq!(rt; sender.send_blocking(&rt, &line, 6), Ok(Err(SendError(6))));
+    let (channel, pass) = bounded(rt.alloc(), 1).expect(&rt, "a channel");
+    let mut hub = Hub::new(&channel, pass);
+    let mut sender = hub.sender();
+    assert!(rt; sender.close(&rt));
+    assert_eq!(rt; sender.send_blocking(&rt, 6), Ok(Err(SendError(6))));
 }
 
 #[test]
@@ -79,13 +73,14 @@ fn sends_that_wait_keep_their_place(rt: HostRuntime) {
     let list = VecDeque::from(numbers(&rt, 2));
     let last = VecDeque::from(numbers(&rt, 1));
     let (task, other) = (new_task(&rt), new_task(&rt));
-    let (channel, mut hub) = bounded(rt.alloc(), 1).expect(&rt, "a channel");
-    let (sender, next) = (hub.sender(&channel), hub.sender(&channel));
-    let mut send = sender.send_each(&rt, &channel, list);
-    let mut later = next.send_each(&rt, &channel, last);
+    let (channel, pass) = bounded(rt.alloc(), 1).expect(&rt, "a channel");
+    let mut hub = Hub::new(&channel, pass);
+    let (sender, next) = (hub.sender(), hub.sender());
+    let mut send = sender.send_each(&rt, list);
+    let mut later = next.send_each(&rt, last);
     let both_wait = task.poll(&mut send).is_pending() && other.poll(&mut later).is_pending();
     assert!(rt; both_wait && task.poll(&mut send).is_pending());
-    assert_eq!(rt; hub.receiver(&channel).try_recv(&rt, &channel), Ok(0));
+    assert_eq!(rt; hub.receiver().try_recv(&rt), Ok(0));
     assert!(rt; task.is_woken() && !other.is_woken());
     assert!(rt; task.poll(&mut send).is_ready() && !other.is_woken());
 }
@@ -93,24 +88,26 @@ fn sends_that_wait_keep_their_place(rt: HostRuntime) {
 #[test]
 fn receives_that_wait_keep_their_place(rt: HostRuntime) {
     let (task, other) = (new_task(&rt), new_task(&rt));
-    let (channel, mut hub) = bounded(rt.alloc(), 1).expect(&rt, "a channel");
-    let (receiver, next) = (hub.receiver(&channel), hub.receiver(&channel));
-    let mut collect = receiver.collect(&rt, &channel, Vec::new(rt.alloc()));
-    let mut later = next.collect(&rt, &channel, Vec::new(rt.alloc()));
+    let (channel, pass) = bounded(rt.alloc(), 1).expect(&rt, "a channel");
+    let mut hub = Hub::new(&channel, pass);
+    let (receiver, next) = (hub.receiver(), hub.receiver());
+    let mut collect = receiver.collect(&rt, Vec::new(rt.alloc()));
+    let mut later = next.collect(&rt, Vec::new(rt.alloc()));
     let both_wait = task.poll(&mut collect).is_pending() && other.poll(&mut later).is_pending();
     assert!(rt; both_wait && task.poll(&mut collect).is_pending());
-    assert_eq!(rt; hub.sender(&channel).try_send(&rt, &channel, 1), Ok(Ok(())));
+    assert_eq!(rt; hub.sender().try_send(&rt, 1), Ok(Ok(())));
     assert!(rt; task.is_woken() && !other.is_woken());
 }
 
 #[test]
 fn a_collect_that_waits_takes_room_for_one_message(rt: HostRuntime) {
-    let (channel, mut hub) = bounded(rt.alloc(), MANY as usize).expect(&rt, "a channel");
-    let (receiver, task) = (hub.receiver(&channel), new_task(&rt));
+    let (channel, pass) = bounded(rt.alloc(), MANY as usize).expect(&rt, "a channel");
+    let mut hub = Hub::new(&channel, pass);
+    let (receiver, task) = (hub.receiver(), new_task(&rt));
     let mut list: Vec<u32> = Vec::new(rt.alloc());
     list.try_reserve(1).expect(&rt, "memory");
     let room = list.capacity();
-    let mut collect = receiver.collect(&rt, &channel, list);
+    let mut collect = receiver.collect(&rt, list);
     assert!(rt; task.poll(&mut collect).is_pending());
     assert!(rt; task.poll(&mut collect).is_pending());
     let (_receiver, list) = collect.give_up();
@@ -122,15 +119,16 @@ fn a_receive_of_all_takes_room_for_what_comes(rt: HostRuntime) {
     // What is in the list before, and then.
     let rows: [(&[u32], &[u32]); 2] = [(&[], &[1]), (&[7, 8], &[7, 8, 1])];
     for (before, all) in rows {
-        let (channel, mut hub) = bounded(rt.alloc(), MANY as usize).expect(&rt, "a channel");
-        let (mut sender, mut receiver) = (hub.sender(&channel), hub.receiver(&channel));
-        assert_eq!(rt; sender.send_blocking(&rt, &channel, 1), Ok(Ok(())));
-        sender.close(&rt, &channel);
+        let (channel, pass) = bounded(rt.alloc(), MANY as usize).expect(&rt, "a channel");
+        let mut hub = Hub::new(&channel, pass);
+        let (mut sender, mut receiver) = (hub.sender(), hub.receiver());
+        assert_eq!(rt; sender.send_blocking(&rt, 1), Ok(Ok(())));
+        sender.close(&rt);
         let mut list = Vec::from_slice(rt.alloc(), before).expect(&rt, "memory");
         // one message, and one that might come
         list.try_reserve(2).expect(&rt, "memory");
         let room = list.capacity();
-        assert_eq!(rt; receiver.recv_all(&rt, &channel, &mut list), Ok(()));
+        assert_eq!(rt; receiver.recv_all(&rt, &mut list), Ok(()));
         assert!(rt; list.as_slice() == all && list.capacity() == room);
     }
 }
@@ -138,18 +136,19 @@ fn a_receive_of_all_takes_room_for_what_comes(rt: HostRuntime) {
 #[test]
 fn a_list_grows_by_more_than_a_message(rt: HostRuntime) {
     for is_collected in [false, true] {
-        let (channel, mut hub) = unbounded(rt.alloc()).expect(&rt, "a channel");
-        let (mut sender, mut receiver) = (hub.sender(&channel), hub.receiver(&channel));
+        let (channel, pass) = unbounded(rt.alloc()).expect(&rt, "a channel");
+        let mut hub = Hub::new(&channel, pass);
+        let (mut sender, mut receiver) = (hub.sender(), hub.receiver());
         let mut messages = VecDeque::from(numbers(&rt, 1000));
-        assert_eq!(rt; sender.send_all(&rt, &channel, &mut messages), Ok(Ok(())));
-        sender.close(&rt, &channel);
+        assert_eq!(rt; sender.send_all(&rt, &mut messages), Ok(Ok(())));
+        sender.close(&rt);
         let mut list = Vec::new(rt.alloc());
         if is_collected {
-            let collected = block_on(&rt, receiver.collect(&rt, &channel, list));
+            let collected = block_on(&rt, receiver.collect(&rt, list));
             let (_receiver, all, _received) = collected.expect(&rt, "memory");
             list = all;
         } else {
-            assert_eq!(rt; receiver.recv_all(&rt, &channel, &mut list), Ok(()));
+            assert_eq!(rt; receiver.recv_all(&rt, &mut list), Ok(()));
         }
         // one more might have come
         assert!(rt; list.len() == 1000 && list.capacity() > 1001);
@@ -158,10 +157,11 @@ fn a_list_grows_by_more_than_a_message(rt: HostRuntime) {
 
 #[test]
 fn a_list_that_is_sent_leaves_others_a_turn(rt: HostRuntime) {
-    let (channel, mut hub) = unbounded(rt.alloc()).expect(&rt, "a channel");
+    let (channel, pass) = unbounded(rt.alloc()).expect(&rt, "a channel");
+    let mut hub = Hub::new(&channel, pass);
     let task = new_task(&rt);
     let list = VecDeque::from(numbers(&rt, 1000));
-    let mut send = hub.sender(&channel).send_each(&rt, &channel, list);
+    let mut send = hub.sender().send_each(&rt, list);
     assert!(rt; task.poll(&mut send).is_pending());
     assert!(rt; task.is_woken());
     // 128 steps: a send is begun, and then polled
@@ -171,12 +171,13 @@ fn a_list_that_is_sent_leaves_others_a_turn(rt: HostRuntime) {
 
 #[test]
 fn a_list_that_is_received_leaves_others_a_turn(rt: HostRuntime) {
-    let (channel, mut hub) = unbounded(rt.alloc()).expect(&rt, "a channel");
+    let (channel, pass) = unbounded(rt.alloc()).expect(&rt, "a channel");
+    let mut hub = Hub::new(&channel, pass);
     let mut list = VecDeque::from(numbers(&rt, 1000));
-    let (mut sender, receiver) = (hub.sender(&channel), hub.receiver(&channel));
-    assert_eq!(rt; sender.send_all(&rt, &channel, &mut list), Ok(Ok(())));
+    let (mut sender, receiver) = (hub.sender(), hub.receiver());
+    assert_eq!(rt; sender.send_all(&rt, &mut list), Ok(Ok(())));
     let task = new_task(&rt);
-    let mut collect = receiver.collect(&rt, &channel, Vec::new(rt.alloc()));
+    let mut collect = receiver.collect(&rt, Vec::new(rt.alloc()));
     assert!(rt; task.poll(&mut collect).is_pending());
     assert!(rt; task.is_woken());
     let (_receiver, all) = collect.give_up();

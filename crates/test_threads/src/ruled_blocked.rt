@@ -1,9 +1,8 @@
 //! Threads that are blocked by a channel, sleep, and are woken.
-ghost use Rattle.ruled_channel_rules.specs.Handles.{IsSenderOf, IsReceiverOf};
 
-use crate::party::Party;
-use ruled_channel::{Unruled, bounded_with};
-use ruled_channel_rules::{Channel as Line, Receiver, Sender, bounded};
+use crate::party::{Channel, Party, party_of};
+use ruled_channel::bounded_with;
+use ruled_channel_rules::{Hub, Receiver, Sender, bounded};
 use std::process::Abort;
 use std::rt::Clock;
 use std::sync::Wait;
@@ -29,9 +28,9 @@ fn block<R: Wait + CpuClock + Abort>(
 ) -> (bool, Duration) {
     let before = processor_time(rt);
     let is_done = if is_send {
-        party.send(rt, 2)
+        party.send_blocking(rt, 2) == Ok(Ok(()))
     } else {
-        party.receive(rt).is_some()
+        matches!(&party.recv_blocking(rt), Ok(Ok(_)))
     };
     (is_done, processor_time(rt).saturating_sub(before))
 }
@@ -69,17 +68,17 @@ fn release<R: Wait + Clock + CpuClock + Abort>(
         return spun;
     }
     if is_send {
-        party.try_receive(rt);
-        party.try_send(rt, 1);
+        let _taken = party.try_recv(rt);
+        let _sent = party.try_send(rt, 1);
     } else {
-        party.try_send(rt, 1);
-        party.try_receive(rt);
+        let _sent = party.try_send(rt, 1);
+        let _taken = party.try_recv(rt);
     }
     let spun = spin(rt);
     if is_send {
-        party.try_receive(rt);
+        let _taken = party.try_recv(rt);
     } else {
-        party.try_send(rt, 2);
+        let _sent = party.try_send(rt, 2);
     }
     spun
 }
@@ -87,11 +86,9 @@ fn release<R: Wait + Clock + CpuClock + Abort>(
 #[test]
 fn blocked_calls_sleep_until_they_can_go_on(rt: HostRuntime) {
     for (is_send, is_closed) in [(false, false), (false, true), (true, false), (true, true)] {
-        let made = bounded_with::<u32, (), Unruled>(rt.alloc(), 1);
-        let (channel, pass) = made.expect(&rt, "a channel");
-        let mut party = Party::new(&channel, pass);
-        assert!(rt; !is_send || party.send(&rt, 1));
-        let other = party.another();
+        let (channel, _pass): (Channel, _) = bounded_with(rt.alloc(), 1).expect(&rt, "a channel");
+        let (mut party, other) = (party_of(&channel), party_of(&channel));
+        assert!(rt; !is_send || party.try_send(&rt, 1) == Ok(Ok(())));
         let ((is_done, used), spun) = join(
             &rt,
             || block(&rt, other, is_send),
@@ -109,30 +106,24 @@ fn spun<R: Wait + Clock + CpuClock + Abort>(rt: &R, is_blocked: bool) -> Option<
 /// Whether a send of a handle sleeps until there is room, or a receive until a message comes.
 fn sleeps<R>(
     rt: &R,
-    line: &Line<u32>,
-    mut sender: Sender<u32>,
-    mut receiver: Receiver<u32>,
+    mut sender: Sender<'_, u32>,
+    mut receiver: Receiver<'_, u32>,
     is_send: bool,
 ) -> bool
 where
     R: Threads + Wait + Sync + Clock + CpuClock + Abort,
-    requires { IsSenderOf line.now sender × IsReceiverOf line.now receiver }
 {
     let (sent, received) = join(
         rt,
-        move || -> Duration
-            requires { IsSenderOf line.now sender }
-        {
+        move || {
             let (spun, before) = (spun(rt, is_send), processor_time(rt));
-            let _sent = sender.send_blocking(rt, line, 2);
+            let _sent = sender.send_blocking(rt, 2);
             let used = processor_time(rt).saturating_sub(before);
             spun.unwrap_or(used)
         },
-        move || -> Duration
-            requires { IsReceiverOf line.now receiver }
-        {
+        move || {
             let (spun, before) = (spun(rt, !is_send), processor_time(rt));
-            let _got = receiver.recv_blocking(rt, line);
+            let _got = receiver.recv_blocking(rt);
             let used = processor_time(rt).saturating_sub(before);
             spun.unwrap_or(used)
         },
@@ -146,10 +137,11 @@ where
 
 #[test]
 fn blocked_handles_sleep(rt: HostRuntime) {
-    let (line, mut hub) = bounded::<u32>(rt.alloc(), 1).expect(&rt, "a channel");
-    let (sender, receiver) = (hub.sender(&line), hub.receiver(&line));
-    assert!(rt; sleeps(&rt, &line, sender, receiver, false));
-    let (mut sender, receiver) = (hub.sender(&line), hub.receiver(&line));
-    assert_eq!(rt; sender.send_blocking(&rt, &line, 1), Ok(Ok(())));
-    assert!(rt; sleeps(&rt, &line, sender, receiver, true));
+    let (line, pass) = bounded::<u32>(rt.alloc(), 1).expect(&rt, "a channel");
+    let mut hub = Hub::new(&line, pass);
+    let (sender, receiver) = (hub.sender(), hub.receiver());
+    assert!(rt; sleeps(&rt, sender, receiver, false));
+    let (mut sender, receiver) = (hub.sender(), hub.receiver());
+    assert_eq!(rt; sender.send_blocking(&rt, 1), Ok(Ok(())));
+    assert!(rt; sleeps(&rt, sender, receiver, true));
 }

@@ -1,12 +1,12 @@
 //! Operations that wait in turn: each by one entry, which goes with it. A notice is handed on.
-use crate::party::Party;
+use crate::party::{Channel, party_of};
 use crate::waiting::{TURNS, channel, new_task, numbers};
 use crate::ways::numbers_from;
 use async_channel::{Group, Receiver, Sender, WeakSender};
 use futures::task::Poll;
 use futures::test::MockTask;
 use futures::{Future, Stream};
-use ruled_channel::{Unruled, bounded_with};
+use ruled_channel::bounded_with;
 use std::alloc::AllocGlobal;
 use std::process::Abort;
 use std::random::RandomSource;
@@ -73,24 +73,26 @@ impl<R: Wait + Clone + Drop> Line for Handles<R> {
 #[derive(Drop)]
 struct Ruled<'c, R> {
     rt: &'c R,
-    party: Party<'c>,
+    channel: &'c Channel,
 }
 
 impl<R: Wait> Line for Ruled<'_, R> {
     fn tell(&mut self, group: Group) {
+        let mut party = party_of(self.channel);
         match group {
-            Group::Closeds => self.party.drop_receiver(self.rt),
-            Group::Sends => drop(self.party.try_receive(self.rt)),
-            _ => drop(self.party.try_send(self.rt, 1)),
+            Group::Closeds => drop(party.drop_receiver(self.rt)),
+            Group::Sends => drop(party.try_recv(self.rt)),
+            _ => drop(party.try_send(self.rt, 1)),
         }
     }
 
     fn close(&mut self) {
-        self.party.close(self.rt);
+        party_of(self.channel).close(self.rt);
     }
 
     fn numbers(&mut self, group: Group) -> (usize, usize) {
-        self.party.waiting(self.rt, group)
+        let seen = party_of(self.channel).who_waits(self.rt, group);
+        (seen.waiting, seen.told)
     }
 }
 
@@ -164,11 +166,11 @@ where
     requires { F.can_poll operation }
 {
     let operation = wait(rt, &new_task(rt), operation);
-    let mut other = line.party.another();
+    let mut other = party_of(line.channel);
     thread::scope(thread::scope_env(), rt, |scope| {
         let started = scope.spawn(move || match group {
-            Group::Sends => assert!(rt; other.send(rt, 4)),
-            _ => assert!(rt; other.receive(rt).is_some()),
+            Group::Sends => assert_eq!(rt; other.send_blocking(rt, 4), Ok(Ok(()))),
+            _ => assert!(rt; matches!(&other.recv_blocking(rt), Ok(Ok(_)))),
         });
         assert!(rt; started.is_ok());
         for _ in 0..TURNS {
@@ -193,15 +195,16 @@ macro_rules! three {
 fn receives_take_turns(rt: HostRuntime) {
     let (s, r) = channel(&rt, Some(1));
     let mut line = Handles::new(&rt, &s, r.try_clone().expect(&rt, "memory"));
-    let made = bounded_with::<u32, (), Unruled>(rt.alloc(), 1);
-    let (ruled, pass) = made.expect(&rt, "a channel");
-    let party = Party::new(&ruled, pass);
-    let mut ruled_line = Ruled { rt: &rt, party };
-    let receive = ruled.recv_as::<Unruled, Unruled, _>(&rt, ruled.pass());
+    let (ruled, _pass): (Channel, _) = bounded_with(rt.alloc(), 1).expect(&rt, "a channel");
+    let mut ruled_line = Ruled {
+        rt: &rt,
+        channel: &ruled,
+    };
+    let receive = party_of(&ruled).recv(&rt);
     tell_a_thread(&rt, &mut ruled_line, Group::Receives, receive);
     for goes_on in [false, true] {
         take_turns(&rt, &mut line, Group::Receives, three!(r.recv()), goes_on);
-        let receives = three!(ruled.recv_as::<Unruled, Unruled, _>(&rt, ruled.pass()));
+        let receives = three!(party_of(&ruled).recv(&rt));
         take_turns(&rt, &mut ruled_line, Group::Receives, receives, goes_on);
     }
 }
@@ -231,20 +234,21 @@ fn receives_of_many_take_turns(rt: HostRuntime) {
 fn sends_take_turns(rt: HostRuntime) {
     let (s, r) = channel(&rt, Some(1));
     let mut line = Handles::new(&rt, &s, r);
-    let made = bounded_with::<u32, (), Unruled>(rt.alloc(), 1);
-    let (ruled, pass) = made.expect(&rt, "a channel");
-    let party = Party::new(&ruled, pass);
-    let mut ruled_line = Ruled { rt: &rt, party };
+    let (ruled, _pass): (Channel, _) = bounded_with(rt.alloc(), 1).expect(&rt, "a channel");
+    let mut ruled_line = Ruled {
+        rt: &rt,
+        channel: &ruled,
+    };
     line.tell(Group::Receives);
     ruled_line.tell(Group::Receives);
-    let send = ruled.send_as::<Unruled, Unruled, _>(&rt, ruled.pass(), 5);
+    let send = party_of(&ruled).send(&rt, 5);
     assert!(rt; matches!(&wait(&rt, &new_task(&rt), send).into_parts(), Some((_, 5))));
     assert_eq!(rt; ruled_line.numbers(Group::Sends), (0, 0));
-    let send = ruled.send_as::<Unruled, Unruled, _>(&rt, ruled.pass(), 3);
+    let send = party_of(&ruled).send(&rt, 3);
     tell_a_thread(&rt, &mut ruled_line, Group::Sends, send);
     for goes_on in [false, true] {
         take_turns(&rt, &mut line, Group::Sends, three!(s.send(2)), goes_on);
-        let sends = three!(ruled.send_as::<Unruled, Unruled, _>(&rt, ruled.pass(), 2));
+        let sends = three!(party_of(&ruled).send(&rt, 2));
         take_turns(&rt, &mut ruled_line, Group::Sends, sends, goes_on);
     }
 }
@@ -271,11 +275,12 @@ fn who_waits_for_the_last_receiver_takes_turns(rt: HostRuntime) {
         drop(wait(&rt, &new_task(&rt), s.closed()));
         assert!(rt; !s.is_closed());
         take_turns(&rt, &mut line, Group::Closeds, three!(s.closed()), goes_on);
-        let made = bounded_with::<u32, (), Unruled>(rt.alloc(), 1);
-        let (ruled, pass) = made.expect(&rt, "a channel");
-        let party = Party::new(&ruled, pass);
-        let mut line = Ruled { rt: &rt, party };
-        let closeds = three!(ruled.closed_as(&rt, ruled.pass()));
+        let (ruled, _pass): (Channel, _) = bounded_with(rt.alloc(), 1).expect(&rt, "a channel");
+        let mut line = Ruled {
+            rt: &rt,
+            channel: &ruled,
+        };
+        let closeds = three!(party_of(&ruled).closed(&rt));
         take_turns(&rt, &mut line, Group::Closeds, closeds, goes_on);
     }
 }

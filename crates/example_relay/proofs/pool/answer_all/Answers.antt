@@ -6,8 +6,8 @@ use Rattle.example_relay.proofs.pool.answer_all.Goals as goal
 
 pub returns : goal.returns
 returns g c =
-    let asked = rw (c.take_receiver-2.ensures.known, c.take_receiver.ensures.known, c.take_sender.ensures.known, c.receiver-2.ensures.counted, c.receiver.ensures.counted, c.sender-feeder.ensures.counted, c.in_ok-numbers.ensures.new) at (c.settle.ensures.each_once (search rules)) in
-    let told = rw (c.take_receiver-3.ensures.known, c.take_sender-3.ensures.known, c.take_sender-2.ensures.known, c.receiver-collector.ensures.counted, c.sender-2.ensures.counted, c.sender.ensures.counted, c.in_ok-answers.ensures.new) at (c.settle-2.ensures.each_once (search rules)) in
+    let asked = rw (c.take_receiver-2.ensures.known, c.take_receiver.ensures.known, c.take_sender.ensures.known, c.receiver-2.ensures.counted, c.receiver.ensures.counted, c.sender-feeder.ensures.counted, c.new-jobs.ensures.new) at (c.settle.ensures.each_once (search rules)) in
+    let told = rw (c.take_receiver-3.ensures.known, c.take_sender-3.ensures.known, c.take_sender-2.ensures.known, c.receiver-collector.ensures.counted, c.sender-2.ensures.counted, c.sender.ensures.counted, c.new-results.ensures.new) at (c.settle-2.ensures.each_once (search rules)) in
     let feeder = c.run-feeder.result.0.0 in
     let one = c.run-feeder.result.1.0.0 in
     let two = c.run-feeder.result.1.1.0 in

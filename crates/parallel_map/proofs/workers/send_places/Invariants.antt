@@ -1,6 +1,6 @@
 use Rattle.std.proofs.Common.{◌≡◌, ◌≤◌, ◌+◌, ◌-◌, length}
-use Rattle.ruled_channel_rules.specs.Handles.{IsSenderOf, sent_by, got_by}
-use Rattle.parallel_map.specs.Workers.{IsCollectorOf}
+use Rattle.ruled_channel_rules.specs.Handles.{sent_by, got_by}
+use Rattle.parallel_map.specs.Workers.{IsCollectorOf, IsSenderOf}
 use Rattle.parallel_map.proofs.InOrder.{AreBefore}
 use Rattle.parallel_map.proofs.workers.send_places.Given as goal
 

@@ -1,5 +1,5 @@
-use Rattle.ruled_channel.proofs.Many.{receives_freely}
+use Rattle.async_channel.proofs.Freely.{each_freely}
 use Rattle.async_channel.proofs.handles.Receiver.recv_round.Goals as goal
 
-pub try_recv_many_as-requires-clause-rule : goal.try_recv_many_as-requires-clause-rule
-try_recv_many_as-requires-clause-rule g c = receives_freely _ _ _ _
+pub try_recv_many-requires : goal.try_recv_many-requires
+try_recv_many-requires g c = record { may = (λ messages few. each_freely _ _, tt) }

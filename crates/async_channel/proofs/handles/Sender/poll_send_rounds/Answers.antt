@@ -1,5 +1,5 @@
-use Rattle.ruled_channel.proofs.Many.{sends_freely}
+use Rattle.async_channel.proofs.Freely.{each_freely}
 use Rattle.async_channel.proofs.handles.Sender.poll_send_rounds.Goals as goal
 
-pub send_many_or_wait_as-requires-clause-rule : goal.send_many_or_wait_as-requires-clause-rule
-send_many_or_wait_as-requires-clause-rule g c = sends_freely _ _ _
+pub poll_send_many-requires-clause-may : goal.poll_send_many-requires-clause-may
+poll_send_many-requires-clause-may g c = each_freely _ _

@@ -1,5 +1,0 @@
-use Rattle.ruled_channel_rules.proofs.Keeps.{takes_back}
-use Rattle.ruled_channel_rules.proofs.handles.Hub.take_force_sender.Goals as goal
-
-pub absorb-requires-clause-rule : goal.absorb-requires-clause-rule
-absorb-requires-clause-rule g c = takes_back _ _ _ _
