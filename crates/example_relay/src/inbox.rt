@@ -3,7 +3,7 @@ ghost use Rattle.std.specs.Prelude.{◌≡◌, [], ◌∷◌, IfOk, OnOk, IsTrue
 ghost use Rattle.ruled_channel_rules.specs.Handles.{sender_channel, receiver_channel, sent_by, got_by, has_ended};
 ghost use Rattle.ruled_channel_rules.specs.Merged.{IsMergeOf};
 
-use ruled_channel_rules::{Hub, OutOfMemory, Receiver, Sender, bounded};
+use ruled_channel_rules::{Channel, Hub, OutOfMemory, Receiver, Sender, bounded};
 use std::alloc::Global;
 use std::collections::VecDeque;
 use std::sync::Wait;
@@ -19,32 +19,35 @@ type Sent<'c> = (Sender<'c, u32>, bool);
 // Two threads send. The channel is closed once both have ended.
 fn send_both<'c, R: Threads + Wait + Sync>(
     rt: &R,
+    inbox: &'c Channel<u32>,
     mut one: Sender<'c, u32>,
     mut first: VecDeque<u32>,
     mut two: Sender<'c, u32>,
     mut second: VecDeque<u32>,
 ) -> (Sent<'c>, Sent<'c>)
-    requires new { (sent_by one ≡ []) × (sent_by two ≡ []) }
-    ensures of { (sender_channel result.0.0 ≡ sender_channel one.entry)
-        × (sender_channel result.1.0 ≡ sender_channel two.entry) }
+    requires one { (sender_channel one ≡ inbox.now) × (sent_by one ≡ []) }
+    requires two { (sender_channel two ≡ inbox.now) × (sent_by two ≡ []) }
+    ensures of { (sender_channel result.0.0 ≡ inbox.now) × (sender_channel result.1.0 ≡ inbox.now) }
     ensures one { IsTrue result.0.1 → sent_by result.0.0 ≡ first.items }
     ensures two { IsTrue result.1.1 → sent_by result.1.0 ≡ second.items }
 {
     let ((mut one, all_of_one), two) = thread::join(
         rt,
         move || -> Sent<'_>
-            requires { sent_by one ≡ [] }
-            ensures of { sender_channel result.0 ≡ sender_channel one.entry }
+            requires { (sender_channel one ≡ inbox.now) × (sent_by one ≡ []) }
+            ensures of { sender_channel result.0 ≡ inbox.entry.now }
             ensures sent { IsTrue result.1 → sent_by result.0 ≡ first.items }
         {
+            let _inbox = inbox;
             let sent = one.send_all(rt, &mut first);
             (one, matches!(&sent, Ok(Ok(()))))
         },
         move || -> Sent<'_>
-            requires { sent_by two ≡ [] }
-            ensures of { sender_channel result.0 ≡ sender_channel two.entry }
+            requires { (sender_channel two ≡ inbox.now) × (sent_by two ≡ []) }
+            ensures of { sender_channel result.0 ≡ inbox.entry.now }
             ensures sent { IsTrue result.1 → sent_by result.0 ≡ second.items }
         {
+            let _inbox = inbox;
             let sent = two.send_all(rt, &mut second);
             (two, matches!(&sent, Ok(Ok(()))))
         },
@@ -63,25 +66,28 @@ pub fn deliver<R: Threads + Wait + Sync>(
     ensures { IfOk result (λ all. IsMergeOf all.items (first.items ∷ second.items ∷ [])) }
 {
     let (channel, pass) = bounded(alloc, CAPACITY)?;
-    let mut hub = Hub::new(&channel, pass);
+    let inbox = &channel;
+    let mut hub = Hub::new(inbox, pass);
     let (one, two) = (hub.sender(), hub.sender());
     let mut receiver = hub.receiver();
     let (first, second) = (VecDeque::from(first), VecDeque::from(second));
     let (((one, all_of_one), (two, all_of_two)), (receiver, all, received)) = thread::join(
         rt,
         move || -> (Sent<'_>, Sent<'_>)
-            requires new { (sent_by one ≡ []) × (sent_by two ≡ []) }
-            ensures of { (sender_channel result.0.0 ≡ sender_channel one.entry)
-                × (sender_channel result.1.0 ≡ sender_channel two.entry) }
+            requires one { (sender_channel one ≡ inbox.now) × (sent_by one ≡ []) }
+            requires two { (sender_channel two ≡ inbox.now) × (sent_by two ≡ []) }
+            ensures of { (sender_channel result.0.0 ≡ inbox.entry.now)
+                × (sender_channel result.1.0 ≡ inbox.entry.now) }
             ensures one { IsTrue result.0.1 → sent_by result.0.0 ≡ first.items }
             ensures two { IsTrue result.1.1 → sent_by result.1.0 ≡ second.items }
-        { send_both(rt, one, first, two, second) },
+        { send_both(rt, inbox, one, first, two, second) },
         move || -> (Receiver<'_, u32>, Vec<u32>, Result<(), OutOfMemory>)
-            requires { got_by receiver ≡ [] }
-            ensures of { receiver_channel result.0 ≡ receiver_channel receiver.entry }
+            requires { (receiver_channel receiver ≡ inbox.now) × (got_by receiver ≡ []) }
+            ensures of { receiver_channel result.0 ≡ inbox.entry.now }
             ensures got { got_by result.0 ≡ result.1.items }
             ensures ended { OnOk result.2 (has_ended result.0 ≡ true) }
         {
+            let _inbox = inbox;
             let mut all = Vec::new(alloc);
             let received = receiver.recv_all(rt, &mut all);
             (receiver, all, received)

@@ -66,26 +66,29 @@ fn work_both<'c, R: Threads + Wait + Sync>(
     ensures one { IsSameWorker one.entry result.0.0 × (IsTrue result.0.1 → IsDone result.0.0) }
     ensures two { IsSameWorker two.entry result.1.0 × (IsTrue result.1.1 → IsDone result.1.0) }
 {
-    thread::join(
-        rt,
-        move || -> Worked<'_>
-            requires { IsNew one }
-            ensures same { IsSameWorker one.entry result.0 }
-            ensures done { IsTrue result.1 → IsDone result.0 }
-        { work(rt, one) },
-        move || -> Worked<'_>
-            requires { IsNew two }
-            ensures same { IsSameWorker two.entry result.0 }
-            ensures done { IsTrue result.1 → IsDone result.0 }
-        { work(rt, two) },
-    )
+    thread::join(rt, move || work(rt, one), move || work(rt, two))
+}
+
+// Sends all numbers, and closes their channel.
+fn feed<'c, R: Wait>(
+    rt: &R,
+    mut feeder: Sender<'c, u64>,
+    mut all: VecDeque<u64>,
+) -> Fed<'c>
+    requires { sent_by feeder ≡ [] }
+    ensures of { sender_channel result.0 ≡ sender_channel feeder.entry }
+    ensures sent { IsTrue result.1 → sent_by result.0 ≡ all.items }
+{
+    let sent = feeder.send_all(rt, &mut all);
+    feeder.close(rt);
+    (feeder, matches!(&sent, Ok(Ok(()))))
 }
 
 // Sends all numbers while two workers answer them.
 fn run<'c, R: Threads + Wait + Sync>(
     rt: &R,
-    mut feeder: Sender<'c, u64>,
-    mut all: VecDeque<u64>,
+    feeder: Sender<'c, u64>,
+    all: VecDeque<u64>,
     one: Worker<'c>,
     two: Worker<'c>,
 ) -> (Fed<'c>, (Worked<'c>, Worked<'c>))
@@ -99,22 +102,8 @@ fn run<'c, R: Threads + Wait + Sync>(
 {
     thread::join(
         rt,
-        move || -> Fed<'_>
-            requires { sent_by feeder ≡ [] }
-            ensures of { sender_channel result.0 ≡ sender_channel feeder.entry }
-            ensures sent { IsTrue result.1 → sent_by result.0 ≡ all.items }
-        {
-            let sent = feeder.send_all(rt, &mut all);
-            feeder.close(rt);
-            (feeder, matches!(&sent, Ok(Ok(()))))
-        },
-        move || -> (Worked<'_>, Worked<'_>)
-            requires new { IsNew one × IsNew two }
-            ensures one { IsSameWorker one.entry result.0.0
-                × (IsTrue result.0.1 → IsDone result.0.0) }
-            ensures two { IsSameWorker two.entry result.1.0
-                × (IsTrue result.1.1 → IsDone result.1.0) }
-        { work_both(rt, one, two) },
+        move || feed(rt, feeder, all),
+        move || work_both(rt, one, two),
     )
 }
 

@@ -21,27 +21,30 @@ pub fn relay<R: Threads + Wait + Sync>(
     ensures { IfOk result (λ copy. copy.items ≡ all.items) }
 {
     let (channel, pass) = bounded(alloc, CAPACITY)?;
-    let mut hub = Hub::new(&channel, pass);
+    let line = &channel;
+    let mut hub = Hub::new(line, pass);
     let mut sender = hub.sender();
     let mut receiver = hub.receiver();
     let mut messages = VecDeque::from(all);
     let ((sender, all_sent), (receiver, copy, received)) = thread::join(
         rt,
         move || -> (Sender<'_, u32>, bool)
-            requires { sent_by sender ≡ [] }
-            ensures of { sender_channel result.0 ≡ sender_channel sender.entry }
+            requires { (sender_channel sender ≡ line.now) × (sent_by sender ≡ []) }
+            ensures of { sender_channel result.0 ≡ line.entry.now }
             ensures sent { IsTrue result.1 → sent_by result.0 ≡ messages.items }
         {
+            let _line = line;
             let sent = sender.send_all(rt, &mut messages);
             sender.close(rt);
             (sender, matches!(&sent, Ok(Ok(()))))
         },
         move || -> (Receiver<'_, u32>, Vec<u32>, Result<(), OutOfMemory>)
-            requires { got_by receiver ≡ [] }
-            ensures of { receiver_channel result.0 ≡ receiver_channel receiver.entry }
+            requires { (receiver_channel receiver ≡ line.now) × (got_by receiver ≡ []) }
+            ensures of { receiver_channel result.0 ≡ line.entry.now }
             ensures got { got_by result.0 ≡ result.1.items }
             ensures ended { OnOk result.2 (has_ended result.0 ≡ true) }
         {
+            let _line = line;
             let mut copy = Vec::new(alloc);
             let received = receiver.recv_all(rt, &mut copy);
             (receiver, copy, received)

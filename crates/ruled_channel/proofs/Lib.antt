@@ -9,3 +9,4 @@ mod Waits
 mod Sends
 mod Receives
 mod Polled
+mod Wants

@@ -8,8 +8,8 @@ use Rattle.channel_core.specs.declared.errors.SendError.{SendError}
 use Rattle.ruled_channel.specs.declared.endpoint.Endpoint.{Endpoint}
 use Rattle.ruled_channel.specs.declared.protocol.Event.TheVariants.{Sent, Received, FoundEnd}
 use Rattle.ruled_channel.specs.declared.protocol.Event.{Event}
-use Rattle.ruled_channel.specs.State.{State, state_of}
-use Rattle.ruled_channel.specs.Rule.{Fits, MayReceive}
+use Rattle.ruled_channel.specs.State.{State, HasReceivers, IsEmpty, MakesSendsWant, state_of}
+use Rattle.ruled_channel.specs.Rule.{Fits, MayReceive, WasOnce}
 use Rattle.ruled_channel.specs.Steps.{closed_left}
 use Rattle.ruled_channel.specs.Endpoints.{HasMadeWith, HasReceived, HasSent, IsSame, found, key, source, view}
 
@@ -37,7 +37,8 @@ module _ {T P K V : Type 0} where
       × IfOk out.1 (λ answer. HasSent h.1 answer out.0
       × OnOk answer (tells (view h.0) (Sent h.1) (view out.0))
       × IfErr answer (λ error. (error.0 ≡ h.1) × (view out.0 ≡ view h.0)))
-      × IfErr out.1 (λ error. (error.0 ≡ h.1) × (view out.0 ≡ view h.0)))
+      × IfErr out.1 (λ error. (error.0 ≡ h.1) × (view out.0 ≡ view h.0)
+      × WasOnce MakesSendsWant (holds (key h.0)) (view h.0)))
 
   -- what was there comes back: the endpoint with its view as it was, and the message
   abbrev pub AreBack : Option (Endpoint T P K V × T)
@@ -67,7 +68,7 @@ module _ {T P K V : Type 0} where
       × IfOk out.1 (λ answer. HasReceived answer out.0
       × IfOk answer (λ m. tells (view e) (Received m) (view out.0))
       × OnErr answer (tells (view e) FoundEnd (view out.0)))
-      × OnErr out.1 (view out.0 ≡ view e))
+      × OnErr out.1 ((view out.0 ≡ view e) × WasOnce IsEmpty (holds (key e)) (view e)))
 
   -- The endpoint comes back, with its view as it was. There is no receiver, or memory was refused.
   abbrev pub GivesClosed : (K → State T → List V → Type 0) →
@@ -76,7 +77,8 @@ module _ {T P K V : Type 0} where
   GivesClosed holds held out =
       IfSome held (λ e. IsSame e out.0 × (view out.0 ≡ view e)
       × Fits (holds (key e)) (view e) (state_of (found out.0))
-      × HasMadeWith closed_left out.0 × OnOk out.1 ((found out.0).receivers ≡ 0))
+      × HasMadeWith closed_left out.0 × OnOk out.1 ((found out.0).receivers ≡ 0)
+      × OnErr out.1 (WasOnce HasReceivers (holds (key e)) (view e)))
 
   -- one that was there comes back, with its view as it was
   abbrev pub IsBack : Option (Endpoint T P K V)

@@ -143,6 +143,10 @@ module _ {T V : Type 0} where
   Fits holds v state =
       (pass : ℕ) × (views : List V) × holds state views × (get_elem? views pass ≡ some v)
 
+  -- at one moment the channel was such, and the rule held of it and of this view
+  abbrev pub WasOnce : (State T → Type 0) → (State T → List V → Type 0) → V → Type 0
+  WasOnce IsSuch holds v = (state : State T) × IsSuch state × Fits holds v state
+
   -- this view is cut in two, and a new pass has the second
   abbrev pub Forks : (State T → List V → Type 0) → ℕ → V → V → V → Type 0
   Forks holds pass v left right =

@@ -4,8 +4,8 @@
 //! the core's list, under the lock, and sleeps until just this mark is rung.
 ghost use Rattle.std.specs.Prelude.{◌≡◌, IfOk, IfErr, OnErr};
 ghost use Rattle.ruled_channel.specs.declared.protocol.Event.TheVariants.{Sent, Received, FoundEnd};
-ghost use Rattle.ruled_channel.specs.State.{state_of};
-ghost use Rattle.ruled_channel.specs.Rule.{Fits, MayReceive};
+ghost use Rattle.ruled_channel.specs.State.{IsEmpty, MakesSendsWant, state_of};
+ghost use Rattle.ruled_channel.specs.Rule.{Fits, MayReceive, WasOnce};
 ghost use Rattle.ruled_channel.specs.Steps.{receive_given_up, send_given_up};
 
 use crate::endpoint::Endpoint;
@@ -50,7 +50,7 @@ impl<T: Drop, P: Protocol<T>> Endpoint<'_, T, P> {
     /// assert_eq!(rt; endpoint.send_blocking(&rt, 5)?, Ok(()));
     /// assert_eq!(rt; endpoint.recv_blocking(&rt)?, Ok(5));
     /// ```
-    #[tactic(auto, using(crate::proofs::Made::has_polled_send, crate::proofs::Made::has_sent_at_once, crate::proofs::Made::is_turned_back_at_once, crate::proofs::Made::leaves_sends))]
+    #[tactic(auto, using(crate::proofs::Made::has_polled_send, crate::proofs::Made::has_sent_at_once, crate::proofs::Made::is_turned_back_at_once, crate::proofs::Made::leaves_sends, crate::proofs::Wants::send_wanted))]
     pub fn send_blocking(
         &mut self,
         rt: &impl Wait,
@@ -66,7 +66,8 @@ impl<T: Drop, P: Protocol<T>> Endpoint<'_, T, P> {
         ensures fits { IfOk result (λ _. Fits (P.holds (key self.old)) (view self.old)
             (state_of (found self.new))) }
         ensures memory { IfErr result
-            (λ error. (error.0 ≡ message) × (view self.new ≡ view self.old)) }
+            (λ error. (error.0 ≡ message) × (view self.new ≡ view self.old)
+            × WasOnce MakesSendsWant (P.holds (key self.old)) (view self.old)) }
         ensures given_up { OnErr result (HasMadeWith send_given_up self.new) }
     {
         let mut waiting = message;
@@ -106,7 +107,7 @@ impl<T: Drop, P: Protocol<T>> Endpoint<'_, T, P> {
     /// assert!(rt; endpoint.close(&rt));
     /// assert_eq!(rt; endpoint.recv_blocking(&rt)?, Err(RecvError));
     /// ```
-    #[tactic(auto, using(crate::proofs::Made::has_received, crate::proofs::Made::has_ended, crate::proofs::Made::has_polled_receive))]
+    #[tactic(auto, using(crate::proofs::Made::has_received, crate::proofs::Made::has_ended, crate::proofs::Made::has_polled_receive, crate::proofs::Wants::recv_waited))]
     pub fn recv_blocking(&mut self, rt: &impl Wait) -> Result<Result<T, RecvError>, OutOfMemory>
         requires may { MayReceive (P.may (key self.old) (view self.old)) }
         ensures same { IsSame self.old self.new }
@@ -117,7 +118,8 @@ impl<T: Drop, P: Protocol<T>> Endpoint<'_, T, P> {
             (P.tells (view self.old) FoundEnd (view self.new))) }
         ensures fits { IfOk result (λ _. Fits (P.holds (key self.old)) (view self.old)
             (state_of (found self.new))) }
-        ensures memory { OnErr result (view self.new ≡ view self.old) }
+        ensures memory { OnErr result ((view self.new ≡ view self.old)
+            × WasOnce IsEmpty (P.holds (key self.old)) (view self.old)) }
         ensures given_up { OnErr result (HasMadeWith receive_given_up self.new) }
     {
         for _look in 0..LOOKS {

@@ -4,7 +4,8 @@ ghost use Rattle.futures.specs.Task.{Covers, Keeps};
 ghost use Rattle.futures.specs.Poll.{IfReady, OnPending};
 ghost use Rattle.channel_core.specs.Channel.{RecvWaits, polled_receive};
 ghost use Rattle.ruled_channel.specs.declared.mark.Mark.{Mark};
-ghost use Rattle.ruled_channel.specs.Rule.{MayReceive};
+ghost use Rattle.ruled_channel.specs.Rule.{MayReceive, WasOnce};
+ghost use Rattle.ruled_channel.specs.State.{IsEmpty};
 ghost use Rattle.ruled_channel.specs.Steps.{receive_given_up};
 ghost use Rattle.ruled_channel.specs.Endpoints.{HasMade, IsSame, found, key, made, view, woken};
 ghost use Rattle.ruled_channel.specs.Futures.{GivesReceived, IsBack, MayRecv, NeedsToWait};
@@ -81,7 +82,7 @@ impl<'c, T: Drop, P: Protocol<T>, R: Wait> Future for Recv<'_, 'c, T, P, R> {
 
     ghost gives = { λ f. GivesReceived P.holds P.tells (endpoint_of f) };
 
-    #[tactic(auto, using(crate::proofs::Made::has_polled_receive))]
+    #[tactic(auto, using(crate::proofs::Made::has_polled_receive, crate::proofs::Wants::recv_waited))]
     fn poll(&mut self, cx: &mut Context<'_>) -> Poll<Self::Output>
         requires { MayRecv P.may (endpoint_of self.old) }
         ensures value { IfReady result (GivesReceived P.holds P.tells (endpoint_of self.old)) }
@@ -96,6 +97,8 @@ impl<'c, T: Drop, P: Protocol<T>, R: Wait> Future for Recv<'_, 'c, T, P, R> {
             × RecvWaits (ticket_of self.old) (found e) w (ticket_of self.new) (made e)
             × (woken e ≡ []))) }
         ensures stays { OnPending result (IsBack (endpoint_of self.old) (endpoint_of self.new)) }
+        ensures empty { OnPending result (IfSome (endpoint_of self.old)
+            (λ e. WasOnce IsEmpty (P.holds (key e)) (view e))) }
         ensures holds { OnPending result (IsSome (ticket_of self.new)) }
         ensures again { OnPending result (MayRecv P.may (endpoint_of self.new)) }
         ensures same { OnPending result ((x : _) → GivesReceived P.holds P.tells (endpoint_of self.new) x

@@ -5,6 +5,8 @@ ghost use Rattle.futures.specs.Poll.{IfReady, OnPending};
 ghost use Rattle.channel_core.specs.Channel.{SendWaits, polled_send};
 ghost use Rattle.ruled_channel.specs.declared.mark.Mark.{Mark};
 ghost use Rattle.ruled_channel.specs.declared.protocol.Event.TheVariants.{Sent};
+ghost use Rattle.ruled_channel.specs.State.{IsFull};
+ghost use Rattle.ruled_channel.specs.Rule.{WasOnce};
 ghost use Rattle.ruled_channel.specs.Steps.{send_given_up};
 ghost use Rattle.ruled_channel.specs.Endpoints.{HasMade, IsSame, found, key, made, view, woken};
 ghost use Rattle.ruled_channel.specs.Futures.{AreBack, GivesSent, MaySend, NeedsToSend};
@@ -82,7 +84,7 @@ impl<'c, T: Drop, P: Protocol<T>, R: Wait> Future for Send<'_, 'c, T, P, R> {
 
     ghost gives = { λ f. GivesSent P.holds P.tells (parts_of f) };
 
-    #[tactic(auto, using(crate::proofs::Made::has_polled_send))]
+    #[tactic(auto, using(crate::proofs::Made::has_polled_send, crate::proofs::Wants::send_wanted, crate::proofs::Wants::send_waited))]
     fn poll(&mut self, cx: &mut Context<'_>) -> Poll<Self::Output>
         requires { MaySend P.may (parts_of self.old) }
         ensures value { IfReady result (GivesSent P.holds P.tells (parts_of self.old)) }
@@ -97,6 +99,8 @@ impl<'c, T: Drop, P: Protocol<T>, R: Wait> Future for Send<'_, 'c, T, P, R> {
             × SendWaits (Some h.1) (ticket_of self.old) (found h.0) w (ticket_of self.new)
             (made h.0) × (woken h.0 ≡ []))) }
         ensures stays { OnPending result (AreBack (parts_of self.old) (parts_of self.new)) }
+        ensures full { OnPending result (IfSome (parts_of self.old)
+            (λ h. WasOnce IsFull (P.holds (key h.0)) (view h.0))) }
         ensures holds { OnPending result (IsSome (ticket_of self.new)) }
         ensures again { OnPending result (MaySend P.may (parts_of self.new)) }
         ensures same { OnPending result ((x : _) → GivesSent P.holds P.tells (parts_of self.new) x
