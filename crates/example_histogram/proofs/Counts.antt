@@ -5,7 +5,7 @@ use Rattle.std.proofs.lemmas.List.Sums.{sum_by-append}
 use Rattle.std.proofs.lemmas.Bool.Decides.{eqb_tells}
 use Rattle.example_histogram.specs.declared.rule.Tally.{Tally}
 use Rattle.example_histogram.specs.Classes.{AreCountsOf}
-use Rattle.example_histogram.specs.Rule.{counter, with_counted}
+use Rattle.example_histogram.specs.Rule.{counter}
 
 one_counted : (k c : ℕ) (classes : List ℕ) → count_by (λ x. x == k) (classes ++ c ∷ []) ≡ count_by (λ x. x == k) classes + cond (c == k) 1 0
 one_counted k c classes = sum_by-append (λ x. cond (x == k) 1 0) classes (c ∷ []) ∙ ap (λ n. count_by (λ x. x == k) classes + n) (zero-add (cond (c == k) 1 0))
@@ -21,7 +21,7 @@ one_more counts classes c long small are k below =
     (eqb_tells c k)
 
 -- the counter has one more
-pub counted_more : (v w : Tally) (counts : List ℕ) (c n : ℕ) → length counts ≡ 6 → c < 6 → w ≡ with_counted v c → v ≡ counter v.counted false → length v.counted ≡ n → AreCountsOf counts v.counted
+pub counted_more : (v w : Tally) (counts : List ℕ) (c n : ℕ) → length counts ≡ 6 → c < 6 → w ≡ record v { counted = v.counted ++ c ∷ [] } → v ≡ counter v.counted false → length v.counted ≡ n → AreCountsOf counts v.counted
     → (w ≡ counter w.counted false) × (length w.counted ≡ n + 1) × AreCountsOf (set counts c (slice_index counts c + 1)) w.counted
 counted_more v w counts c n long small is was many are = subst (λ (u : Tally). (u ≡ counter u.counted false) × (length u.counted ≡ n + 1) × AreCountsOf (set counts c (slice_index counts c + 1)) u.counted) (sym is)
-    (ap (λ (u : Tally). with_counted u c) was, length-append v.counted (c ∷ []) ∙ ap (λ m. m + 1) many, one_more counts v.counted c long small are)
+    (ap (λ (u : Tally). record u { counted = u.counted ++ c ∷ [] }) was, length-append v.counted (c ∷ []) ∙ ap (λ m. m + 1) many, one_more counts v.counted c long small are)

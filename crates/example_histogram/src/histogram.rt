@@ -1,19 +1,17 @@
 //! One thread sends the classes of numbers, another counts them.
 ghost use Rattle.std.specs.Prelude.{◌≡◌, [], take, IfOk, true, false};
-ghost use Rattle.ruled_channel.specs.Passes.{IsPassOf, view};
+ghost use Rattle.ruled_channel.specs.Endpoints.{channel, view};
 ghost use Rattle.example_histogram.specs.Classes.{classes_of, AreCountsOf};
 ghost use Rattle.example_histogram.specs.Rule.{sender, counter};
 
-use crate::rule::{Tallied, Tally};
-use ruled_channel::{OutOfMemory, RuledChannel, Unruled, bounded_with};
+use crate::rule::Tallied;
+use ruled_channel::{Endpoint, OutOfMemory, bounded_with};
 use std::alloc::Global;
 use std::sync::Wait;
 use std::thread;
 use std::thread::Threads;
 
-type Channel = RuledChannel<usize, Tally, Tallied>;
-
-type Pass = ruled_channel::Pass<usize, Tally>;
+type End<'c> = Endpoint<'c, usize, Tallied>;
 
 /// How many classes there are: one for each ten below 50, and one for what is above.
 const CLASSES: usize = 6;
@@ -25,20 +23,15 @@ type Counts = [u64; CLASSES];
 const CAPACITY: usize = 4;
 
 // Sends the class of each number until the channel is closed, and answers how many were sent.
-fn send_each<R: Wait>(
-    rt: &R,
-    channel: &Channel,
-    pass: &mut Pass,
-    numbers: &[usize],
-) -> Result<usize, OutOfMemory>
-    requires { IsPassOf channel.now pass.old × (view pass.old ≡ sender []) }
-    ensures own { IsPassOf channel.now pass.new }
+fn send_each(rt: &impl Wait, end: &mut End<'_>, numbers: &[usize]) -> Result<usize, OutOfMemory>
+    requires { view end.old ≡ sender [] }
+    ensures same { channel end.new ≡ channel end.old }
     ensures sent { IfOk result (λ count.
-        view pass.new ≡ sender (classes_of (take count numbers.now))) }
+        view end.new ≡ sender (classes_of (take count numbers.now))) }
 {
     for next in 0..numbers.len() {
         let class = (numbers[next] / 10).min(CLASSES - 1);
-        match channel.send_blocking_as::<Tallied, Unruled, R>(rt, pass, class) {
+        match end.send_blocking(rt, class) {
             Ok(Ok(())) => {}
             Ok(Err(_)) => return Ok(next),
             Err(_) => return Err(OutOfMemory),
@@ -48,46 +41,51 @@ fn send_each<R: Wait>(
 }
 
 // The same, and closes the channel.
-fn send_all<R: Wait>(
-    rt: &R,
-    channel: &Channel,
-    mut pass: Pass,
+fn send_all<'c>(
+    rt: &impl Wait,
+    mut end: End<'c>,
     numbers: &[usize],
-) -> (Pass, Result<usize, OutOfMemory>)
-    requires { IsPassOf channel.now pass × (view pass ≡ sender []) }
-    ensures own { IsPassOf channel.now result.0 }
+) -> (End<'c>, Result<usize, OutOfMemory>)
+    requires { view end ≡ sender [] }
+    ensures same { channel result.0 ≡ channel end.entry }
     ensures sent { IfOk result.1 (λ count.
         view result.0 ≡ sender (classes_of (take count numbers.now))) }
 {
-    let sent = send_each(rt, channel, &mut pass, numbers);
-    channel.close_as::<Tallied, R>(rt, &mut pass);
-    (pass, sent)
+    let sent = send_each(rt, &mut end, numbers);
+    end.close(rt);
+    (end, sent)
 }
 
 // Counts what is received until the channel is closed and empty. It closes the channel if it can't
 // go on.
-fn count_all<R: Wait>(
-    rt: &R,
-    channel: &Channel,
-    mut pass: Pass,
-) -> (Pass, Result<Counts, OutOfMemory>)
-    requires { IsPassOf channel.now pass × (view pass ≡ counter [] false) }
-    ensures own { IsPassOf channel.now result.0 }
+fn count_all<'c>(rt: &impl Wait, mut end: End<'c>) -> (End<'c>, Result<Counts, OutOfMemory>)
+    requires { view end ≡ counter [] false }
+    ensures same { channel result.0 ≡ channel end.entry }
     ensures counted { IfOk result.1 (λ counts.
         (view result.0 ≡ counter (view result.0).counted true)
         × AreCountsOf counts (view result.0).counted) }
 {
     let mut counts = [0_u64; CLASSES];
     for _turn in 0..u64::MAX {
-        match channel.recv_blocking_as::<Tallied, Tallied, R>(rt, &mut pass) {
+        match end.recv_blocking(rt) {
             // The rule says that there is such a count.
             Ok(Ok(class)) => counts[class] += 1,
-            Ok(Err(_)) => return (pass, Ok(counts)),
+            Ok(Err(_)) => return (end, Ok(counts)),
             Err(_) => break,
         }
     }
-    channel.close_as::<Tallied, R>(rt, &mut pass);
-    (pass, Err(OutOfMemory))
+    end.close(rt);
+    (end, Err(OutOfMemory))
+}
+
+// Looks at the channel: who sent and counted, and found the end, has counted all that was sent.
+#[tactic(auto, using(crate::proofs::Tallied::all_counted))]
+fn settle(rt: &impl Wait, end: &mut End<'_>)
+    requires { ((view end.old).sends ≡ true) × ((view end.old).counts ≡ true)
+        × ((view end.old).ended ≡ true) }
+    ensures { (view end.old).counted ≡ (view end.old).sent }
+{
+    let _status = end.status(rt);
 }
 
 /// How many of the numbers there are of each class.
@@ -98,28 +96,28 @@ pub fn histogram<R: Threads + Wait + Sync>(
 ) -> Result<Counts, OutOfMemory>
     ensures { IfOk result (λ counts. AreCountsOf counts (classes_of numbers.now)) }
 {
-    let (channel, mut sends) = bounded_with::<usize, Tally, Tallied>(alloc, CAPACITY)?;
-    let line = &channel;
-    let counts = line.another::<Tallied>(&mut sends);
-    let ((mut pass, sent), (other, counts)) = thread::join(
+    let (line, pass) = bounded_with(alloc, CAPACITY)?;
+    let mut sends = Endpoint::new(&line, pass);
+    let counts = Endpoint::new(&line, sends.another::<Tallied>());
+    let ((mut end, sent), (other, counts)) = thread::join(
         rt,
-        move || -> (Pass, Result<usize, OutOfMemory>)
-            requires { IsPassOf line.now sends × (view sends ≡ sender []) }
-            ensures own { IsPassOf line.entry.now result.0 }
+        move || -> (End<'_>, Result<usize, OutOfMemory>)
+            requires { view sends ≡ sender [] }
+            ensures same { channel result.0 ≡ channel sends.entry }
             ensures sent { IfOk result.1 (λ count.
                 view result.0 ≡ sender (classes_of (take count numbers.entry.now))) }
-        { send_all(rt, line, sends, numbers) },
-        move || -> (Pass, Result<Counts, OutOfMemory>)
-            requires { IsPassOf line.now counts × (view counts ≡ counter [] false) }
-            ensures own { IsPassOf line.entry.now result.0 }
+        { send_all(rt, sends, numbers) },
+        move || -> (End<'_>, Result<Counts, OutOfMemory>)
+            requires { view counts ≡ counter [] false }
+            ensures same { channel result.0 ≡ channel counts.entry }
             ensures counted { IfOk result.1 (λ found.
                 (view result.0 ≡ counter (view result.0).counted true)
                 × AreCountsOf found (view result.0).counted) }
-        { count_all(rt, line, counts) },
+        { count_all(rt, counts) },
     );
     let (sent, counts) = (sent?, counts?);
-    line.absorb::<Tallied>(&mut pass, other);
-    line.learn_as::<Tallied, R>(rt, &mut pass);
+    end.absorb::<Tallied>(other.into_pass());
+    settle(rt, &mut end);
     if sent < numbers.len() {
         return Err(OutOfMemory);
     }

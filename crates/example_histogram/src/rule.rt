@@ -1,11 +1,12 @@
 //! The rule: what was sent is what was counted and then what the channel holds.
-ghost use Rattle.std.specs.Prelude.{◌≡◌, ◌<◌, [], true, false};
-ghost use Rattle.example_histogram.specs.Rule.{IsTallied, tally, with_sent, with_counted, with_end, sender, counter, together, spent};
+ghost use Rattle.std.specs.Prelude.{[], true, false};
+ghost use Rattle.example_histogram.specs.Rule.{IsTallied, tally, may, tells, sender, counter, together, spent};
+ghost use Rattle.example_histogram.specs.Keeps.{keeps};
 
-use ruled_channel::{AtEnd, HasClosed, Join, Lesson, Protocol, Received, Sent, Split};
+use ruled_channel::{Join, Protocol, Split};
 use std::collections::LinkedList;
 
-/// What a pass knows. No value of it is made.
+/// What an endpoint knows. No value of it is made.
 pub struct Tally {
     /// Whether it sends, and what it has sent.
     pub sends: bool,
@@ -19,34 +20,20 @@ pub struct Tally {
 
 pub struct Tallied;
 
-impl Protocol<usize, Tally> for Tallied {
+impl Protocol<usize> for Tallied {
     type Key = ();
+
+    type View = Tally;
 
     ghost holds = { λ _. IsTallied };
 
     ghost first = { λ _. tally true [] true [] false };
-}
 
-impl Sent<usize, Tally> for Tallied {
-    ghost then = { λ v class w. w ≡ with_sent v class };
-}
+    ghost may = { λ _. may };
 
-/// What is received is a class, below 6.
-impl Received<usize, Tally> for Tallied {
-    ghost then = { λ v class w. (class < 6) × (w ≡ with_counted v class) };
-}
+    ghost tells = { tells };
 
-impl AtEnd<Tally> for Tallied {
-    ghost then = { λ v w. w ≡ with_end v };
-}
-
-impl HasClosed<Tally> for Tallied {
-    ghost then = { λ v has_closed w. w ≡ v };
-}
-
-/// Who sent and counted, and found the end, has counted all.
-impl Lesson<usize, Tally> for Tallied {
-    ghost fact = { λ v state. v.counted ≡ v.sent };
+    ghost keeps = { λ _. keeps };
 }
 
 /// One part sends, the other counts.

@@ -7,6 +7,7 @@ pub use Rattle.event_list.specs.Waiting
 pub mod Marks
 pub mod Rung
 pub mod State
+pub mod Roles
 pub mod Rule
 pub mod Guarded
 pub mod Passes

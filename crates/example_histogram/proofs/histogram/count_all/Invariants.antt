@@ -1,8 +1,8 @@
 use Rattle.std.proofs.Common.{◌≡◌, false, length}
-use Rattle.ruled_channel.specs.Passes.{IsPassOf, view}
+use Rattle.ruled_channel.specs.Endpoints.{channel, view}
 use Rattle.example_histogram.specs.Classes.{AreCountsOf}
 use Rattle.example_histogram.specs.Rule.{counter}
 use Rattle.example_histogram.proofs.histogram.count_all.Given as goal
 
 abbrev pub invariant-loop-turn : goal.invariant-loop-turn
-invariant-loop-turn g l = IsPassOf l.channel l.pass × (view l.pass ≡ counter (view l.pass).counted false) × (length (view l.pass).counted ≡ l._turn) × AreCountsOf l.counts (view l.pass).counted × (length l.counts ≡ 6)
+invariant-loop-turn g l = (channel l.end ≡ channel g.end) × (view l.end ≡ counter (view l.end).counted false) × (length (view l.end).counted ≡ l._turn) × AreCountsOf l.counts (view l.end).counted × (length l.counts ≡ 6)
