@@ -3,18 +3,21 @@
 
 What it prints of examples/NAME.explore is compared with examples/NAME.outcomes, with the orders
 that tools/explorations/every_order.py makes by the rules, and each script in it is replayed by the
-built chanrun, whose replies have to be those of the outcome. What it prints of the inputs in
-reports.py is compared whole, and a report of 5,040 outcomes has each of them once. Of each byte it
-is asked whether a name may have it, and lines, names and arguments are given at their limits and
-one beyond. A device is full, or can't be read, and on a terminal it has to say each second how many
-orders were made. The gate leaves the programs built; if one isn't, `rt run` builds it. The last
-line counts the cases, and the status is 0 if all passed and there are as many as are stored here.
-With the argument --write the outcomes are stored in place of being compared.
+built chanrun, whose replies have to be those of the outcome. With `--until stuck` it has to write
+the script of the first stuck outcome. Random parties, whose seed is printed, are compared with the
+rules too. What it prints of the inputs in reports.py is compared whole, and a report of 40,320
+outcomes has each of them once. Of each byte it is asked whether a name may have it, and lines, names
+and arguments are given at their limits and one beyond. A device is full, or can't be read, and on a
+terminal it has to say each second how many orders were made, however long one is. The gate leaves
+the programs built; if one isn't, `rt run` builds it. The last line counts the cases, and the status
+is 0 if all passed and there are as many as are stored here. With the argument --write the outcomes
+are stored in place of being compared.
 """
 
 import os
 import pathlib
 import pty
+import random
 import re
 import select
 import subprocess
@@ -22,15 +25,18 @@ import sys
 import time
 
 from every_order import explored
+from random_parties import random_parties
 from reports import reports
 
 TOP = pathlib.Path(__file__).resolve().parent.parent.parent
 EXAMPLES = TOP / "examples"
 SECONDS = 120
+# How many random scripts are explored.
+SCRIPTS = 500
 # How many cases there are, so that none is lost.
-CASES = 90
+CASES = 106
 LARGEST = 2**64 - 1
-USAGE = b"chanexplore takes --orders N, N from 1 to 10000000, or no argument\n"
+USAGE = b"chanexplore takes --orders N, N from 1 to 10000000, and --until stuck\n"
 
 
 def built(name, given):
@@ -73,6 +79,14 @@ def as_polled(line):
     return re.sub(r"^await (r\d+)$", r"next \1", what), reply
 
 
+def wrong_until_stuck(program, given, outcomes):
+    """What is wrong with the search for the first stuck order."""
+    script = next((script + "\n" for _count, stuck, _lines, script in outcomes if stuck), "")
+    ran = run(program, given.encode(), ["--until", "stuck"])
+    if (ran.returncode, ran.stdout.decode(), ran.stderr) != (4 if script else 0, script, b""):
+        yield f"until stuck: status {ran.returncode}, {ran.stdout}"
+
+
 def wrong_with(example, programs, write):
     """What is wrong with the report on an example."""
     given = example.read_text()
@@ -92,6 +106,7 @@ def wrong_with(example, programs, write):
     told = {lines: (count, stuck) for count, stuck, lines, _script in outcomes_in(text)}
     if list(told.items()) != list(found.items()):
         wrong.append("the outcomes aren't those of the rules")
+    wrong += wrong_until_stuck(programs["chanexplore"], given, outcomes_in(text))
     before = given.split("\nparty ")[0].count("\n")
     for _count, _stuck, lines, script in outcomes_in(text):
         reached = {as_polled(line) for line in lines if not line.endswith(" not reached")}
@@ -162,18 +177,17 @@ def wrong_with_devices(program):
         yield f"a folder as input: status {ran.returncode}, {ran.stderr!r}"
 
 
-def told_on_terminal(program):
-    """The first two lines on a terminal during a long search, each with its second."""
+def told_on_terminal(program, given, told):
+    """So many lines on a terminal during a long search, each with its second."""
     terminal, errors = pty.openpty()
-    given = b"unbounded\n" + b"".join(b"party %c\n" % it + b"len s0\n" * 13 for it in b"ab")
     arguments, start = ["--orders", "10000000"], time.monotonic()
     ran = subprocess.Popen(
         [program, *arguments], stdin=subprocess.PIPE, stdout=subprocess.DEVNULL, stderr=errors
     )
     ran.stdin.write(given)
     ran.stdin.close()
-    for _line in range(2):
-        if select.select([terminal], [], [], 10)[0]:
+    for _line in range(told):
+        if select.select([terminal], [], [], 60)[0]:
             yield os.read(terminal, 100), time.monotonic() - start
     ran.kill()
     ran.wait()
@@ -181,14 +195,23 @@ def told_on_terminal(program):
     os.close(terminal)
 
 
+def two_parties(lines):
+    """Two parties with so many lines each."""
+    return b"unbounded\n" + b"".join(b"party %c\n" % it + b"len s0\n" * lines for it in b"ab")
+
+
 def wrong_with_terminal(program):
     """What is wrong with what is said on a terminal each second."""
-    said = list(told_on_terminal(program))
+    said = list(told_on_terminal(program, two_parties(13), 2))
     counts = [re.fullmatch(rb"(\d+) orders\r\n", line) for line, _second in said]
     if len(said) != 2 or not all(counts) or int(counts[0][1]) >= int(counts[1][1]):
         yield f"{said}"
     elif said[0][1] < 1 or said[1][1] < 1.9:
         yield f"too soon: {said}"
+    # an order of so many lines takes a hundredth of a second at the least
+    said = list(told_on_terminal(program, two_parties(70_000), 1))
+    if len(said) != 1 or int(said[0][0].split()[0]) > 200:
+        yield f"with long orders: {said}"
 
 
 def at_limits():
@@ -199,6 +222,9 @@ def at_limits():
         b"party %s\n" % name + b"len s0\n" * count for name, count in ((b"a", n), (b"b", 10))
     ) for n in (9, 10)}
     one = party + b"len s0\n"
+    stuck = b"bounded 1\nparty a\nawait r0\n"
+    # the second order is the first that is stuck: c takes the message before b
+    late = b"bounded 1\nparty a\ntry_send s0 1\nparty b\nawait r0\nparty c\ntry_recv r0\n"
     filler = one + b"len s0\n" * ((2**20 - len(one)) // 7 - 1)
     number = b"line %d: unknown command\n" % (filler.count(b"\n") + 1)
     filler += b"x" * (2**20 - len(filler))
@@ -244,6 +270,21 @@ def at_limits():
         "no number": (one, ["--orders", "x"], 2, b"", USAGE),
         "an empty number": (one, ["--orders", ""], 2, b"", USAGE),
         "a number too large": (one, ["--orders", str(2**64 + 1)], 2, b"", USAGE),
+        "a number with a sign": (one, ["--orders", "+5"], 2, b"", USAGE),
+        "a number with zeros": (one, ["--orders", "007"], 2, b"", USAGE),
+        "a goal alone": (one, ["--until"], 2, b"", USAGE),
+        "another goal": (one, ["--until", "Stuck"], 2, b"", USAGE),
+        "a goal and a number alone": (one, ["--until", "stuck", "5"], 2, b"", USAGE),
+        "a goal and no number": (one, ["--until", "stuck", "--orders", "0"], 2, b"", USAGE),
+        "a number and no goal": (one, ["--orders", "5", "--until", "full"], 2, b"", USAGE),
+        "three arguments": (one, ["--until", "stuck"] * 3, 2, b"", USAGE),
+        "nobody is stuck": (one, ["--until", "stuck"], 0, b"", b""),
+        "the first is stuck": (stuck, ["--until", "stuck"], 4, b"bounded 1", b""),
+        "a stuck one at the limit": (
+            stuck, ["--orders", "1", "--until", "stuck"], 4, b"bounded 1", b""
+        ),
+        "none up to the limit": (late, ["--until", "stuck", "--orders", "1"], 3, b"", b""),
+        "the last is stuck": (late, ["--until", "stuck", "--orders", "2"], 4, b"bounded 1", b""),
     }
 
 
@@ -273,28 +314,28 @@ def hostile():
 
 
 def wrong_with_many(program):
-    """What is wrong with the report of 5,040 outcomes, after 208 lines before the parties."""
-    sent = "".join(f"try_send s0 {n}\n" for n in range(1, 8))
-    parties = "".join(f"party p{n}\ntry_recv r0\n" for n in range(1, 8))
-    before = "unbounded\n" + sent + "len s0\n" * 200
+    """What is wrong with the report of 40,320 outcomes, after 29 lines before the parties."""
+    sent = "".join(f"try_send s0 {n}\n" for n in range(1, 9))
+    parties = "".join(f"party p{n}\ntry_recv r0\n" for n in range(1, 9))
+    before = "unbounded\n" + sent + "len s0\n" * 20
     ran = run(program, (before + parties).encode())
     text = ran.stdout.decode()
-    if ran.returncode or not text.startswith("orders 5040\noutcomes 5040\nstuck 0\n"):
+    if ran.returncode or not text.startswith("orders 40320\noutcomes 40320\nstuck 0\n"):
         yield f"status {ran.returncode}, {text[:60]!r}"
     outcomes = list(outcomes_in(text))
-    if len({lines for _, _, lines, _ in outcomes}) != 5040:
+    if len({lines for _, _, lines, _ in outcomes}) != 40320:
         yield f"{len(outcomes)} outcomes"
-    if any(script != before + "try_recv r0\n" * 6 + "try_recv r0" for *_, script in outcomes):
+    if any(script != before + "try_recv r0\n" * 7 + "try_recv r0" for *_, script in outcomes):
         yield "a script is another one"
 
 
 def wrong_with_long(program):
-    """What is wrong with the report on 400 parties of three lines, the last of whom awaits."""
-    names = [f"p{number}" for number in range(400)]
-    lines = [[f"len s{number}", "len r0", "is_full s0"] for number in range(400)]
+    """What is wrong with the report on 3,000 parties of three lines, the last of whom awaits."""
+    names = [f"p{number}" for number in range(3000)]
+    lines = [[f"len s{number}", "len r0", "is_full s0"] for number in range(3000)]
     lines[-1][-1] = "await r0"
     replies = {"len r0": "0", "is_full s0": "false", "await r0": "pending"}
-    clones = [f"clone s0 s{number}" for number in range(1, 400)]
+    clones = [f"clone s0 s{number}" for number in range(1, 3000)]
     parties = [it for name, own in zip(names, lines) for it in (f"party {name}", *own)]
     answers = [
         f"{name}: {line} => {replies.get(line, '0')}"
@@ -303,13 +344,34 @@ def wrong_with_long(program):
     turns = [line.replace("await", "next") for own in lines for line in own]
     head = ["orders 1, and more: the limit is met", "outcomes 1", "stuck 1", ""]
     report = [*head, "outcome 1: 1 order, stuck", *answers, "script"]
-    wanted = [*report, "unbounded", *clones, *turns]
-    given = "\n".join(["unbounded", *clones, *parties])
-    ran = run(program, given.encode(), ["--orders", "1"])
-    got = ran.stdout.decode().splitlines()
-    if (ran.returncode, got) != (3, wanted):
-        at = next((at for at, pair in enumerate(zip(got, wanted)) if pair[0] != pair[1]), None)
-        yield f"status {ran.returncode}, {len(got)} lines, line {at}"
+    script = ["unbounded", *clones, *turns]
+    given = "\n".join(["unbounded", *clones, *parties]).encode()
+    for arguments, status, wanted in (
+        (["--orders", "1"], 3, [*report, *script]), (["--until", "stuck"], 4, script)
+    ):
+        ran = run(program, given, arguments)
+        got = ran.stdout.decode().splitlines()
+        if (ran.returncode, got) != (status, wanted):
+            at = next((at for at, pair in enumerate(zip(got, wanted)) if pair[0] != pair[1]), None)
+            yield f"{arguments}: status {ran.returncode}, {len(got)} lines, line {at}"
+
+
+def wrong_with_random(program, seed):
+    """Where the program and the rules differ on small random parties."""
+    counts = [0, 0, 0]
+    for number in range(SCRIPTS):
+        given = random_parties(seed, number)
+        found = explored(given)
+        told = run(program, given.encode()).stdout.decode()
+        outcomes = [*outcomes_in(told)]
+        if [(lines, (count, stuck)) for count, stuck, lines, _script in outcomes] != [*found.items()]:
+            yield f"seed {seed}, script {number}:\n{given}{told}"
+        yield from wrong_until_stuck(program, given, outcomes)
+        stuck = sum(stuck for _count, stuck in found.values())
+        counts = [counts[0] + len(found), counts[1] + stuck, max(counts[2], len(found))]
+    print(f"chanexplore: seed {seed}: {counts[0]} outcomes, {counts[1]} stuck, at most {counts[2]}")
+    if min(counts) < 5:
+        yield "too few of a kind"
 
 
 def cases(programs, write):
@@ -322,6 +384,7 @@ def cases(programs, write):
         got = (ran.returncode, ran.stdout.decode(), ran.stderr)
         yield name, [got] if got != (0 if whole else 3, report, b"") else []
     yield "characters of names", [*wrong_with_names(explorer)][:1]
+    yield "random parties", [*wrong_with_random(explorer, random.randrange(10**6))][:3]
     yield "many outcomes", [*wrong_with_many(explorer)]
     yield "a long report", [*wrong_with_long(explorer)]
     yield "devices", [*wrong_with_devices(explorer)]

@@ -97,7 +97,19 @@ class Channel:
         self.operations[name] = [kind, handle, message]
         return "done"
 
+    def next(self, receiver):
+        if receiver not in self.handles:
+            return "refused: unknown"
+        if any(held[:2] == ["receives", receiver] for held in self.operations.values()):
+            return "refused: borrowed"
+        if not self.held and not self.closed:
+            return self.wait("streams", receiver)
+        self.leave("streams", receiver)
+        return self.try_recv_again().replace("ok", "some").replace("closed", "end")
+
     def poll(self, name):
+        if name[0] == "r":
+            return self.next(name)
         if name not in self.operations:
             return "refused: unknown"
         kind, _handle, message = self.operations[name]
@@ -145,6 +157,7 @@ class Channel:
         if any(handle == name for _kind, handle, _message in self.operations.values()):
             return "refused: borrowed"
         self.handles.remove(name)
+        self.leave("streams", name)
         if self.count(name[0]) == 0:
             self.close()
             if name[0] == "r":
@@ -165,13 +178,14 @@ class Channel:
         calls = {
             "try_send": self.try_send,
             "try_recv": self.try_recv,
-            "close": lambda _handle: self.close(),
+            "close": lambda name: self.close() if name in self.handles else "refused: unknown",
             "clone": self.clone,
             "drop": self.drop,
             "send": lambda name, handle, message: self.begin("sends", name, handle, message),
             "recv": lambda name, handle: self.begin("receives", name, handle),
             "closed": lambda name, handle: self.begin("closeds", name, handle),
             "poll": self.poll,
+            "next": self.next,
             "await": self.poll,
             "notice": self.notice,
         }

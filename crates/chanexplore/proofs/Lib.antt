@@ -3,3 +3,4 @@ pub mod Trails
 pub mod HandedOver
 pub mod Preparing
 pub mod Counting
+pub mod Sought

@@ -132,3 +132,7 @@ first_moment past parties = record {
 -- many is cut there.
 abbrev pub all_orders : Kind → Past ℕ → List (List Act) → (most : ℕ) → List (List Turn)
 all_orders kind past parties most = orders_of kind parties most (first_moment past parties)
+
+-- the party and the line of each turn
+abbrev pub spots_of : List Turn → List (ℕ × ℕ)
+spots_of order = map (λ turn. (turn.party, turn.line)) order

@@ -1,7 +1,6 @@
--- What a party's line asks for, and how many orders the arguments allow.
-use Rattle.std.specs.Prelude.{◌≡◌, ℕ, ◌≤◌, Bool, true, false, List, [], ◌∷◌, codes, if◌then◌else◌, length, nat_lt, None, Some, Option, MatchOption, Result, Ok, Err, String, string_bytes}
+-- What a party's line asks for.
+use Rattle.std.specs.Prelude.{ℕ, List, [], ◌∷◌, codes, if◌then◌else◌, length, nat_lt, None, Some, Option, Result, Ok, Err}
 use Rattle.std.specs.Str.{bytes_eq}
-use Rattle.std.specs.Str.Parse.{IsNumeral, digits_value, without_leading_plus}
 use Rattle.channel_model.specs.declared.step.Who.{Who}
 use Rattle.chanrun.specs.Grammar.{command_of, who_in, word_of, words_of}
 use Rattle.chanrun.specs.declared.grammar.command.Command.{Command}
@@ -11,9 +10,6 @@ use Rattle.chanrun.specs.declared.grammar.fault.Fault.TheVariants.{LineTooLong, 
 use Rattle.chanrun.specs.declared.grammar.line.TheConstants.{LINE_LIMIT}
 use Rattle.chanexplore.specs.declared.party.Act.{Act}
 use Rattle.chanexplore.specs.declared.party.Act.TheVariants.{Make, Notice, Await}
-use Rattle.chanexplore.specs.declared.program.TheConstants.{MOST_ORDERS, USUAL_ORDERS}
-
--- ---- a party's line
 
 -- the words after `await`: the one name of who is awaited
 abbrev pub awaited_in : List (List ℕ) → Result Who Fault
@@ -45,27 +41,3 @@ abbrev pub act_of : List ℕ → Result Act Fault
 act_of line =
     if nat_lt LINE_LIMIT (length line) then Err LineTooLong
     else act_by (await_in (words_of line)) (command_of line)
-
--- ---- the arguments
-
--- The word spells this number, which is from 1 to the most; a `+` may stand before it.
-pub record IsCount (word : List ℕ) (count : ℕ) : Type 0 where
-  pub numeral : IsNumeral 10 (without_leading_plus word)
-  pub value : digits_value 10 (without_leading_plus word) ≡ count
-  pub least : 1 ≤ count
-  pub most : count ≤ MOST_ORDERS
-
--- It is the number that the word spells, and none if that spells none.
-abbrev pub IsCountOf : List ℕ → Option ℕ → Type 0
-IsCountOf word counted = MatchOption counted ((count : ℕ) → ¬ IsCount word count) (λ count. IsCount word count)
-
-abbrev pub AllowsNumber : (asked : Bool) → (number : List ℕ) → Option ℕ → Type 0
-AllowsNumber true number allowed = IsCountOf number allowed
-AllowsNumber false number allowed = allowed ≡ None
-
--- What these arguments allow: the usual number without any, and N if they are `--orders N`.
-abbrev pub AllowsOrders : {A : Type 0} → List (String A) → Option ℕ → Type 0
-AllowsOrders [] allowed = allowed ≡ Some USUAL_ORDERS
-AllowsOrders (word ∷ number ∷ []) allowed =
-    AllowsNumber (bytes_eq (string_bytes word) (codes "--orders")) (string_bytes number) allowed
-AllowsOrders words allowed = allowed ≡ None

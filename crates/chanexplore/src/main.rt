@@ -5,7 +5,8 @@
 //! only once it is ready, and polls again only once it was told (`party`). The search hands each
 //! order that this rule allows to a visitor, each made on a channel of its own (`search`). The
 //! orders that lead to each outcome are counted (`outcomes`), and in the end these are written
-//! (`report`).
+//! (`report`). Or the search ends at the first order that is stuck (`goal`), if the arguments ask for
+//! that (`arguments`).
 //!
 //! ```text
 //! bounded 1
@@ -19,6 +20,8 @@
 //! and two outcomes.
 #![tactic(auto)]
 
+mod arguments;
+mod goal;
 mod outcomes;
 mod party;
 mod plan;
@@ -34,9 +37,6 @@ use std::process::ExitCode;
 use std::rt::Clock;
 use std::time::{Duration, Instant};
 
-/// After how many orders the clock is looked at.
-const STRIDE: u64 = 256;
-
 /// Says each second on a terminal how many orders were made.
 #[derive(Drop)]
 struct Progress<'r, R> {
@@ -49,7 +49,7 @@ struct Progress<'r, R> {
 
 impl<R: Eprint + Clock> Watch for Progress<'_, R> {
     fn made(&mut self, orders: u64) {
-        if !self.shown || orders % STRIDE != 0 {
+        if !self.shown {
             return;
         }
         let (Some(last), Ok(now)) = (self.last, Instant::now(self.rt)) else {

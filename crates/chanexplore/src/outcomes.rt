@@ -1,8 +1,10 @@
 //! The outcomes of orders, and how many orders lead to each.
 ghost use Rattle.std.specs.Prelude.{◌≡◌, ◌+◌, ◌-◌, ◌<◌, ◌^◌, [], IfOk, OnErr, OnOk};
 ghost use Rattle.chanexplore.specs.Counts.{orders_in};
+ghost use Rattle.chanexplore.specs.Orders.{spots_of};
 
-use crate::party::{Response, Turn};
+use crate::goal::is_stuck;
+use crate::party::{Act, Response, Turn};
 use crate::plan::Plan;
 use crate::search::Visitor;
 use channel_model::OutOfMemory;
@@ -17,6 +19,8 @@ pub struct Tally {
     pub number: usize,
     /// How many orders lead to it.
     pub count: u64,
+    /// Whether somebody awaits at its end.
+    pub stuck: bool,
     /// The first of them: the party and the line of each turn.
     pub first: Vec<(usize, usize)>,
 }
@@ -25,8 +29,10 @@ pub struct Tally {
 ///
 /// Each order that it was handed is counted once. That it is counted for its outcome isn't said.
 #[derive(Drop)]
-pub struct Outcomes {
+pub struct Outcomes<'p> {
     alloc: Global,
+    // what each party's lines ask for
+    parties: &'p [Vec<Act>],
     // for each party how many lines the parties before it have
     starts: Vec<usize>,
     // how many lines all parties have
@@ -44,17 +50,19 @@ fn answer_text(alloc: Global, answer: Response) -> Result<String, AllocError> {
     }
 }
 
-// The party and the line of each turn.
-fn spots_of(alloc: Global, order: &[Turn]) -> Result<Vec<(usize, usize)>, AllocError> {
+/// The party and the line of each turn.
+pub fn spots_of(alloc: Global, order: &[Turn]) -> Result<Vec<(usize, usize)>, AllocError>
+    ensures { IfOk result (λ spots. spots.items ≡ spots_of order.now) }
+{
     order
         .iter()
         .map(|turn| (turn.party, turn.line))
         .collect(alloc)
 }
 
-impl Outcomes {
+impl<'p> Outcomes<'p> {
     /// No order was made yet.
-    pub fn new(alloc: Global, plan: &Plan) -> Result<Outcomes, AllocError>
+    pub fn new(alloc: Global, plan: &'p Plan) -> Result<Outcomes<'p>, AllocError>
         ensures { IfOk result (λ outcomes. outcomes.tallies.entries ≡ []) }
     {
         let mut starts = Vec::new(alloc);
@@ -65,6 +73,7 @@ impl Outcomes {
         }
         Ok(Outcomes {
             alloc,
+            parties: plan.parties.as_slice(),
             starts,
             lines,
             tallies: BTreeMap::new(alloc),
@@ -116,6 +125,7 @@ impl Outcomes {
         ensures err { OnErr result (self.new.tallies.entries ≡ self.old.tallies.entries) }
     {
         let first = spots_of(self.alloc, order.as_slice())?;
+        let stuck = is_stuck(self.parties, order.as_slice());
         let answers = self.last_answers(order)?;
         let text = self.text_of(answers)?;
         if let Some(tally) = self.tallies.get_mut(text.as_str()) {
@@ -126,6 +136,7 @@ impl Outcomes {
         let tally = Tally {
             number,
             count: 1,
+            stuck,
             first,
         };
         self.tallies.insert(text, tally)?;
@@ -133,7 +144,7 @@ impl Outcomes {
     }
 }
 
-impl Visitor for Outcomes {
+impl Visitor for Outcomes<'_> {
     ghost use Rattle.std.specs.Prelude.{◌≡◌, ◌<◌, ◌^◌, length};
     ghost use Rattle.chanexplore.specs.Counts.{orders_in};
 

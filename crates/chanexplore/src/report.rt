@@ -16,14 +16,17 @@
 //! ```
 //!
 //! The script goes to the next empty line, or to the end.
-ghost use Rattle.std.specs.Prelude.{◌≡◌, ℕ, List, length, string_bytes, IfOk, OnOk};
+ghost use Rattle.std.specs.Prelude.{◌≡◌, ◌++◌, ℕ, List, length, flat_map, string_bytes, IfOk, OnOk};
 ghost use Rattle.std.specs.Io.KnownBytes.{Appends};
+ghost use Rattle.chanrun.specs.Script.{as_line};
+ghost use Rattle.chanexplore.specs.Orders.{spots_of};
 ghost use Rattle.chanexplore.specs.Reports.{IsReported, head_text, more_text};
+ghost use Rattle.chanexplore.specs.Scripts.{awaited_name, replayed, script_text, turn_text};
 
-use crate::outcomes::Tally;
-use crate::party::Act;
+use crate::outcomes::{Tally, spots_of};
+use crate::party::{Act, Turn};
 use crate::plan::Plan;
-use crate::search::Searched;
+use crate::search::{End, Searched};
 use channel_model::Who;
 use chanrun::device::Sink;
 use chanrun::script::{ScriptError, write_text};
@@ -43,7 +46,10 @@ impl Page {
     }
 
     // Adds a line of these parts.
-    fn line(&mut self, parts: &[&[u8]]) -> Result<(), AllocError> {
+    fn line(&mut self, parts: &[&[u8]]) -> Result<(), AllocError>
+        ensures { OnOk result (self.new.text.items
+            ≡ self.old.text.items ++ as_line (flat_map (λ part. part.now) parts.now)) }
+    {
         for part in parts {
             self.text.extend_from_slice(part)?;
         }
@@ -56,47 +62,59 @@ fn answers_in(alloc: Global, text: &str) -> Result<Vec<&[u8]>, AllocError> {
     text.as_bytes().split(|byte| *byte == b'\n').collect(alloc)
 }
 
-// Whether a party awaits at the end: its last poll was pending.
-fn is_stuck(plan: &Plan, answers: &[&[u8]]) -> bool {
-    let mut at: usize = 0;
-    for party in plan.parties.iter() {
-        for act in party.iter() {
-            if let (Act::Await(_), Some(answer)) = (act, answers.get(at)) {
-                if *answer == b"pending".as_slice() {
-                    return true;
-                }
-            }
-            at = at.saturating_add(1);
-        }
-    }
-    false
+// The name in a line that begins with `await`.
+fn awaited_name(line: &[u8]) -> &[u8]
+    ensures { result.now ≡ awaited_name line.now }
+{
+    line.strip_prefix(b"await ").unwrap_or(line)
 }
 
 // Adds a party's line as a script has it: what is awaited is polled.
-fn add_replayed(page: &mut Page, act: &Act, line: &[u8]) -> Result<(), AllocError> {
-    let Some(name) = line.strip_prefix(b"await ") else {
-        return page.line(&[line]);
-    };
+fn add_replayed(page: &mut Page, act: &Act, line: &[u8]) -> Result<(), AllocError>
+    ensures { OnOk result (page.new.text.items
+        ≡ page.old.text.items ++ as_line (replayed act.now line.now)) }
+{
     match act {
-        Act::Await(Who::Receiver(_)) => page.line(&[b"next ", name]),
-        _ => page.line(&[b"poll ", name]),
+        Act::Await(Who::Op(_)) => page.line(&[b"poll ", awaited_name(line)]),
+        Act::Await(Who::Receiver(_)) => page.line(&[b"next ", awaited_name(line)]),
+        _ => page.line(&[line]),
     }
 }
 
-// Adds an order as a script.
-fn add_script(page: &mut Page, plan: &Plan, order: &[(usize, usize)]) -> Result<(), AllocError> {
-    page.line(&[b"script"])?;
-    for line in plan.texts.before.iter() {
+// Adds the line of a turn, by its party and its number.
+fn add_turn(page: &mut Page, plan: &Plan, turn: (usize, usize)) -> Result<(), AllocError>
+    ensures { OnOk result (page.new.text.items
+        ≡ page.old.text.items ++ turn_text plan.now turn) }
+{
+    let (party, number) = turn;
+    let (Some(acts), Some(lines)) = (plan.parties.get(party), plan.texts.lines.get(party)) else {
+        return Ok(());
+    };
+    match (acts.get(number), lines.get(number)) {
+        (Some(act), Some(line)) => add_replayed(page, act, line.as_slice()),
+        _ => Ok(()),
+    }
+}
+
+// Adds the lines before the parties.
+fn add_before(page: &mut Page, lines: &[Vec<u8>]) -> Result<(), AllocError>
+    ensures { OnOk result (page.new.text.items
+        ≡ page.old.text.items ++ flat_map (λ line. as_line line.items) lines.now) }
+{
+    for line in lines {
         page.line(&[line.as_slice()])?;
     }
-    for (party, line) in order {
-        let (Some(acts), Some(lines)) = (plan.parties.get(*party), plan.texts.lines.get(*party))
-        else {
-            continue;
-        };
-        if let (Some(act), Some(text)) = (acts.get(*line), lines.get(*line)) {
-            add_replayed(page, act, text.as_slice())?;
-        }
+    Ok(())
+}
+
+// Adds an order as a script.
+fn add_script(page: &mut Page, plan: &Plan, order: &[(usize, usize)]) -> Result<(), AllocError>
+    ensures { OnOk result (page.new.text.items
+        ≡ page.old.text.items ++ script_text plan.now order.now) }
+{
+    add_before(page, plan.texts.before.as_slice())?;
+    for turn in order {
+        add_turn(page, plan, *turn)?;
     }
     Ok(())
 }
@@ -129,33 +147,19 @@ fn outcome_page(
     let mut page = Page::new(alloc);
     let number = tally.number.saturating_add(1);
     let orders = if tally.count == 1 { "order" } else { "orders" };
-    let stuck = if is_stuck(plan, answers) {
-        ", stuck"
-    } else {
-        ""
-    };
+    let stuck = if tally.stuck { ", stuck" } else { "" };
     let head = format!(in alloc; "outcome {number}: {} {orders}{stuck}", tally.count)?;
     page.line(&[])?;
     page.line(&[head.as_bytes()])?;
     add_answers(&mut page, plan, answers)?;
+    page.line(&[b"script"])?;
     add_script(&mut page, plan, tally.first.as_slice())?;
     Ok(page)
 }
 
 // How many outcomes are stuck.
-fn stuck_count(
-    alloc: Global,
-    plan: &Plan,
-    outcomes: &[(String, Tally)],
-) -> Result<u64, AllocError> {
-    let mut count: u64 = 0;
-    for (text, _) in outcomes {
-        let answers = answers_in(alloc, text.as_str())?;
-        if is_stuck(plan, answers.as_slice()) {
-            count = count.saturating_add(1);
-        }
-    }
-    Ok(count)
+fn stuck_count(outcomes: &[(String, Tally)]) -> usize {
+    outcomes.iter().filter(|outcome| outcome.1.stuck).count()
 }
 
 // Writes one outcome: how often it came, and the first order that it came of.
@@ -191,13 +195,12 @@ fn write_outcomes<W: Sink>(
 }
 
 // Whether there are more orders than were made.
-fn more_text(whole: bool) -> &'static str
-    ensures { result.now ≡ more_text whole }
+fn more_text(end: End) -> &'static str
+    ensures { result.now ≡ more_text end }
 {
-    if whole {
-        ""
-    } else {
-        ", and more: the limit is met"
+    match end {
+        End::Limit => ", and more: the limit is met",
+        End::Found | End::Whole => "",
     }
 }
 
@@ -206,15 +209,15 @@ fn head_text(
     alloc: Global,
     searched: Searched,
     outcomes: usize,
-    stuck: u64,
+    stuck: usize,
 ) -> Result<String, AllocError>
     ensures { IfOk result (λ text. string_bytes text ≡ head_text searched outcomes stuck) }
 {
-    let (orders, more) = (searched.orders, more_text(searched.whole));
+    let (orders, more) = (searched.orders, more_text(searched.end));
     format!(in alloc; "orders {orders}{more}\noutcomes {outcomes}\nstuck {stuck}\n")
 }
 
-/// Writes what a search came to.
+/// Writes what a search of each order came to.
 pub fn write_report<W: Sink>(
     alloc: Global,
     plan: &Plan,
@@ -225,8 +228,24 @@ pub fn write_report<W: Sink>(
     ensures { OnOk result (IsReported searched (length outcomes.now)
         (W.written writer.old) (W.written writer.new)) }
 {
-    let stuck = stuck_count(alloc, plan, outcomes)?;
+    let stuck = stuck_count(outcomes);
     let head = head_text(alloc, searched, outcomes.len(), stuck)?;
     write_text(writer, head.as_bytes())?;
     write_outcomes(alloc, plan, outcomes, writer)
+}
+
+/// Writes an order as a script.
+pub fn write_order<W: Sink>(
+    alloc: Global,
+    plan: &Plan,
+    order: &[Turn],
+    writer: &mut W,
+) -> Result<(), ScriptError>
+    ensures { OnOk result (Appends (W.written writer.old) (W.written writer.new)
+        (script_text plan.now (spots_of order.now))) }
+{
+    let order = spots_of(alloc, order)?;
+    let mut page = Page::new(alloc);
+    add_script(&mut page, plan, order.as_slice())?;
+    write_text(writer, page.text.as_slice())
 }

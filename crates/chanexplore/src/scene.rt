@@ -31,8 +31,8 @@ fn is_refused(reply: &Reply<u64>) -> bool
     matches!(reply, Reply::Refused(_, _))
 }
 
-// Whether a line is an `await`.
-fn is_await(act: &Act) -> bool
+/// Whether a line is an `await`.
+pub(crate) fn is_await(act: &Act) -> bool
     ensures { result ≡ is_await act.now }
 {
     matches!(act, Act::Await(_))
@@ -90,8 +90,8 @@ fn line_count(parties: &[Vec<Act>], party: usize) -> usize
     }
 }
 
-// A party's line with this number, if it has one.
-fn numbered(parties: &[Vec<Act>], party: usize, number: usize) -> Option<&Act>
+/// A party's line with this number, if it has one.
+pub(crate) fn numbered(parties: &[Vec<Act>], party: usize, number: usize) -> Option<&Act>
     ensures is { option_map (λ act. act.now) result
         ≡ slice_get (lines_of (acts_in parties.now) party) number }
     ensures within { IfSome result (λ _. number < length (lines_of (acts_in parties.now) party)) }

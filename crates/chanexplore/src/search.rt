@@ -6,14 +6,17 @@
 //! earlier step, so each order has a channel of its own, on which the choices are made from the
 //! first on.
 
-ghost use Rattle.std.specs.Prelude.{◌≡◌, ℕ, suc, ◌≤◌, ◌^◌, ◌+◌, List, [], ◌∷◌, ◌++◌, take, max, IfOk, IfErr, OnOk, OnErr, None, Some, MatchOption};
+ghost use Rattle.std.specs.Prelude.{◌≡◌, ℕ, suc, ◌≤◌, ◌^◌, ◌+◌, List, [], ◌∷◌, ◌++◌, take, max, IfOk, IfErr, OnOk, OnErr, None, Some, MatchOption, is_some, if◌then◌else◌};
 ghost use Rattle.channel_model.specs.declared.step.Kind.{Kind};
 ghost use Rattle.chanexplore.specs.Lines.{acts_in};
 ghost use Rattle.chanexplore.specs.Orders.{Moment, all_orders, orders_of, turn_of, turns_from};
 ghost use Rattle.chanexplore.specs.Searches.{HasSearched};
+ghost use Rattle.chanexplore.specs.Stuck.{is_met};
 ghost use Rattle.chanexplore.specs.Trail.{IsAt, IsEnd, IsNext, IsOf, Spot, Stands, Tree, begun, behind_all, due_at, tree_of};
 ghost use Rattle.chanexplore.specs.declared.party.Turn.{Turn};
+ghost use Rattle.chanexplore.specs.declared.search.End.TheVariants.{Found, Limit, Whole};
 
+use crate::goal::Goal;
 use crate::party::{Act, Opening, Turn};
 use crate::scene::Scene;
 use channel_model::OutOfMemory;
@@ -32,13 +35,24 @@ pub trait Visitor {
             → OnErr result (has_seen self.new seen) };
 }
 
+/// Why a search ended.
+#[derive(Clone, Copy)]
+pub enum End {
+    /// The last order that was made is the one that it looked for.
+    Found,
+    /// There is no other order.
+    Whole,
+    /// The limit was met before.
+    Limit,
+}
+
 /// What a search came to.
 #[derive(Clone, Copy)]
 pub struct Searched {
     /// How many orders were made.
     pub orders: u64,
-    /// Whether there is no other order.
-    pub whole: bool,
+    /// Why it ended.
+    pub end: End,
 }
 
 // One turn of the order that is made: who has it, and the next party after it that could have it.
@@ -251,16 +265,32 @@ fn next_order<O: Opening>(
     Ok(turns)
 }
 
-/// Hands the visitor each order in turn, up to a limit; the first is made also if the limit is
-/// 0. Memory grows with the length of one order, and with what the visitor keeps.
+// Why a search ended at its limit: whether its last order ended it, and who was to go on.
+fn end_at_limit(found: bool, next: Option<usize>) -> End
+    ensures { result ≡ (if found then Found else if is_some next then Limit else Whole) }
+{
+    if found {
+        End::Found
+    } else if next.is_some() {
+        End::Limit
+    } else {
+        End::Whole
+    }
+}
+
+/// Hands the visitor each order in turn, up to the first that meets the goal, or up to a limit;
+/// the first is made also if the limit is 0. Memory grows with the length of one order, and with
+/// what the visitor keeps.
 pub fn search<O: Opening, V: Visitor>(
     alloc: Global,
     opening: &O,
     parties: &[Vec<Act>],
+    goal: Goal,
     limit: u64,
     visitor: &mut V,
 ) -> Result<Searched, OutOfMemory>
     ensures ok { (most : ℕ) → 2 ^ 64 ≤ most → IfOk result (λ searched. HasSearched
+        (is_met goal (acts_in parties.now))
         (all_orders (O.kind opening.now) (O.past opening.now) (acts_in parties.now) most)
         (max limit 1) searched) }
     ensures handed { (most : ℕ) (seen : List (List Turn)) → 2 ^ 64 ≤ most
@@ -275,19 +305,27 @@ pub fn search<O: Opening, V: Visitor>(
     let limit = limit.max(1);
     let mut choices = Vec::new(alloc);
     let order = first_order(alloc, opening, parties, &mut choices)?;
+    let mut found = goal.is_met(parties, order.as_slice());
     visitor.visit(order)?;
     for made in 1..limit {
+        if found {
+            return Ok(Searched {
+                orders: made,
+                end: End::Found,
+            });
+        }
         let Some(party) = take_back(&mut choices) else {
             return Ok(Searched {
                 orders: made,
-                whole: true,
+                end: End::Whole,
             });
         };
         let order = next_order(alloc, opening, parties, &mut choices, party)?;
+        found = goal.is_met(parties, order.as_slice());
         visitor.visit(order)?;
     }
     Ok(Searched {
         orders: limit,
-        whole: take_back(&mut choices).is_none(),
+        end: end_at_limit(found, take_back(&mut choices)),
     })
 }

@@ -15,4 +15,4 @@ mod word;
 pub use command::Command;
 pub use fault::Fault;
 pub use line::{LINE_LIMIT, command_of, kind_of, lines_of, split_line};
-pub use word::{CAPACITY_LIMIT, who_of};
+pub use word::{CAPACITY_LIMIT, number_of, who_of};

@@ -61,8 +61,16 @@ fn with_digit(number: u64, byte: u8) -> Option<u64>
     number.checked_mul(10)?.checked_add(digit)
 }
 
-// The number that a word spells: `0`, or digits of which the first is another, of 64 bits at most.
-fn number_of(word: &[u8]) -> Option<u64>
+/// The number that a word spells: `0`, or digits of which the first is another, of 64 bits at most.
+///
+/// # Examples
+///
+/// ```
+/// assert_eq!(rt; number_of(b"70".as_slice()), Some(70));
+/// assert_eq!(rt; number_of(b"07".as_slice()), None);
+/// assert_eq!(rt; number_of(b"+7".as_slice()), None);
+/// ```
+pub fn number_of(word: &[u8]) -> Option<u64>
     ensures { result ≡ number_of word.now }
 {
     match word {

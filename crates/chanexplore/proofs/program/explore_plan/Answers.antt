@@ -12,14 +12,14 @@ returns g c most large =
     let plan = c.args.plan.now in
     record {
       searched = c.in_ok-searched.searched;
-      outcomes = length c.as_slice-2.result.now;
+      outcomes = length c.as_slice.result.now;
       search =
           subst
-          (λ (parties : List (Vec Act Global)). HasSearched
+          (λ (parties : List (Vec Act Global)). HasSearched (λ order. false)
           (all_orders plan.kind (past_after_all plan.kind [] plan.before.items) (acts_in parties) most)
           (max c.args.limit 1)
           c.in_ok-searched.searched)
-          c.as_slice.ensures.value
+          c.as_slice-parties.ensures.value
           (c.in_ok-searched.ensures.ok most large);
       same = refl;
       report = c.in_ok-write_report.ensures;
