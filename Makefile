@@ -62,6 +62,7 @@ programs: handles commands
 handles: kit
 	tools/compare_handles
 	tools/compare_handles_tests
+	tools/sizes
 
 commands: kit
 	python3 tools/chanrun_runs.py

@@ -10,8 +10,6 @@ mod hostile;
 #[cfg(test)]
 mod kept;
 #[cfg(test)]
-mod large;
-#[cfg(test)]
 mod locks;
 #[cfg(test)]
 mod maps;

@@ -135,19 +135,6 @@ fn a_clerk_more_than_were_made(rt: HostRuntime) {
     assert_eq!(rt; finished.err(), Some(FinishError::Missing));
 }
 
-const MANY: usize = 100_000;
-
-#[test]
-fn many_clerks_and_many_calls(rt: HostRuntime) {
-    let (recorder, mut clerks) = (new_recorder(&rt, 0), Vec::new(rt.alloc()));
-    make(&rt, &recorder, &mut clerks, &[(MANY - 1, TrySend(7))]);
-    for _ in 0..MANY {
-        make(&rt, &recorder, &mut clerks, &[(0, TrySend(7))]);
-    }
-    let book = recorder.finish(clerks).expect(&rt, "a book");
-    assert_eq!(rt; (book.clerks(), book.history().len()), (MANY, MANY + 1));
-}
-
 /// How many calls a thread makes beside another one.
 const BESIDE: u64 = 1_000;
 

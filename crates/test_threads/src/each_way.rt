@@ -12,7 +12,7 @@ use std::random::RandomSource;
 use std::sync::Wait;
 
 /// Each call of either side.
-pub const WAYS: [(Sends, Receives); 8] = [
+const WAYS: [(Sends, Receives); 8] = [
     (TrySend, TryRecv),
     (ForceSend, RecvBlocking),
     (SendBlocking, Recv),

@@ -1,4 +1,4 @@
-//! Tests of handles with real threads, and of sizes beyond any limit, by public calls alone.
+//! Tests of handles with real threads, by public calls alone.
 #![tactic(auto)]
 
 #[cfg(test)]
@@ -21,8 +21,6 @@ mod races;
 mod ruled_blocked;
 #[cfg(test)]
 mod seen;
-#[cfg(test)]
-mod sizes;
 #[cfg(test)]
 mod traffic;
 #[cfg(test)]
