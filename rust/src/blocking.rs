@@ -81,28 +81,19 @@ thread_local! {
 
 /// Polls a future until it is ready, and sleeps whenever it is pending until it is woken.
 pub fn block_on<F: Future + Unpin>(mut future: F) -> F::Output {
-    match block_until(&mut future, None) {
+    let mut polled = Poll::Pending;
+    poll_until(None, &mut |context| {
+        polled = Pin::new(&mut future).poll(context);
+        polled.is_ready()
+    });
+    match polled {
         Poll::Ready(output) => output,
         Poll::Pending => unreachable!("a wait without an end has ended"),
     }
 }
 
-/// Polls a future until it is ready, or until `end`, and sleeps whenever it is pending until it is
-/// woken. It is polled at least once.
-pub(crate) fn block_until<F: Future + Unpin>(
-    future: &mut F,
-    end: Option<Instant>,
-) -> Poll<F::Output> {
-    let mut polled = Poll::Pending;
-    poll_until(end, &mut |context| {
-        polled = Pin::new(&mut *future).poll(context);
-        polled.is_ready()
-    });
-    polled
-}
-
 /// Makes polls until one is ready, or until `end`. It is compiled once for all futures.
-fn poll_until(end: Option<Instant>, poll: &mut dyn FnMut(&mut Context<'_>) -> bool) {
+pub(crate) fn poll_until(end: Option<Instant>, poll: &mut dyn FnMut(&mut Context<'_>) -> bool) {
     let parker = PARKER.try_with(Cell::take).ok().flatten().unwrap_or_else(Parker::new);
     parker.state.store(AWAKE, ORDER);
     let waker = Waker::from(parker.clone());

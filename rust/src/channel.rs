@@ -104,29 +104,29 @@ impl<T> Channel<T> {
         self.step_beside(|core, _spare, told| step(core, told))
     }
 
-    /// Sends a message at once, or leaves it in its place. It is one piece for all calls that send, and
-    /// a message moves no more than once in it: from its place into the queue.
+    /// Sends a message at once, or leaves it in its place. It is one piece for all calls that send.
     ///
     /// # Panics
     ///
     /// If there is no message.
     #[inline(never)]
     pub(crate) fn try_send(&self, message: &mut Option<T>) -> Result<(), TrySendError<()>> {
-        let msg = message.take().unwrap();
-        let sent = self.step(|core, told| with_memory(core.try_send(msg, told)));
-        let (why, msg) = match sent {
-            Ok(()) => return Ok(()),
-            Err(TrySendError::Full(msg)) => (TrySendError::Full(()), msg),
-            Err(TrySendError::Closed(msg)) => (TrySendError::Closed(()), msg),
-        };
-        *message = Some(msg);
-        Err(why)
+        self.step(|core, told| {
+            let (why, msg) = match with_memory(core.try_send(message.take().unwrap(), told)) {
+                Ok(()) => return Ok(()),
+                Err(TrySendError::Full(msg)) => (TrySendError::Full(()), msg),
+                Err(TrySendError::Closed(msg)) => (TrySendError::Closed(()), msg),
+            };
+            *message = Some(msg);
+            Err(why)
+        })
     }
 
-    /// Takes the oldest message, if there is one. It is one piece for all calls that receive.
+    /// Takes the oldest message into its place, if there is one. It is one piece for all calls that
+    /// receive.
     #[inline(never)]
-    pub(crate) fn try_recv(&self) -> Result<T, TryRecvError> {
-        self.step(|core, told| core.try_recv(told))
+    pub(crate) fn try_recv(&self, message: &mut Option<T>) -> Result<(), TryRecvError> {
+        self.step(|core, told| core.try_recv(told).map(|taken| *message = Some(taken)))
     }
 
     /// Makes a step that may take the spare link, or leave one.

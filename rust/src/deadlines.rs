@@ -1,8 +1,8 @@
 //! Calls that block their thread, but for no longer than they are told.
 
-use crate::blocking::block_until;
+use crate::blocking::poll_until;
 use crate::proved::channel_core::Group;
-use crate::{Receiver, RecvError, SendError, Sender, TryRecvError};
+use crate::{Receiver, RecvError, SendError, Sender};
 use std::error::Error;
 use std::fmt;
 use std::task::Poll;
@@ -207,13 +207,15 @@ impl<T> Sender<T> {
         let mut send = self.send(msg);
         let mut sent = send.send_at_once();
         if sent.is_pending() {
-            sent = block_until(&mut send, end);
+            poll_until(end, &mut |context| {
+                sent = send.poll_in_place(context);
+                sent.is_ready()
+            });
         }
-        match sent {
-            Poll::Ready(sent) => Ok(sent?),
-            Poll::Pending => {
-                send.into_msg().map_or(Ok(()), |msg| Err(SendTimeoutError::Timeout(msg)))
-            }
+        match (sent, send.message.take()) {
+            (Poll::Pending, Some(msg)) => Err(SendTimeoutError::Timeout(msg)),
+            (Poll::Ready(Err(_)), Some(msg)) => Err(SendTimeoutError::Disconnected(msg)),
+            _ => Ok(()),
         }
     }
 }
@@ -270,13 +272,17 @@ impl<T> Receiver<T> {
     /// `end` if there is one.
     pub(crate) fn recv_until(&self, end: Option<Instant>) -> Result<T, RecvTimeoutError> {
         self.channel.await_turn(Group::Receives);
-        match self.try_recv() {
-            Ok(message) => return Ok(message),
-            Err(TryRecvError::Closed) => return Err(RecvTimeoutError::Disconnected),
-            Err(TryRecvError::Empty) => {}
+        let mut recv = self.recv();
+        let mut message = None;
+        let mut received = recv.recv_at_once(&mut message);
+        if received.is_pending() {
+            poll_until(end, &mut |context| {
+                received = recv.poll_in_place(&mut message, context);
+                received.is_ready()
+            });
         }
-        match block_until(&mut self.recv(), end) {
-            Poll::Ready(received) => Ok(received?),
+        match received {
+            Poll::Ready(()) => message.ok_or(RecvTimeoutError::Disconnected),
             Poll::Pending => Err(RecvTimeoutError::Timeout),
         }
     }

@@ -11,7 +11,7 @@ use std::future::Future;
 use std::ops::Deref;
 use std::pin::Pin;
 use std::sync::{Arc, Weak};
-use std::task::{Context, Poll};
+use std::task::{ready, Context, Poll};
 
 /// The place of an operation in a waiting list. It is given up when it is dropped.
 pub(crate) struct Wait<T> {
@@ -133,16 +133,48 @@ impl<T> Send<'_, T> {
         self.message
     }
 
-    /// Sends the message if it goes in, and doesn't wait if it doesn't.
-    pub(crate) fn send_at_once(&mut self) -> Poll<Result<(), SendError<T>>> {
+    /// Sends the message if it goes in, and doesn't wait if it doesn't. A closed channel leaves it in
+    /// its place.
+    pub(crate) fn send_at_once(&mut self) -> Poll<Result<(), SendError<()>>> {
         match self.sender.channel.try_send(&mut self.message) {
             Ok(()) => Poll::Ready(Ok(())),
             Err(TrySendError::Full(())) => Poll::Pending,
-            Err(TrySendError::Closed(())) => {
-                Poll::Ready(self.message.take().map_or(Ok(()), |message| Err(SendError(message))))
-            }
+            Err(TrySendError::Closed(())) => Poll::Ready(Err(SendError(()))),
         }
     }
+
+    /// Polls the send. A closed channel leaves the message in its place, so that a large one isn't on
+    /// the stack here too.
+    pub(crate) fn poll_in_place(
+        &mut self,
+        cx: &mut Context<'_>,
+    ) -> Poll<Result<(), SendError<()>>> {
+        if self.wait.ticket.is_none() && self.sender.channel.seems_ready(Group::Sends) {
+            let sent = self.send_at_once();
+            if sent.is_ready() {
+                return sent;
+            }
+        }
+        let Send { sender, message, wait } = self;
+        wait.poll(&sender.channel, cx, |core, ticket, told, left| {
+            finish_send(core, message, ticket, told, left)
+        })
+    }
+}
+
+/// Not in line, so that a poll needs no room for a message beside that of the plain call.
+#[inline(never)]
+fn finish_send<T>(
+    core: &mut Core<T>,
+    message: &mut Option<T>,
+    ticket: &mut Option<Ticket>,
+    told: &mut Told,
+    left: &mut Left,
+) -> Poll<Result<(), SendError<()>>> {
+    with_memory(core.finish_send(message, ticket, told, left)).map_err(|SendError(msg)| {
+        *message = Some(msg);
+        SendError(())
+    })
 }
 
 // No reference into a future is handed out, so it may be moved between its polls.
@@ -157,16 +189,10 @@ impl<T> Future for Send<'_, T> {
         let send = self.get_mut();
         // The text of its panic is async-channel's.
         send.message.as_ref().unwrap();
-        if send.wait.ticket.is_none() && send.sender.channel.seems_ready(Group::Sends) {
-            let sent = send.send_at_once();
-            if sent.is_ready() {
-                return sent;
-            }
+        match ready!(send.poll_in_place(cx)) {
+            Ok(()) => Poll::Ready(Ok(())),
+            Err(SendError(())) => Poll::Ready(Err(SendError(send.message.take().unwrap()))),
         }
-        let Send { sender, message, wait } = send;
-        wait.poll(&sender.channel, cx, |core, ticket, told, left| {
-            with_memory(core.finish_send(message, ticket, told, left))
-        })
     }
 }
 
@@ -197,23 +223,64 @@ pub struct Recv<'a, T> {
     pub(crate) receiver: Held<'a, Receiver<T>>,
 }
 
+impl<T> Recv<'_, T> {
+    /// Takes a message into its place if there is one, and doesn't wait if there is none. It is ready
+    /// without a message if the channel is closed.
+    pub(crate) fn recv_at_once(&self, message: &mut Option<T>) -> Poll<()> {
+        if !self.receiver.channel.seems_ready(Group::Receives) {
+            return Poll::Pending;
+        }
+        match self.receiver.channel.try_recv(message) {
+            Ok(()) | Err(TryRecvError::Closed) => Poll::Ready(()),
+            Err(TryRecvError::Empty) => Poll::Pending,
+        }
+    }
+
+    /// Polls the receive, which takes a message into its place. It is ready without a message if the
+    /// channel is closed.
+    pub(crate) fn poll_in_place(
+        &mut self,
+        message: &mut Option<T>,
+        cx: &mut Context<'_>,
+    ) -> Poll<()> {
+        if self.wait.ticket.is_none() {
+            let received = self.recv_at_once(message);
+            if received.is_ready() {
+                return received;
+            }
+        }
+        let Recv { receiver, wait } = self;
+        wait.poll(&receiver.channel, cx, |core, ticket, told, left| {
+            finish_recv(core, message, ticket, told, left)
+        })
+    }
+}
+
+/// Not in line, as `finish_send` isn't.
+#[inline(never)]
+fn finish_recv<T>(
+    core: &mut Core<T>,
+    message: &mut Option<T>,
+    ticket: &mut Option<Ticket>,
+    told: &mut Told,
+    left: &mut Left,
+) -> Poll<()> {
+    core.finish_recv(ticket, told, left).map(|received| *message = received.ok())
+}
+
 impl<T> Future for Recv<'_, T> {
     type Output = Result<T, RecvError>;
 
     // One piece for all that poll it, as tasks and threads do.
     #[inline(never)]
     fn poll(self: Pin<&mut Self>, cx: &mut Context<'_>) -> Poll<Self::Output> {
-        let Recv { receiver, wait } = self.get_mut();
-        if wait.ticket.is_none() && receiver.channel.seems_ready(Group::Receives) {
-            match receiver.channel.try_recv() {
-                Ok(message) => return Poll::Ready(Ok(message)),
-                Err(TryRecvError::Empty) => {}
-                Err(TryRecvError::Closed) => return Poll::Ready(Err(RecvError)),
-            }
+        let mut message = None;
+        ready!(self.get_mut().poll_in_place(&mut message, cx));
+        // A match of its own: `ok_or` would have a large message on the stack twice.
+        match message {
+            Some(message) => Poll::Ready(Ok(message)),
+            None => Poll::Ready(Err(RecvError)),
         }
-        wait.poll(&receiver.channel, cx, |core, ticket, told, left| {
-            core.finish_recv(ticket, told, left)
-        })
     }
 }
 

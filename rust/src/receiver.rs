@@ -68,7 +68,9 @@ impl<T> Receiver<T> {
         if self.channel.is_terminated() {
             return Err(TryRecvError::Closed);
         }
-        self.channel.try_recv()
+        let mut message = None;
+        self.channel.try_recv(&mut message)?;
+        message.ok_or(TryRecvError::Empty)
     }
 
     /// Takes the oldest message, and waits while the channel is open and empty.

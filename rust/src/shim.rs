@@ -56,11 +56,13 @@ pub type HeapCircularBuffer<T> = Over<Ring<T>, usize>;
 
 impl<C, K> std::ops::Deref for Over<C, K> {
     type Target = C;
+    #[inline]
     fn deref(&self) -> &C {
         &self.0
     }
 }
 impl<C, K> std::ops::DerefMut for Over<C, K> {
+    #[inline]
     fn deref_mut(&mut self) -> &mut C {
         &mut self.0
     }
@@ -198,6 +200,7 @@ impl<T> Vec<T> {
     }
 }
 impl<T> VecDeque<T, Global> {
+    #[inline]
     pub fn push_back(&mut self, value: T) -> Result<(), Refused<T>> {
         self.0.push_back(value);
         Ok(())
@@ -213,6 +216,7 @@ impl<T> HeapCircularBuffer<T> {
     pub fn with_capacity(_: Global, capacity: usize) -> Result<Self, Refused<()>> {
         Ok(Over(Ring::with_capacity(capacity), capacity))
     }
+    #[inline]
     pub fn try_push_back(&mut self, value: T) -> Result<(), T> {
         if self.0.len() == self.1 {
             return Err(value);
@@ -220,6 +224,7 @@ impl<T> HeapCircularBuffer<T> {
         self.0.push_back(value);
         Ok(())
     }
+    #[inline]
     pub fn push_back(&mut self, value: T) -> Option<T> {
         let oldest = if self.0.len() == self.1 { self.0.pop_front() } else { None };
         self.0.push_back(value);

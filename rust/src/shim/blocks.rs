@@ -132,12 +132,14 @@ impl<T> Blocks<T> {
     }
     #[inline]
     pub fn pop_front(&mut self) -> Option<T> {
-        let value = self.first.pop_front()?;
-        self.len -= 1;
-        if self.first.is_empty() && self.len > 0 {
-            self.go_on();
+        let value = self.first.pop_front();
+        if value.is_some() {
+            self.len -= 1;
+            if self.first.is_empty() && self.len > 0 {
+                self.go_on();
+            }
         }
-        Some(value)
+        value
     }
     /// Goes on to the next block. Not in line, so that a call that doesn't is a short piece.
     #[inline(never)]
