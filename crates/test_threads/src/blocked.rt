@@ -244,7 +244,7 @@ fn repeats<R: Wait + Clone + Drop + AllocGlobal>(
 }
 
 /// Makes the call of another thread, which has to be well.
-fn act<R: Wait + Clone + Drop>(
+fn act_well<R: Wait + Clone + Drop>(
     rt: &impl Abort,
     act: Act,
     s: &Sender<u64, R>,
@@ -269,7 +269,7 @@ fn who_is_told_in_vain_is_told_again_and_tells_no_other(rt: HostRuntime) {
             await_numbers(&rt, &weak, call.group(), (1, 0));
             let (mut send, mut recv) = (s.send(0), r.recv());
             assert!(rt; !is_ready(&task, call, &mut send, &mut recv), "{call:?}");
-            act(&rt, tells, &s, &r);
+            act_well(&rt, tells, &s, &r);
             // mostly before the thread wakes
             takes.make(&s, &r);
             await_numbers(&rt, &weak, call.group(), (2, 0));
@@ -309,10 +309,10 @@ where
     let (task, mut send, mut recv) = (new_task(rt), s.send(2), r.recv());
     assert!(rt; !is_ready(&task, call, &mut send, &mut recv));
     let thread = blocked(rt, call, &s, &r, &weak, 2);
-    act(rt, tells, &s, &r);
+    act_well(rt, tells, &s, &r);
     give_time(rt);
     let goes_on = !matches!(ends, Close) && is_ready(&task, call, &mut send, &mut recv);
-    act(rt, ends, &s, &r);
+    act_well(rt, ends, &s, &r);
     (goes_on, thread.join(rt))
 }
 
@@ -338,7 +338,7 @@ fn a_told_call_wakes_no_other(rt: HostRuntime) {
         give_time(&rt);
         let (task, mut send, mut recv) = (new_task(&rt), s.send(3), r.recv());
         assert!(rt; !is_ready(&task, call, &mut send, &mut recv));
-        act(&rt, tells, &s, &r);
+        act_well(&rt, tells, &s, &r);
         assert_eq!(rt; thread.join(&rt), ended);
         assert!(rt; !task.is_woken(), "{call:?}");
     }
