@@ -8,8 +8,6 @@ use loom::model;
 use loom::sync::atomic::{AtomicUsize, Ordering};
 use vamorilesh::{bounded, unbounded, Receiver, Sender, TryRecvError, TrySendError};
 
-use super::{caller, is_ready};
-
 /// What the one who did something calls, and the handles that it keeps until the end.
 type Call<H> = fn(H) -> Vec<H>;
 
@@ -58,25 +56,6 @@ fn of_messages() {
         |r| r.recv_many_blocking(&mut Vec::new(), 2) == 1,
     ];
     sees.into_iter().for_each(|sees| is_in_order(unbounded, send, sees));
-}
-
-#[test]
-fn of_messages_that_somebody_is_told_of() {
-    let ends = || {
-        let (s, r) = unbounded::<u64>();
-        let (other, waker) = (r.clone(), caller(&s));
-        let mut wait = Box::pin(async move { other.recv().await });
-        assert!(!is_ready(&mut wait, waker));
-        (s, (r, wait))
-    };
-    is_in_order(
-        ends,
-        |s| {
-            s.try_send(1).unwrap();
-            vec![s]
-        },
-        |(r, _wait)| !r.is_empty(),
-    );
 }
 
 #[test]
